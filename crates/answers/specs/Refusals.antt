@@ -1,0 +1,60 @@
+-- The refusal codes of document 01's table "When the clerk turns a call away", and what a call answers.
+use Prim.Native.Nat.{ℕ}
+use Rattle.answers.specs.declared.Answer.{Answer}
+
+-- "flags above 31"
+abbrev pub flagsOutOfRange : ℕ
+flagsOutOfRange = 1
+
+-- "no such operator, monoid or accumulator"
+abbrev pub unknownOperator : ℕ
+unknownOperator = 2
+
+-- "first input, second, mask, old C is no valid sheet (a lone sheet to check or read counts as the first)"
+abbrev pub invalidFirst : ℕ
+invalidFirst = 3
+
+abbrev pub invalidSecond : ℕ
+invalidSecond = 4
+
+abbrev pub invalidMask : ℕ
+invalidMask = 5
+
+abbrev pub invalidOutput : ℕ
+invalidOutput = 6
+
+-- "an index, row or column past A (as transposed) or past the sheet named"; a list shorter than 1 or longer than 512
+abbrev pub indexOutOfBounds : ℕ
+indexOutOfBounds = 7
+
+-- "rows or columns outside 1 to 512; shapes of inputs, mask, C and T disagree; no strip where one is due"
+abbrev pub dimensionMismatch : ℕ
+dimensionMismatch = 8
+
+-- "work buffer under 13,845 words"
+abbrev pub workspaceTooShort : ℕ
+workspaceTooShort = 9
+
+-- "the final C, or the sheet a cell is set in, would hold more than 2,048 entries"
+abbrev pub tooManyEntries : ℕ
+tooManyEntries = 10
+
+-- "the final C, any other sheet that the call writes, or the shelf doesn't fit its buffer"
+abbrev pub insufficientSpace : ℕ
+insufficientSpace = 11
+
+-- "shelf length or words not as above, or a place above 7"
+abbrev pub invalidStore : ℕ
+invalidStore = 12
+
+-- "a place that must hold a sheet is empty"
+abbrev pub emptySlot : ℕ
+emptySlot = 13
+
+-- "An accepted writing or checking call returns 0 and the N of its sheet"
+abbrev pub accepted : ℕ → Answer
+accepted n = record { code = 0; entries = n }
+
+-- "A refusal returns its number and 0."
+abbrev pub refused : ℕ → Answer
+refused code = record { code = code; entries = 0 }

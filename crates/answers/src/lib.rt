@@ -1,0 +1,34 @@
+// What a call answers: the refusal codes of document 01's table ("When the clerk turns a call away"), each under
+// one name, and the answer of a call that writes or checks.
+
+pub const FLAGS_OUT_OF_RANGE: u32 = 1;
+
+pub const UNKNOWN_OPERATOR: u32 = 2;
+
+pub const INVALID_FIRST: u32 = 3;
+
+pub const INVALID_SECOND: u32 = 4;
+
+pub const INVALID_MASK: u32 = 5;
+
+pub const INVALID_OUTPUT: u32 = 6;
+
+pub const INDEX_OUT_OF_BOUNDS: u32 = 7;
+
+pub const DIMENSION_MISMATCH: u32 = 8;
+
+pub const WORKSPACE_TOO_SHORT: u32 = 9;
+
+pub const TOO_MANY_ENTRIES: u32 = 10;
+
+pub const INSUFFICIENT_SPACE: u32 = 11;
+
+pub const INVALID_STORE: u32 = 12;
+
+pub const EMPTY_SLOT: u32 = 13;
+
+// 0 and the number of entries of the matrix written or checked, or a refusal code and 0.
+pub struct Answer {
+    pub code: u32,
+    pub entries: u32,
+}

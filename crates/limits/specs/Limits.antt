@@ -1,0 +1,13 @@
+-- The limits of a matrix, as document 01 gives them ("How a sheet is written"). Nothing else states these numbers.
+use Prim.Native.Nat.{ℕ}
+
+-- "R and C are 1 to 512"
+abbrev pub maxRows : ℕ
+maxRows = 512
+
+abbrev pub maxCols : ℕ
+maxCols = 512
+
+-- "N is 0 to 2,048"
+abbrev pub maxEntries : ℕ
+maxEntries = 2048
