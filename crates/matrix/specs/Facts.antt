@@ -1,0 +1,41 @@
+-- What the tests of a matrix say, as facts on numbers: what functions on valid words require.
+use Prim.Native.Nat.{ℕ, _+_, _≤_, _<_}
+use mathlib.Core.Path.{_≡_}
+use mathlib.Core.List.{List}
+use mathlib.Core.Bool.{true}
+use lib.ListN.{length}
+use Rattle.limits.specs.Limits.{maxRows, maxCols, maxEntries}
+use Rattle.words.specs.Words.{at}
+use Rattle.rows.specs.Row.{rising}
+use Rattle.matrix.specs.Layout.{rows, cols, startCount, start, entries, entriesAgain, size, rowColumns}
+
+-- a number of rows or columns that is 1 to a limit
+pub record InRange (limit x : ℕ) : Type 0 where
+  pub least : 1 ≤ x
+  pub most : x ≤ limit
+
+pub record Header (s : List ℕ) : Type 0 where
+  pub two : at s 0 ≡ 2
+  pub row-range : InRange maxRows (rows s)
+  pub col-range : InRange maxCols (cols s)
+  pub starts : startCount s ≡ rows s + 1
+  pub few : entries s ≤ maxEntries
+  pub fits : size s ≤ length s
+  pub again : entriesAgain s ≡ entries s
+
+pub record Starts (s : List ℕ) : Type 0 where
+  pub first : start s 0 ≡ 0
+  pub last : start s (rows s) ≡ entries s
+  pub up : (i : ℕ) → i < rows s → start s i ≤ start s (i + 1)
+
+-- row i, and where its entries lie among all of them
+pub record RowSpan (s : List ℕ) (i : ℕ) : Type 0 where
+  pub row : i < rows s
+  pub up : start s i ≤ start s (i + 1)
+  pub top : start s (i + 1) ≤ entries s
+
+-- all that a valid matrix is
+pub record Matrix (s : List ℕ) : Type 0 where
+  pub header : Header s
+  pub starts : Starts s
+  pub rising : (i : ℕ) → i < rows s → rising (cols s) 0 (rowColumns s i) ≡ true

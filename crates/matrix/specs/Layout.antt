@@ -1,0 +1,78 @@
+-- Where the words of a matrix stand (document 01, "How a sheet is written"): "sections in fixed order, each after its
+-- count: 2, then rows R, columns C; R+1, then the row starts; N, then the column numbers; N, then the values".
+use Prim.Native.Nat.{ℕ, _+_}
+use mathlib.Core.List.{List}
+use Rattle.words.specs.Words.{at, part}
+use Rattle.grid.specs.declared.Cell.{Cell}
+use Rattle.grid.specs.Grid.{Grid}
+use Rattle.rows.specs.Row.{lookup}
+
+-- the places of the first words
+abbrev pub rowsAt : ℕ
+rowsAt = 1
+
+abbrev pub colsAt : ℕ
+colsAt = 2
+
+abbrev pub startCountAt : ℕ
+startCountAt = 3
+
+abbrev pub startsAt : ℕ
+startsAt = 4
+
+-- with r rows and n entries: where the count of the column numbers and the column numbers stand, and where the count
+-- of the values and the values stand
+abbrev pub countAt : ℕ → ℕ
+countAt r = r + 5
+
+abbrev pub columnsAt : ℕ → ℕ
+columnsAt r = r + 6
+
+abbrev pub countAgainAt : ℕ → ℕ → ℕ
+countAgainAt r n = r + n + 6
+
+abbrev pub valuesAt : ℕ → ℕ → ℕ
+valuesAt r n = r + n + 7
+
+-- "Its size is R + 2N + 7 words."
+abbrev pub sizeOf : ℕ → ℕ → ℕ
+sizeOf r n = r + n + n + 7
+
+-- rows R, columns C, the count of the row starts
+abbrev pub rows : List ℕ → ℕ
+rows s = at s rowsAt
+
+abbrev pub cols : List ℕ → ℕ
+cols s = at s colsAt
+
+abbrev pub startCount : List ℕ → ℕ
+startCount s = at s startCountAt
+
+-- the start of row i among the entries
+abbrev pub start : List ℕ → ℕ → ℕ
+start s i = at s (i + startsAt)
+
+-- N, as it stands before the column numbers, and again before the values
+abbrev pub entries : List ℕ → ℕ
+entries s = at s (countAt (rows s))
+
+abbrev pub entriesAgain : List ℕ → ℕ
+entriesAgain s = at s (countAgainAt (rows s) (entries s))
+
+abbrev pub size : List ℕ → ℕ
+size s = sizeOf (rows s) (entries s)
+
+-- the column numbers and the values of row i
+abbrev pub rowColumns : List ℕ → ℕ → List ℕ
+rowColumns s i = part (columnsAt (rows s) + start s i) (columnsAt (rows s) + start s (i + 1)) s
+
+abbrev pub rowValues : List ℕ → ℕ → List ℕ
+rowValues s i = part (valuesAt (rows s) (entries s) + start s i) (valuesAt (rows s) (entries s) + start s (i + 1)) s
+
+-- the cell at row i and column j
+unfoldable pub cellOf : List ℕ → ℕ → ℕ → Cell
+cellOf s i j = lookup (rowColumns s i) (rowValues s i) j
+
+-- the grid that the words hold
+abbrev pub gridOf : List ℕ → Grid
+gridOf s = record { rows = rows s; cols = cols s; cell = cellOf s }

@@ -1,0 +1,23 @@
+// Where the words of a matrix stand (document 01, "How a sheet is written"), R the rows and N the entries:
+// 2, R, C; R + 1 and the row starts; N and the column numbers; N and the values.
+
+pub const ROWS_AT: usize = 1;
+
+pub const COLS_AT: usize = 2;
+
+pub const START_COUNT_AT: usize = 3;
+
+pub const STARTS_AT: usize = 4;
+
+// N before the column numbers is at R + COUNT_PAST, the column numbers are from R + COLUMNS_PAST on, N before the
+// values is at R + N + COUNT_AGAIN_PAST, and the values are from R + N + VALUES_PAST on.
+pub const COUNT_PAST: usize = 5;
+
+pub const COLUMNS_PAST: usize = 6;
+
+pub const COUNT_AGAIN_PAST: usize = 6;
+
+pub const VALUES_PAST: usize = 7;
+
+// The size is R + 2N + FIXED_WORDS.
+pub const FIXED_WORDS: usize = 7;

@@ -1,0 +1,170 @@
+// Matrices in words: what is valid, and where the parts of a valid one are. Any words may be lent to `check` and
+// `is_valid`; every other function here wants the facts of a valid header.
+use answers::Answer;
+use answers::INVALID_FIRST;
+use layout::COLS_AT;
+use layout::COLUMNS_PAST;
+use layout::COUNT_AGAIN_PAST;
+use layout::COUNT_PAST;
+use layout::FIXED_WORDS;
+use layout::ROWS_AT;
+use layout::START_COUNT_AT;
+use layout::STARTS_AT;
+use layout::VALUES_PAST;
+use limits::MAX_COLS;
+use limits::MAX_ENTRIES;
+use limits::MAX_ROWS;
+
+pub mod layout;
+
+ghost use mathlib.Core.Path.{_≡_};
+ghost use Rattle.matrix.specs.Layout.{entries, rowColumns, rowValues};
+ghost use Rattle.matrix.specs.Valid.{inRange, headerValid, startsValid, rowsValid, valid, checkAnswer};
+ghost use Rattle.matrix.specs.Facts.{Header, Starts, RowSpan};
+
+// 0 and N where the words begin with a valid matrix, else INVALID_FIRST.
+pub fn check(words: &[u32]) -> Answer
+    ensures { λ r. ⌜ r ≡ checkAnswer (now (words .entry)) ⌝ }
+{
+    if !is_valid(words) {
+        return Answer {
+            code: INVALID_FIRST,
+            entries: 0,
+        };
+    }
+    Answer {
+        code: 0,
+        entries: entry_count(words),
+    }
+}
+
+// Whether the words begin with a valid matrix.
+pub fn is_valid(words: &[u32]) -> bool
+    ensures { λ r. ⌜ r ≡ valid (now (words .entry)) ⌝ }
+{
+    if !header_valid(words) {
+        return false;
+    }
+    if !starts_valid(words) {
+        return false;
+    }
+    rows_valid(words)
+}
+
+// The number of entries.
+pub fn entry_count(words: &[u32]) -> u32
+    requires { ⌜ Header (now words) ⌝ }
+    ensures { λ r. ⌜ r ≡ entries (now (words .entry)) ⌝ }
+{
+    let r = words[ROWS_AT] as usize;
+    words[r + COUNT_PAST]
+}
+
+// The column numbers of row i.
+pub fn row_columns(words: &[u32], i: usize) -> &[u32]
+    requires { ⌜ Header (now words) ⌝ ∗ ⌜ RowSpan (now words) i ⌝ }
+    ensures { λ r. ⌜ now r ≡ rowColumns (now (words .entry)) i ⌝ }
+{
+    let r = words[ROWS_AT] as usize;
+    let from = r + COLUMNS_PAST + words[i + STARTS_AT] as usize;
+    let to = r + COLUMNS_PAST + words[i + 1 + STARTS_AT] as usize;
+    &words[from..to]
+}
+
+// The values of row i.
+pub fn row_values(words: &[u32], i: usize) -> &[u32]
+    requires { ⌜ Header (now words) ⌝ ∗ ⌜ RowSpan (now words) i ⌝ }
+    ensures { λ r. ⌜ now r ≡ rowValues (now (words .entry)) i ⌝ }
+{
+    let r = words[ROWS_AT] as usize;
+    let n = words[r + COUNT_PAST] as usize;
+    let from = r + n + VALUES_PAST + words[i + STARTS_AT] as usize;
+    let to = r + n + VALUES_PAST + words[i + 1 + STARTS_AT] as usize;
+    &words[from..to]
+}
+
+// Whether a number of rows or columns is 1 to the limit.
+pub fn in_range(x: u32, limit: u32) -> bool
+    ensures { λ r. ⌜ r ≡ inRange limit x ⌝ }
+{
+    if x < 1 {
+        return false;
+    }
+    x <= limit
+}
+
+// The counts, the shape and the size.
+fn header_valid(words: &[u32]) -> bool
+    ensures { λ r. ⌜ r ≡ headerValid (now (words .entry)) ⌝ }
+{
+    if words.len() < FIXED_WORDS + 1 {
+        return false;
+    }
+    if words[0] != 2 {
+        return false;
+    }
+    let r = words[ROWS_AT];
+    if !in_range(r, MAX_ROWS) {
+        return false;
+    }
+    if !in_range(words[COLS_AT], MAX_COLS) {
+        return false;
+    }
+    if words[START_COUNT_AT] != r + 1 {
+        return false;
+    }
+    let rows = r as usize;
+    if words.len() < rows + FIXED_WORDS {
+        return false;
+    }
+    let count = words[rows + COUNT_PAST];
+    if MAX_ENTRIES < count {
+        return false;
+    }
+    let n = count as usize;
+    if words.len() < rows + n + n + FIXED_WORDS {
+        return false;
+    }
+    if words[rows + n + COUNT_AGAIN_PAST] != count {
+        return false;
+    }
+    true
+}
+
+// The row starts: they begin at 0, never fall, and end at N.
+fn starts_valid(words: &[u32]) -> bool
+    requires { ⌜ Header (now words) ⌝ }
+    ensures { λ r. ⌜ r ≡ startsValid (now (words .entry)) ⌝ }
+{
+    let r = words[ROWS_AT] as usize;
+    if words[STARTS_AT] != 0 {
+        return false;
+    }
+    if words[r + STARTS_AT] != words[r + COUNT_PAST] {
+        return false;
+    }
+    let mut i = 0;
+    while i < r {
+        if words[i + 1 + STARTS_AT] < words[i + STARTS_AT] {
+            return false;
+        }
+        i += 1;
+    }
+    true
+}
+
+// The column numbers of every row.
+fn rows_valid(words: &[u32]) -> bool
+    requires { ⌜ Header (now words) ⌝ ∗ ⌜ Starts (now words) ⌝ }
+    ensures { λ r. ⌜ r ≡ rowsValid (now (words .entry)) ⌝ }
+{
+    let r = words[ROWS_AT] as usize;
+    let mut i = 0;
+    while i < r {
+        if !rows::row_valid(row_columns(words, i), words[COLS_AT]) {
+            return false;
+        }
+        i += 1;
+    }
+    true
+}

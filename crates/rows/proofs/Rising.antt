@@ -1,0 +1,86 @@
+-- Laws of `rising`: what each turn of a loop over a row does, and what a row that rises says of its columns.
+use Prim.Native.Nat.{ℕ, zero, suc, _+_, _≤_, _<_}
+use native.Mathlib.Omega.{arith}
+use native.Mathlib.Numerals.{add-one}
+use mathlib.Core.Path.{_≡_, refl}
+use mathlib.Core.List.{List, [], _∷_}
+use mathlib.Core.Bool.{true, false}
+use lib.ListN.{length, drop, drop-of-length-le}
+use lib.Seq.{drop-cons}
+use borrow.Author.Tests.{le-leb, lt-leb, lt-ltb, le-ltb, leb-true, ltb-true}
+use Rattle.words.specs.Words.{at}
+use Rattle.words.specs.Tests.{_and_}
+use Rattle.words.proofs.Tests.{and-left, and-right, and-both}
+use Rattle.rows.specs.Row.{rising, Rises}
+
+-- the turns of a loop that stands at index k, with the lowest column number still allowed
+module _ (bound low : ℕ) (row : List ℕ) (k : ℕ) where
+  pub rising-end : length row ≤ k → rising bound low (drop k row) ≡ true
+  rising-end h = rw (drop-of-length-le row h)
+
+  pub rising-low : k < length row → at row k < low → rising bound low (drop k row) ≡ false
+  unfolding _and_
+  rising-low h l = rw (drop-cons row k 0 h, lt-leb _ _ l)
+
+  pub rising-high : k < length row → low ≤ at row k → bound ≤ at row k → rising bound low (drop k row) ≡ false
+  unfolding _and_
+  rising-high h l u = rw (drop-cons row k 0 h, le-leb _ _ l, le-ltb _ _ u)
+
+  pub rising-step : k < length row → low ≤ at row k → at row k < bound
+      → rising bound low (drop k row) ≡ rising bound (at row k + 1) (drop (k + 1) row)
+  unfolding _and_
+  rising-step h l u = rw (drop-cons row k 0 h, le-leb _ _ l, lt-ltb _ _ u, add-one k)
+
+-- the facts of a row that rises, at its first column
+record Step (bound low c : ℕ) (l : List ℕ) : Type 0 where
+  above : low ≤ c
+  below : c < bound
+  rest : rising bound (c + 1) l ≡ true
+
+step : (bound low c : ℕ) (l : List ℕ) → rising bound low (c ∷ l) ≡ true → Step bound low c l
+step bound low c l h =
+    let k = and-right _ _ h in
+    record {
+      above = leb-true _ _ (and-left _ _ h);
+      below = ltb-true _ _ (and-left _ _ k);
+      rest = and-right _ _ k;
+    }
+
+-- each column is at least the lowest allowed, and below the bound
+above-low : (bound low : ℕ) (l : List ℕ) (m : ℕ) → rising bound low l ≡ true → m < length l → low ≤ at l m
+above-low bound low [] m h l = absurd (omega arith)
+above-low bound low (c ∷ cs) zero h l = step bound low c cs h .above
+above-low bound low (c ∷ cs) (suc m) h l =
+    let s = step bound low c cs h in
+    let u = above-low bound (c + 1) cs m (s .rest) (omega arith) in
+    omega arith
+
+pub rising-below : (bound low : ℕ) (l : List ℕ) → rising bound low l ≡ true
+    → (m : ℕ) → m < length l → at l m < bound
+rising-below bound low [] h m l = absurd (omega arith)
+rising-below bound low (c ∷ cs) h zero l = step bound low c cs h .below
+rising-below bound low (c ∷ cs) h (suc m) l =
+    rising-below bound (c + 1) cs (step bound low c cs h .rest) m (omega arith)
+
+ascends : (bound low : ℕ) (l : List ℕ) → rising bound low l ≡ true
+    → (k m : ℕ) → k < m → m < length l → at l k < at l m
+ascends bound low [] h k m n b = absurd (omega arith)
+ascends bound low (c ∷ cs) h k zero n b = absurd (omega arith)
+ascends bound low (c ∷ cs) h zero (suc m) n b =
+    let u = above-low bound (c + 1) cs m (step bound low c cs h .rest) (omega arith) in omega arith
+ascends bound low (c ∷ cs) h (suc k) (suc m) n b =
+    ascends bound (c + 1) cs (step bound low c cs h .rest) k m (omega arith) (omega arith)
+
+-- the test of a row gives the facts that a search needs
+pub rising-rises : (bound low : ℕ) (l : List ℕ) → rising bound low l ≡ true → Rises l
+rising-rises bound low l h = record { up = ascends bound low l h }
+
+-- and the facts give the test
+pub rises-rising : (bound low : ℕ) (l : List ℕ) → Rises l → ((m : ℕ) → m < length l → low ≤ at l m)
+    → ((m : ℕ) → m < length l → at l m < bound) → rising bound low l ≡ true
+rises-rising bound low [] r a b = refl
+rises-rising bound low (c ∷ cs) r a b =
+    and-both (le-leb _ _ (a 0 (omega arith))) (and-both (lt-ltb _ _ (b 0 (omega arith))) (rises-rising bound (c + 1) cs
+    (record { up = λ k m l h. r .up (suc k) (suc m) (omega arith) (omega arith) })
+    (λ m h. let u : c < at cs m = r .up 0 (suc m) (omega arith) (omega arith) in omega arith)
+    (λ m h. b (suc m) (omega arith))))
