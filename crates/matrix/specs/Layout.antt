@@ -62,12 +62,19 @@ entriesAgain s = at s (countAgainAt (rows s) (entries s))
 abbrev pub size : List ℕ → ℕ
 size s = sizeOf (rows s) (entries s)
 
+-- where the column numbers and the values of row i start
+abbrev pub columnsFrom : List ℕ → ℕ → ℕ
+columnsFrom s i = columnsAt (rows s) + start s i
+
+abbrev pub valuesFrom : List ℕ → ℕ → ℕ
+valuesFrom s i = valuesAt (rows s) (entries s) + start s i
+
 -- the column numbers and the values of row i
 abbrev pub rowColumns : List ℕ → ℕ → List ℕ
-rowColumns s i = part (columnsAt (rows s) + start s i) (columnsAt (rows s) + start s (i + 1)) s
+rowColumns s i = part (columnsFrom s i) (columnsFrom s (i + 1)) s
 
 abbrev pub rowValues : List ℕ → ℕ → List ℕ
-rowValues s i = part (valuesAt (rows s) (entries s) + start s i) (valuesAt (rows s) (entries s) + start s (i + 1)) s
+rowValues s i = part (valuesFrom s i) (valuesFrom s (i + 1)) s
 
 -- the cell at row i and column j
 unfoldable pub cellOf : List ℕ → ℕ → ℕ → Cell

@@ -18,7 +18,9 @@ use limits::MAX_ROWS;
 pub mod layout;
 
 ghost use mathlib.Core.Path.{_≡_};
-ghost use Rattle.matrix.specs.Layout.{entries, rowColumns, rowValues};
+ghost use Prim.Native.Nat.{_+_};
+ghost use Rattle.words.specs.Lent.{PartOf};
+ghost use Rattle.matrix.specs.Layout.{entries, columnsFrom, valuesFrom};
 ghost use Rattle.matrix.specs.Valid.{inRange, headerValid, startsValid, rowsValid, valid, checkAnswer};
 ghost use Rattle.matrix.specs.Facts.{Header, Starts, RowSpan};
 
@@ -63,7 +65,7 @@ pub fn entry_count(words: &[u32]) -> u32
 // The column numbers of row i.
 pub fn row_columns(words: &[u32], i: usize) -> &[u32]
     requires { ⌜ Header (now words) ⌝ ∗ ⌜ RowSpan (now words) i ⌝ }
-    ensures { λ r. ⌜ now r ≡ rowColumns (now (words .entry)) i ⌝ }
+    ensures { λ r. ⌜ PartOf r (words .entry) (columnsFrom (now (words .entry)) i) (columnsFrom (now (words .entry)) (i + 1)) ⌝ }
 {
     let r = words[ROWS_AT] as usize;
     let from = r + COLUMNS_PAST + words[i + STARTS_AT] as usize;
@@ -74,7 +76,7 @@ pub fn row_columns(words: &[u32], i: usize) -> &[u32]
 // The values of row i.
 pub fn row_values(words: &[u32], i: usize) -> &[u32]
     requires { ⌜ Header (now words) ⌝ ∗ ⌜ RowSpan (now words) i ⌝ }
-    ensures { λ r. ⌜ now r ≡ rowValues (now (words .entry)) i ⌝ }
+    ensures { λ r. ⌜ PartOf r (words .entry) (valuesFrom (now (words .entry)) i) (valuesFrom (now (words .entry)) (i + 1)) ⌝ }
 {
     let r = words[ROWS_AT] as usize;
     let n = words[r + COUNT_PAST] as usize;

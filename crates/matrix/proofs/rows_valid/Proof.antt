@@ -45,7 +45,7 @@ row-valid-requires c κs = search needs
 tested : (q : tie.After-row-valid Inv-loop μ-loop)
     → rowRises (now (q .before .before .before .before .before .before .before .args .words))
     (q .before .before .before .before .loop .i) ≡ q .row-valid .result
-tested q = ap (rising _ 0) (sym (q .before .before .row-columns .ensures)) ∙ sym (q .row-valid .ensures)
+tested q = ap (rising _ 0) (sym (q .before .before .row-columns .ensures .words)) ∙ sym (q .row-valid .ensures)
 
 returns : tie.Need-returns Inv-loop μ-loop
 unfolding rowsValid

@@ -1,0 +1,13 @@
+-- Parts of lent slices: the contract of a function that returns one says which words of which slice it is.
+use Prim.Native.Nat.{ℕ, _+_, _*_}
+use mathlib.Core.Path.{_≡_}
+use mathlib.Core.List.{List}
+use denote.Ref.{RefT, now}
+use Rattle.words.specs.Words.{part}
+
+-- r is the part of the lent slice s from word a up to, and not including, word e: it lies in the same memory, a words
+-- of 4 bytes further on, and holds those words
+pub record PartOf (r s : RefT (List ℕ)) (a e : ℕ) : Type 0 where
+  pub memory : r .ptr .0 ≡ s .ptr .0
+  pub offset : r .ptr .1 ≡ s .ptr .1 + a * 4
+  pub words : now r ≡ part a e (now s)
