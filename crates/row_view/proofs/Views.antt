@@ -1,0 +1,93 @@
+-- The cases of `viewable` and `rowView`, as the code reaches them.
+use Prim.Native.Nat.{ℕ, _+_, _<_}
+use native.Mathlib.Omega.{arith}
+use mathlib.Core.Path.{_≡_, ap}
+use mathlib.Core.List.{List, []}
+use mathlib.Core.Bool.{true, false}
+use denote.Ref.{RefT, now}
+use lib.ListN.{length}
+use lib.Dec.{ltb}
+use borrow.Author.Tests.{eq-eqb, ne-eqb, eqb-true, ltb-true}
+use Rattle.words.specs.Tests.{_and_}
+use Rattle.words.specs.Lent.{PartOf}
+use Rattle.words.proofs.Tests.{and-left, and-right}
+use Rattle.words.proofs.Parts.{length-part}
+use Rattle.matrix.specs.Layout.{rows, cols, start, columnsFrom, rowColumns}
+use Rattle.matrix.specs.Valid.{valid}
+use Rattle.matrix.specs.Facts.{RowSpan}
+use Rattle.matrix.proofs.Facts.{matrix-facts, row-span}
+use Rattle.row_view.specs.declared.Section.{Section}
+use Rattle.row_view.specs.View.{sectionFrom, sectionTo, viewable, rowEmpty, rowView, Shown}
+
+-- what the test says
+pub record Viewable (a b : List ℕ) (i : ℕ) : Type 0 where
+  pub first : valid a ≡ true
+  pub second : valid b ≡ true
+  pub same-rows : rows a ≡ rows b
+  pub same-cols : cols a ≡ cols b
+  pub row : i < rows a
+
+module _ (a b : List ℕ) (i : ℕ) where
+  pub viewable-facts : viewable a b i ≡ true → Viewable a b i
+  unfolding viewable
+  viewable-facts h₀ =
+      let h₁ = and-right _ _ h₀ in
+      let h₂ = and-right _ _ h₁ in
+      let h₃ = and-right _ _ h₂ in
+      record {
+        first = and-left _ _ h₀;
+        second = and-left _ _ h₁;
+        same-rows = eqb-true _ _ (and-left _ _ h₂);
+        same-cols = eqb-true _ _ (and-left _ _ h₃);
+        row = ltb-true _ _ (and-right _ _ h₃);
+      }
+
+  -- past the other tests, the row decides
+  pub row-decides : valid a ≡ true → valid b ≡ true → rows a ≡ rows b → cols a ≡ cols b
+      → ltb i (rows a) ≡ viewable a b i
+  unfolding viewable _and_
+  row-decides v w r c = rw (v, w, eq-eqb _ _ r, eq-eqb _ _ c)
+
+  -- row i lies in either matrix
+  pub span-first : Viewable a b i → RowSpan a i
+  span-first h = row-span a (matrix-facts a (h .first) .starts) i (h .row)
+
+  pub span-second : Viewable a b i → RowSpan b i
+  span-second h = row-span b (matrix-facts b (h .second) .starts) i (omega (arith, h .row, h .same-rows))
+
+  -- how many column numbers row i of the first matrix has
+  row-length : Viewable a b i → length (rowColumns a i) + start a i ≡ start a (i + 1)
+  row-length h =
+      let m = matrix-facts a (h .first) in
+      let s = span-first h in
+      let e = length-part (columnsFrom a i) (columnsFrom a (i + 1)) a (omega arith) in
+      omega arith
+
+  pub row-empty : Viewable a b i → (cs : List ℕ) → cs ≡ rowColumns a i → length cs ≡ 0 → rowEmpty a i ≡ true
+  row-empty h cs e z =
+      let s : start a i ≡ start a (i + 1) = omega (arith, row-length h, ap length e) in
+      eq-eqb _ _ s
+
+  pub row-filled : Viewable a b i → (cs : List ℕ) → cs ≡ rowColumns a i → (length cs ≡ 0 → ⊥)
+      → rowEmpty a i ≡ false
+  row-filled h cs e z =
+      let f : start a i ≡ start a (i + 1) → ⊥ = λ s. z (omega (arith, row-length h, ap length e)) in
+      ne-eqb _ _ f
+
+module _ (section : Section) (r a b : RefT (List ℕ)) (i : ℕ) where
+  pub shown-none : viewable (now a) (now b) i ≡ false → now r ≡ []
+      → Shown r a b (rowView section (now a) (now b) i)
+  unfolding rowView
+  shown-none h e = rw h e
+
+  pub shown-second : viewable (now a) (now b) i ≡ true → rowEmpty (now a) i ≡ true
+      → PartOf r b (sectionFrom section (now b) i) (sectionTo section (now b) i)
+      → Shown r a b (rowView section (now a) (now b) i)
+  unfolding rowView
+  shown-second h e p = rw (h, e) p
+
+  pub shown-first : viewable (now a) (now b) i ≡ true → rowEmpty (now a) i ≡ false
+      → PartOf r a (sectionFrom section (now a) i) (sectionTo section (now a) i)
+      → Shown r a b (rowView section (now a) (now b) i)
+  unfolding rowView
+  shown-first h e p = rw (h, e) p
