@@ -1,5 +1,8 @@
 -- The refusal codes of document 01's table "When the clerk turns a call away", and what a call answers.
 use Prim.Native.Nat.{ℕ}
+use mathlib.Core.List.{List}
+use mathlib.Core.Bool.{cond}
+use lib.Dec.{eqb}
 use Rattle.answers.specs.declared.Answer.{Answer}
 
 -- "flags above 31"
@@ -58,3 +61,7 @@ accepted n = record { code = 0; entries = n }
 -- "A refusal returns its number and 0."
 abbrev pub refused : ℕ → Answer
 refused code = record { code = code; entries = 0 }
+
+-- "It changes no lent word": what a buffer holds afterwards, the new words only where the call is accepted
+abbrev pub unlessRefused : Answer → List ℕ → List ℕ → List ℕ
+unlessRefused answer old new = cond (eqb (answer .code) 0) new old

@@ -2,7 +2,7 @@
 -- values as entries, row by row and from left to right").
 use Prim.Native.Nat.{ℕ, zero, suc, _+_, _≤_}
 use mathlib.Core.List.{List, [], _∷_, _++_}
-use lib.ListN.{length}
+use lib.ListN.{length, drop}
 use Rattle.limits.specs.Limits.{maxRows, maxCols, maxEntries}
 use Rattle.grid.specs.Grid.{Grid}
 use Rattle.grid.specs.Entries.{gridColumns, gridValues, entriesBefore, entryCount}
@@ -31,6 +31,10 @@ encode g =
 -- the size of a grid: "its size is that of its sheet"
 abbrev pub gridSize : Grid → ℕ
 gridSize g = sizeOf (g .rows) (entryCount g)
+
+-- a grid written at the front of words: "Spare words behind an accepted sheet keep what they held before the call."
+abbrev pub writtenOver : Grid → List ℕ → List ℕ
+writtenOver g w = encode g ++ drop (gridSize g) w
 
 -- a grid within the limits
 pub record Within (g : Grid) : Type 0 where

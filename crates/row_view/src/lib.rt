@@ -1,7 +1,8 @@
 // Looking at one row over two matrices of equal shape (document 01: "look at one row over two sheets"). The part shown
 // lies in the first matrix where that row has an entry, otherwise in the second. This call gives no number: where
 // either matrix is damaged, the shapes differ or the row does not exist, the part is empty.
-use matrix::layout::{COLS_AT, ROWS_AT};
+use matrix::layout::COLS_AT;
+use matrix::layout::ROWS_AT;
 ghost use mathlib.Core.Path.{_≡_};
 ghost use Rattle.matrix.specs.Facts.{Header, RowSpan};
 ghost use Rattle.words.specs.Lent.{PartOf};

@@ -6,7 +6,15 @@ use Rattle.words.proofs.Tests.{said-no, said-yes}
 use Rattle.matrix.proofs.Facts.{matrix-facts}
 use Rattle.row_view.specs.View.{viewable}
 use Rattle.row_view.proofs.Views.{
-  Viewable, viewable-facts, span-first, span-second, row-empty, row-filled, shown-none, shown-second, shown-first,
+  Viewable,
+  viewable-facts,
+  span-first,
+  span-second,
+  row-empty,
+  row-filled,
+  shown-none,
+  shown-second,
+  shown-first,
 }
 use borrow.Author.Needs.{needs}
 use Rattle.row_view.proofs.row_view.Statement.{statement}
@@ -52,13 +60,13 @@ row-columns-requires c κs = (matrix-facts _ (held c .first) .header, span-first
 
 -- src/lib.rt:26:9
 row-section-requires : tie.Need-row-section-requires
-row-section-requires c κs = 
+row-section-requires c κs =
     let h = held (c .before .before) in
     (matrix-facts _ (h .second) .header, span-second _ _ _ h)
 
 -- src/lib.rt:26:9
 returns-2 : tie.Need-returns-2
-returns-2 c = 
+returns-2 c =
     let q = c .before .before in
     shown-second _ _ _ _ _ (told (q .before))
     (row-empty _ _ _ (held (q .before)) _ (q .row-columns .ensures .words) (c .before .if2 .taken))
@@ -66,13 +74,13 @@ returns-2 c =
 
 -- src/lib.rt:28:5
 row-section-requires-2 : tie.Need-row-section-requires-2
-row-section-requires-2 c κs = 
+row-section-requires-2 c κs =
     let h = held (c .before .before) in
     (matrix-facts _ (h .first) .header, span-first _ _ _ h)
 
 -- src/lib.rt:17:1
 returns-3 : tie.Need-returns-3
-returns-3 c = 
+returns-3 c =
     let q = c .before .before in
     shown-first _ _ _ _ _ (told (q .before))
     (row-filled _ _ _ (held (q .before)) _ (q .row-columns .ensures .words) (c .before .if2 .left))
