@@ -11,11 +11,11 @@ use borrow.Author.Tests.{eq-eqb, ne-eqb, eqb-true, ltb-true}
 use Rattle.words.specs.Tests.{_and_}
 use Rattle.words.specs.Lent.{PartOf}
 use Rattle.words.proofs.Tests.{and-left, and-right}
-use Rattle.words.proofs.Parts.{length-part}
-use Rattle.matrix.specs.Layout.{rows, cols, start, columnsFrom, rowColumns}
+use Rattle.matrix.specs.Layout.{rows, cols, start, rowColumns}
 use Rattle.matrix.specs.Valid.{valid}
 use Rattle.matrix.specs.Facts.{RowSpan}
 use Rattle.matrix.proofs.Facts.{matrix-facts, row-span}
+use Rattle.matrix.proofs.Rows.{columns-length}
 use Rattle.row_view.specs.declared.Section.{Section}
 use Rattle.row_view.specs.View.{sectionFrom, sectionTo, viewable, rowEmpty, rowView, Shown}
 
@@ -57,11 +57,7 @@ module _ (a b : List ℕ) (i : ℕ) where
 
   -- how many column numbers row i of the first matrix has
   row-length : Viewable a b i → length (rowColumns a i) + start a i ≡ start a (i + 1)
-  row-length h =
-      let m = matrix-facts a (h .first) in
-      let s = span-first h in
-      let e = length-part (columnsFrom a i) (columnsFrom a (i + 1)) a (omega arith) in
-      omega arith
+  row-length h = columns-length a i (matrix-facts a (h .first) .header) (span-first h)
 
   pub row-empty : Viewable a b i → (cs : List ℕ) → cs ≡ rowColumns a i → length cs ≡ 0 → rowEmpty a i ≡ true
   row-empty h cs e z =

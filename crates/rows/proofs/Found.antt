@@ -8,7 +8,7 @@ use lib.ListN.{length}
 use borrow.Author.Tests.{eq-eqb, ne-eqb}
 use Rattle.words.specs.Words.{at}
 use Rattle.grid.specs.declared.Cell.the-variants.{Absent, Present}
-use Rattle.rows.specs.Row.{lookup, position, Row}
+use Rattle.rows.specs.Row.{lookup, position, Rises}
 use Rattle.rows.proofs.Search.{Below}
 use Rattle.rows.proofs.Position.{Stands, stands}
 
@@ -34,13 +34,14 @@ lookup-at (c ∷ cols) (v ∷ vals) (suc p) e l b =
     (lookup-at cols vals p (omega arith) (omega arith) (λ k m. b (suc k) (omega arith)))
 
 -- for a search that has given p, and then tested `p < cols.len()` and `cols[p] == j`
-module _ {n : ℕ} {cols vals : List ℕ} (w : Row n cols vals) {j p : ℕ} (e : p ≡ position j cols) where
+module _ (cols vals : List ℕ) (even : length vals ≡ length cols) (rises : Rises cols) (j p : ℕ)
+    (e : p ≡ position j cols) where
   placed : Stands j cols p
-  placed = rw e (stands j cols (w .rises))
+  placed = rw e (stands j cols rises)
 
   -- the column at the position is j
   pub lookup-found : p < length cols → at cols p ≡ j → lookup cols vals j ≡ Present (at vals p)
-  lookup-found l h = rw (← h) (lookup-at cols vals p (w .even) l (rw h (placed .before)))
+  lookup-found l h = rw (← h) (lookup-at cols vals p even l (rw h (placed .before)))
 
   -- there is no column at the position, or it is another one
   pub lookup-missing : (p < length cols → at cols p ≡ j → ⊥) → lookup cols vals j ≡ Absent
@@ -49,7 +50,7 @@ module _ {n : ℕ} {cols vals : List ℕ} (w : Row n cols vals) {j p : ℕ} (e :
       go : (k : ℕ) → k < length cols → at cols k ≡ j → Dec (k < p) → Dec (p < k) → ⊥
       go k l q (yes m) d = let u = placed .before k m in omega arith
       go k l q (no m) (yes d) =
-          let u = w .rises .up p k d l in
+          let u = rises .up p k d l in
           let v = placed .after p (omega arith) (omega arith) in
           omega arith
       go k l q (no m) (no d) = let z : p ≡ k = omega arith in h (omega arith) (ap (at cols) z ∙ q)

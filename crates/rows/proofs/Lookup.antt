@@ -131,7 +131,7 @@ module _ {n : ℕ} {cols vals : List ℕ} (w : Row n cols vals) (emit : ℕ → 
   unfolding gather one
   hit q p s l e h =
       let m = position-moves q cols p (w .rises) (rw s (stands q cols (w .rises))) l e in
-      rw (lookup-found w s l e, h, ← m, take-suc items p 0 (omega arith), ← (same p), e)
+      rw (lookup-found cols vals (w .even) (w .rises) q p s l e, h, ← m, take-suc items p 0 (omega arith), ← (same p), e)
 
   -- column q is not in the row
   miss : (q p : ℕ) → p ≡ position q cols → (p < length cols → at cols p ≡ q → ⊥)
@@ -140,7 +140,7 @@ module _ {n : ℕ} {cols vals : List ℕ} (w : Row n cols vals) (emit : ℕ → 
   unfolding gather one
   miss q p s f h =
       let m = position-stays q cols p (w .rises) (rw s (stands q cols (w .rises))) f in
-      rw (lookup-missing w s f, append-nil, ← m) h
+      rw (lookup-missing cols vals (w .even) (w .rises) q p s f, append-nil, ← m) h
 
   -- the first q columns gather the items before the position of column q
   gathered : (q : ℕ) → gather emit q (lookup cols vals) ≡ take (position q cols) items

@@ -1,6 +1,8 @@
 // A sparse row: column numbers that rise strictly, each beside its value.
+use grid::Cell;
 ghost use mathlib.Core.Path.{_≡_};
-ghost use Rattle.rows.specs.Row.{rising, Rises, position};
+ghost use lib.ListN.{length};
+ghost use Rattle.rows.specs.Row.{rising, Rises, position, lookup};
 
 // Whether the column numbers are below `bound` and rise strictly.
 pub fn row_valid(columns: &[u32], bound: u32) -> bool
@@ -38,4 +40,19 @@ pub fn find_column(columns: &[u32], j: u32) -> usize
         }
     }
     low
+}
+
+// The cell at column j of a valid row.
+pub fn find_cell(columns: &[u32], values: &[u32], j: u32) -> Cell
+    requires { ⌜ Rises (now columns) ⌝ ∗ ⌜ length (now values) ≡ length (now columns) ⌝ }
+    ensures { λ r. ⌜ r ≡ lookup (now (columns .entry)) (now (values .entry)) j ⌝ }
+{
+    let p = find_column(columns, j);
+    if columns.len() <= p {
+        return Cell::Absent;
+    }
+    if columns[p] != j {
+        return Cell::Absent;
+    }
+    Cell::Present(values[p])
 }

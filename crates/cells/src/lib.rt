@@ -1,0 +1,58 @@
+// Reading one cell of a matrix (document 01: "read one cell").
+use answers::INDEX_OUT_OF_BOUNDS;
+use answers::INVALID_FIRST;
+use grid::Cell;
+use matrix::layout::COLS_AT;
+use matrix::layout::ROWS_AT;
+ghost use mathlib.Core.Path.{_≡_};
+ghost use Rattle.matrix.specs.Layout.{cellOf, rowColumns};
+ghost use Rattle.matrix.specs.Facts.{Header, RowSpan};
+ghost use Rattle.rows.specs.Row.{Rises};
+ghost use Rattle.cells.specs.Read.{readAnswer, refusedRead};
+
+// 0 and the cell, or a refusal code and no value.
+pub struct CellAnswer {
+    pub code: u32,
+    pub cell: Cell,
+}
+
+// The cell at row i and column j. INVALID_FIRST where the words are no valid matrix, INDEX_OUT_OF_BOUNDS where the row
+// or the column is past it.
+pub fn read_cell(words: &[u32], i: u32, j: u32) -> CellAnswer
+    ensures { λ r. ⌜ r ≡ readAnswer (now (words .entry)) i j ⌝ }
+{
+    if !matrix::is_valid(words) {
+        return refused(INVALID_FIRST);
+    }
+    if words[ROWS_AT] <= i {
+        return refused(INDEX_OUT_OF_BOUNDS);
+    }
+    if words[COLS_AT] <= j {
+        return refused(INDEX_OUT_OF_BOUNDS);
+    }
+    CellAnswer {
+        code: 0,
+        cell: cell_at(words, i as usize, j),
+    }
+}
+
+// The cell at row i and column j of a valid matrix.
+pub fn cell_at(words: &[u32], i: usize, j: u32) -> Cell
+    requires { ⌜ Header (now words) ⌝ ∗ ⌜ RowSpan (now words) i ⌝ ∗ ⌜ Rises (rowColumns (now words) i) ⌝ }
+    ensures { λ r. ⌜ r ≡ cellOf (now (words .entry)) i j ⌝ }
+{
+    rows::find_cell(
+        matrix::row_columns(words, i),
+        matrix::row_values(words, i),
+        j,
+    )
+}
+
+fn refused(code: u32) -> CellAnswer
+    ensures { λ r. ⌜ r ≡ refusedRead code ⌝ }
+{
+    CellAnswer {
+        code: code,
+        cell: Cell::Absent,
+    }
+}
