@@ -34,7 +34,8 @@ unless P k n here other = by (ℕ-discrete n k)
     by (no f) = other f
 
 -- the monoids' table has Unknown at 0, 1, 2 and 4 too
-pub no-monoid : (n : ℕ) → (((Unit {0} × (n ≡ 3 → ⊥)) × (n ≡ 5 → ⊥)) × (n ≡ 6 → ⊥)) × (n ≡ 7 → ⊥) → Unknown ≡ monoidNumbered n
+pub no-monoid : (n : ℕ) → (((Unit {0} × (n ≡ 3 → ⊥)) × (n ≡ 5 → ⊥)) × (n ≡ 6 → ⊥)) × (n ≡ 7 → ⊥)
+    → Unknown ≡ monoidNumbered n
 unfolding monoidNumbered
 no-monoid n f =
     unless Right 0 n refl λ n0.

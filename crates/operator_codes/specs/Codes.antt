@@ -1,5 +1,5 @@
--- The operators by number: document 01, "Operators". Each table lists what the numbers 0, 1, 2 and so on stand for; a number
--- past its end, or with no operator of its own, is Unknown.
+-- The operators by number: document 01, "Operators". Each table lists what the numbers 0, 1, 2 and so on stand for; a
+-- number past its end is Unknown.
 use mathlib.Core.Path.{_≡_, refl}
 use mathlib.Core.List.{List, [], _∷_}
 use Prim.Native.Nat.{ℕ}
@@ -20,7 +20,7 @@ use Rattle.operator_codes.specs.declared.IndexUnaryCode.the-variants as 
 use Rattle.operator_codes.specs.declared.ApplyCode.{ApplyCode}
 use Rattle.operator_codes.specs.declared.ApplyCode.the-variants as apply
 
--- "0, 1, 2: FIRST, SECOND, ONEB"; "3, 4, 5: PLUS, MINUS, TIMES"; "6, 7: MIN, MAX"
+-- "0, 1, 2 | FIRST, SECOND, ONEB", "3, 4, 5 | PLUS, MINUS, TIMES", "6, 7 | MIN, MAX"
 abbrev pub binaryTable : List BinaryCode
 binaryTable =
     binary.Known First
@@ -36,7 +36,7 @@ binaryTable =
 unfoldable pub binaryNumbered : ℕ → BinaryCode
 binaryNumbered n = getD binaryTable n binary.Unknown
 
--- "Monoids are 3, 5, 6, 7"
+-- "Monoids are 3, 5, 6, 7": a monoid has the number of its binary operator
 abbrev pub monoidTable : List MonoidCode
 monoidTable =
     monoid.Unknown
@@ -52,7 +52,7 @@ monoidTable =
 unfoldable pub monoidNumbered : ℕ → MonoidCode
 monoidNumbered n = getD monoidTable n monoid.Unknown
 
--- "Unary: 0 IDENTITY, 1 AINV, 2 ABS, 3 LNOT, 4 ONE"
+-- "Unary: 0 IDENTITY, 1 AINV, 2 ABS, 3 LNOT (zero gives 1, else 0), 4 ONE"
 abbrev pub unaryTable : List UnaryCode
 unaryTable =
     unary.Known Identity
@@ -65,14 +65,14 @@ unaryTable =
 unfoldable pub unaryNumbered : ℕ → UnaryCode
 unaryNumbered n = getD unaryTable n unary.Unknown
 
--- "Index-unary: 0 ROWINDEX, 1 COLINDEX, 2 DIAGINDEX"
+-- "Index-unary, with scalar s, wrapping: 0 ROWINDEX i+s, 1 COLINDEX j+s, 2 DIAGINDEX j-i+s"
 abbrev pub indexUnaryTable : List IndexUnaryCode
 indexUnaryTable = index.Known RowIndex ∷ index.Known ColIndex ∷ index.Known DiagIndex ∷ []
 
 unfoldable pub indexUnaryNumbered : ℕ → IndexUnaryCode
 indexUnaryNumbered n = getD indexUnaryTable n index.Unknown
 
--- The kinds of apply, with the scalar s, of an operator that is known.
+-- Each kind of apply, of an operator that is known, with the scalar s.
 abbrev pub unaryApply : UnaryCode → ApplyCode
 unaryApply (unary.Known op) = apply.Known (Unary op)
 unaryApply unary.Unknown = apply.Unknown
@@ -89,8 +89,8 @@ abbrev pub indexUnaryApply : ℕ → IndexUnaryCode → ApplyCode
 indexUnaryApply s (index.Known op) = apply.Known (IndexUnary op s)
 indexUnaryApply s index.Unknown = apply.Unknown
 
--- "Apply: unary; binary with the scalar first; binary with the scalar second; index-unary", numbered 0 to 3 in this order:
--- the kind, and the operator's number in its kind
+-- "Apply: unary; binary with the scalar first; binary with the scalar second; index-unary". The document gives the
+-- kinds no numbers: they are 0 to 3 in this order. An operator's number is read in its kind.
 abbrev pub applyTable : ℕ → ℕ → List ApplyCode
 applyTable number s =
     unaryApply (unaryNumbered number)

@@ -1,6 +1,7 @@
 // The operators by number (document 01, "Operators"). A number that stands for no operator is answered by Unknown.
 ghost use mathlib.Core.Path.{_≡_};
-ghost use Rattle.operator_codes.specs.Codes.{binaryNumbered, monoidNumbered, unaryNumbered, indexUnaryNumbered, applyNumbered};
+ghost use Rattle.operator_codes.specs.Codes.{binaryNumbered, monoidNumbered, unaryNumbered};
+ghost use Rattle.operator_codes.specs.Codes.{indexUnaryNumbered, applyNumbered};
 use operators::ApplyOp;
 use operators::BinaryOp;
 use operators::IndexUnaryOp;

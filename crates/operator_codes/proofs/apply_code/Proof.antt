@@ -1,5 +1,5 @@
--- `apply_code` gives `applyNumbered`: each kind by the table and by what the decoder of its operators gives, known or not,
--- and the last arm by the lemma on the numbers left.
+-- `apply_code` gives `applyNumbered`: each kind by the table and by what the decoder of its operators gives, known or
+-- not, and the last arm by what is left of the kind.
 use borrow.Author.Needs.{needs}
 use Rattle.operator_codes.specs.declared.ApplyCode.the-variants.{Unknown}
 use Rattle.operator_codes.specs.Codes.{applyTable, applyNumbered}

@@ -1,4 +1,4 @@
--- `binary_code` gives `binaryNumbered`: each number with an arm by the table, and the last arm by the lemma on the numbers left.
+-- `binary_code` gives `binaryNumbered`: each arm by the table, and the last by what is left of the number.
 use Rattle.operator_codes.specs.declared.BinaryCode.the-variants.{Unknown}
 use Rattle.operator_codes.specs.Codes.{binaryTable, binaryNumbered}
 use Rattle.operator_codes.proofs.Tables.{unlisted}

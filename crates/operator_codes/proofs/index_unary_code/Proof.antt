@@ -1,4 +1,4 @@
--- `index_unary_code` gives `indexUnaryNumbered`: each number with an arm by the table, and the last arm by the lemma on the numbers left.
+-- `index_unary_code` gives `indexUnaryNumbered`: each arm by the table, and the last by what is left of the number.
 use Rattle.operator_codes.specs.declared.IndexUnaryCode.the-variants.{Unknown}
 use Rattle.operator_codes.specs.Codes.{indexUnaryTable, indexUnaryNumbered}
 use Rattle.operator_codes.proofs.Tables.{unlisted}

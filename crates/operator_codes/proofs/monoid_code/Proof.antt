@@ -1,4 +1,4 @@
--- `monoid_code` gives `monoidNumbered`: each number with an arm by the table, and the last arm by the lemma on the numbers left.
+-- `monoid_code` gives `monoidNumbered`: each arm by the table, and the last by what is left of the number.
 use Rattle.operator_codes.specs.Codes.{monoidNumbered}
 use Rattle.operator_codes.proofs.Tables.{no-monoid}
 use Rattle.operator_codes.proofs.monoid_code.Statement.{statement}

@@ -1,4 +1,4 @@
--- `unary_code` gives `unaryNumbered`: each number with an arm by the table, and the last arm by the lemma on the numbers left.
+-- `unary_code` gives `unaryNumbered`: each arm by the table, and the last by what is left of the number.
 use Rattle.operator_codes.specs.declared.UnaryCode.the-variants.{Unknown}
 use Rattle.operator_codes.specs.Codes.{unaryTable, unaryNumbered}
 use Rattle.operator_codes.proofs.Tables.{unlisted}
