@@ -9,6 +9,7 @@ use Rattle.operators.specs.declared.UnaryOp.the-variants.{Identity}
 use Rattle.operators.specs.declared.IndexUnaryOp.the-variants.{RowIndex, ColIndex, DiagIndex}
 use Rattle.operators.specs.Operators.{binaryWord, unaryWord, indexUnaryWord}
 
+-- IDENTITY, FIRST and SECOND return a word as it is
 module _ {x : ℕ} (hx : x < 2 ^ 32) where
   pub identity-word : x ≡ unaryWord Identity x
   unfolding unaryWord
@@ -22,6 +23,7 @@ module _ {x : ℕ} (hx : x < 2 ^ 32) where
   unfolding binaryWord
   second-word y = sym (word-signed x hx)
 
+-- PLUS and MINUS return the wrapping sum, and the wrapping difference r
 module _ {x y : ℕ} (hx : x < 2 ^ 32) (hy : y < 2 ^ 32) where
   pub plus-word : (x + y) % 2 ^ 32 ≡ binaryWord Plus x y
   unfolding binaryWord
@@ -31,6 +33,7 @@ module _ {x y : ℕ} (hx : x < 2 ^ 32) (hy : y < 2 ^ 32) where
   unfolding binaryWord
   minus-word = wrapping-difference (signed x) (signed y) (word-signed x hx) (word-signed y hy)
 
+-- ROWINDEX, COLINDEX and DIAGINDEX return wrapping sums
 module _ {i j s : ℕ} (hi : i < 2 ^ 32) (hj : j < 2 ^ 32) (hs : s < 2 ^ 32) where
   pub row-word : (i + s) % 2 ^ 32 ≡ indexUnaryWord RowIndex i j s
   unfolding indexUnaryWord

@@ -12,9 +12,10 @@ use Rattle.operators.specs.declared.UnaryOp.the-variants.{Identity, Ainv
 use Rattle.operators.specs.declared.IndexUnaryOp.{IndexUnaryOp}
 use Rattle.operators.specs.declared.IndexUnaryOp.the-variants.{RowIndex, ColIndex, DiagIndex}
 use Rattle.operators.specs.declared.ApplyOp.{ApplyOp}
-use Rattle.operators.specs.declared.ApplyOp.the-variants.{Unary, BinaryScalarFirst, BinaryScalarSecond, IndexUnary}
+use Rattle.operators.specs.declared.ApplyOp.the-variants.{Unary, IndexUnary}
+use Rattle.operators.specs.declared.ApplyOp.the-variants.{BinaryScalarFirst, BinaryScalarSecond}
 
--- "FIRST, SECOND, ONEB: x, y, 1"; "PLUS, MINUS, TIMES: sum, difference, product"; "MIN, MAX: signed"
+-- "FIRST, SECOND, ONEB | x, y, 1", "PLUS, MINUS, TIMES | sum, difference, product", "MIN, MAX | signed"
 abbrev pub binary : BinaryOp → ℤ → ℤ → ℤ
 binary First x y = x
 binary Second x y = y
@@ -25,7 +26,7 @@ binary Times x y = x *ℤ y
 binary Min x y = minℤ x y
 binary Max x y = maxℤ x y
 
--- "IDENTITY, AINV, ABS, LNOT (zero gives 1, else 0), ONE"
+-- "Unary: 0 IDENTITY, 1 AINV, 2 ABS, 3 LNOT (zero gives 1, else 0), 4 ONE"
 abbrev pub unary : UnaryOp → ℤ → ℤ
 unary Identity x = x
 unary Ainv x = negℤ x
@@ -33,7 +34,7 @@ unary Abs x = absℤ x
 unary Lnot x = notℤ x
 unary One x = pos 1
 
--- "with scalar s: ROWINDEX i+s, COLINDEX j+s, DIAGINDEX j-i+s", at row i and column j
+-- "Index-unary, with scalar s, wrapping: 0 ROWINDEX i+s, 1 COLINDEX j+s, 2 DIAGINDEX j-i+s", at row i and column j
 abbrev pub indexUnary : IndexUnaryOp → ℤ → ℤ → ℤ → ℤ
 indexUnary RowIndex i j s = i +ℤ s
 indexUnary ColIndex i j s = j +ℤ s
@@ -46,19 +47,21 @@ monoidOp monoid.Times = Times
 monoidOp monoid.Min = Min
 monoidOp monoid.Max = Max
 
--- On words: the result is "brought back modulo 2^32 into the signed range".
+-- On words: "A sum or difference past the ends of the range wraps modulo 2^32", and a product is "the exact product
+-- brought back modulo 2^32 into the signed range". The other results are within the range, but for the negative and the
+-- ABS of the smallest value, which wrap too.
 unfoldable pub binaryWord : BinaryOp → ℕ → ℕ → ℕ
 binaryWord op x y = word (binary op (signed x) (signed y))
 
 unfoldable pub unaryWord : UnaryOp → ℕ → ℕ
 unaryWord op x = word (unary op (signed x))
 
--- a row and a column are numbers as they stand, and the scalar is signed
+-- a row and a column are numbers from 0 up, and the scalar is signed
 unfoldable pub indexUnaryWord : IndexUnaryOp → ℕ → ℕ → ℕ → ℕ
 indexUnaryWord op i j s = word (indexUnary op (pos i) (pos j) (signed s))
 
--- "Apply: unary; binary with the scalar first; binary with the scalar second; index-unary": what an entry x at row i and
--- column j becomes
+-- "Apply: unary; binary with the scalar first; binary with the scalar second; index-unary": what an entry x at row i
+-- and column j becomes
 unfoldable pub entryWord : ApplyOp → ℕ → ℕ → ℕ → ℕ
 entryWord (Unary op) x i j = unaryWord op x
 entryWord (BinaryScalarFirst op s) x i j = binaryWord op s x

@@ -1,8 +1,8 @@
--- Signed numbers as the machine has them, `toZ w32` of bits and `ofZ w32` of a number, against `signed` and `word`: what
--- `to_signed` and `from_signed` cite, and what a local that holds `to_signed(x)` is.
-use mathlib.Core.Path.{_≡_, refl, sym, ap, _∙_}
+-- Signed numbers as the machine has them, `toZ w32` of bits and `ofZ w32` of a number, against `signed` and `word`:
+-- what `to_signed` and `from_signed` cite, and what a local that holds `to_signed(x)` is.
+use mathlib.Core.Path.{_≡_, sym, ap, _∙_}
 use mathlib.Core.Bool.{true, false}
-use Prim.Native.Nat.{ℕ, suc, _+_, _-_, _^_, _≤_, _<_}
+use Prim.Native.Nat.{ℕ, suc, _-_, _^_, _≤_, _<_}
 use native.Mathlib.Omega.{arith}
 use lib.IntN.{ℤ, pos, negsuc, natAbs, _+ℤ_, _-ℤ_}
 use lib.Dec.{T, leb·zero}
@@ -14,6 +14,7 @@ use borrow.Author.Tests.{lt-ltb, le-ltb}
 use Rattle.twos_complement.specs.TwosComplement.{signed, word}
 use Rattle.twos_complement.proofs.Words.{signed-cases}
 
+-- the number that a word holds fits 32 bits
 pub signed-fits : {x : ℕ} → x < 2 ^ 32 → SFits w32 (signed x)
 signed-fits {x} h =
     signed-cases (SFits w32) x h (λ l. record { sfits = l }) (λ g. record { sfits = omega arith })
@@ -23,11 +24,11 @@ pub read-word : (x : ℕ) → x < 2 ^ 32 → toZ w32 x ≡ signed x
 read-word x h =
     signed-cases (λ z. toZ w32 x ≡ z) x h (λ l. toZ-pos w32 x l) (λ g. rw (le-ltb x (2 ^ 31) g))
 
--- and reads back a number of that range that a local holds
+-- and reads the number of a word back from a local
 pub read-back : {x : ℕ} {z : ℤ} → x < 2 ^ 32 → z ≡ signed x → toZ w32 (ofZ w32 z) ≡ signed x
 read-back {x} h e = rw e (toZ-ofZ w32 (signed x) (signed-fits h))
 
--- `to_signed` of the upper half of the words
+-- `to_signed` of the upper half of the words: lowered by 2 ^ 31 as a word and then as a number
 pub lowered : {x : ℕ} → 2 ^ 31 ≤ x → x < 2 ^ 32 → toZ w32 (x - 2147483648) +ℤ negsuc 2147483647 ≡ signed x
 lowered {x} h l =
     signed-cases (λ z. toZ w32 (x - 2147483648) +ℤ negsuc 2147483647 ≡ z) x l
@@ -36,6 +37,7 @@ lowered {x} h l =
     let e : toZ w32 (x - 2147483648) ≡ pos (x - 2147483648) = toZ-pos w32 (x - 2147483648) (omega arith) in
     rw (e, lt-ltb (x - 2147483648) 2147483648 (omega arith)) (ap negsuc (omega arith)))
 
+-- and no step leaves the range
 pub lowered-fits : {x : ℕ} → 2 ^ 31 ≤ x → x < 2 ^ 32 → SFits w32 (toZ w32 (x - 2147483648) +ℤ negsuc 2147483647)
 lowered-fits h l = rw (lowered h l) (signed-fits l)
 
@@ -44,6 +46,7 @@ pub record Casts (z : ℤ) (n : ℕ) : Type 0 where
   pub asks : T (nonNeg (toZ w32 (ofZ w32 z))) × Fits w32 (natAbs (toZ w32 (ofZ w32 z)))
   pub gives : natAbs (toZ w32 (ofZ w32 z)) ≡ n
 
+-- a number that is not negative casts to itself
 casts : {z : ℤ} {n : ℕ} → z ≡ pos n → n < 2 ^ 31 → Casts z n
 casts {z} {n} e l =
     record {
@@ -51,6 +54,7 @@ casts {z} {n} e l =
       gives = rw (e, toZ-pos w32 n l);
     }
 
+-- two answers of one test
 pub false-true : false ≡ true → ⊥
 false-true e = let z : _≡_ {A = ℕ} 0 1 = cc in omega arith
 

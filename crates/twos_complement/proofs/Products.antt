@@ -1,9 +1,9 @@
 -- `word` takes a product of numbers to that of words modulo 2 ^ 32: what `multiply` cites.
 use mathlib.Core.Path.{_≡_, sym, ap, _∙_}
 use Prim.Native.Nat.{ℕ, suc, _+_, _*_, _-_, _%_, _/_, _^_, _≤_, _<_}
-use native.Mathlib.Nat.{mul-comm, mul-assoc, mul-add, add-mul, mul-add-mod-self-right, div-add-mod', mul-le-mul}
+use native.Mathlib.Nat.{mul-comm, mul-assoc, mul-add, mul-add-mod-self-right, div-add-mod', mul-le-mul}
 use native.Mathlib.Omega.{arith}
-use lib.IntN.{ℤ, pos, negsuc, negℤ, _*ℤ_, *ℤ-comm, *ℤ-negsuc}
+use lib.IntN.{ℤ, pos, negsuc, _*ℤ_, *ℤ-comm, *ℤ-negsuc}
 use Rattle.twos_complement.specs.TwosComplement.{signed, word}
 use Rattle.twos_complement.proofs.Words.{word-lt, word-neg, word-signed}
 
@@ -14,6 +14,7 @@ mul-mod-right a b m = sym (mul-add-mod-self-right (a * (b / m)) m (a * (b % m)))
     whole : a * (b / m) * m + a * (b % m) ≡ a * b
     whole = simp (mul-assoc, ← mul-add, div-add-mod')
 
+-- and so may both
 mul-mod : (a b m : ℕ) → (a % m * (b % m)) % m ≡ (a * b) % m
 mul-mod a b m = mul-mod-right (a % m) b m ∙ simp (mul-comm (a % m) b, mul-mod-right b a m, mul-comm b a)
 
@@ -24,7 +25,8 @@ complement x y h = mul-mod-right x (2 ^ 32 - y) (2 ^ 32) ∙ omega (arith, whole
     whole : x * (2 ^ 32 - y) + x * y ≡ x * 2 ^ 32
     whole = sym (mul-add x (2 ^ 32 - y) y) ∙ ap (λ (n : ℕ). x * n) (omega arith)
 
--- the words' product is the product's word
+-- A product's word is the product of the words. It holds of two numbers that are not negative, with the factors
+-- swapped, and with the sign of a factor turned, and so of all.
 Exact : ℤ → ℤ → Type 0
 Exact a b = word (a *ℤ b) ≡ (word a * word b) % 2 ^ 32
 
@@ -45,9 +47,11 @@ exact-negsuc a b e =
     ∙ sym (complement (word a) (word (pos (suc b))) (omega (arith, word-lt (pos (suc b)))))
     ∙ ap (λ (n : ℕ). (word a * n) % 2 ^ 32) (sym (word-neg (pos (suc b))))
 
+-- of a negative number and one that is not
 exact-mixed : (a b : ℕ) → Exact (negsuc a) (pos b)
 exact-mixed a b = exact-swap (pos b) (negsuc a) (exact-negsuc (pos b) a (exact-pos b (suc a)))
 
+-- the law for numbers of any sign
 pub word-mul : (a b : ℤ) → word (a *ℤ b) ≡ (word a * word b) % 2 ^ 32
 unfolding Exact
 word-mul (pos a) (pos b) = exact-pos a b
@@ -55,7 +59,7 @@ word-mul (pos a) (negsuc b) = exact-negsuc (pos a) b (exact-pos a (suc b))
 word-mul (negsuc a) (pos b) = exact-mixed a b
 word-mul (negsuc a) (negsuc b) = exact-negsuc (negsuc a) b (exact-mixed a (suc b))
 
--- the product of two words, as `multiply` works it out
+-- the product of two words, as `multiply` works it out: it fits 64 bits, and is right modulo 2 ^ 32
 module _ {x y : ℕ} (hx : x < 2 ^ 32) (hy : y < 2 ^ 32) where
   pub product-fits : x * y < 2 ^ 64
   product-fits =

@@ -1,7 +1,7 @@
 -- `from_signed` gives `word z`: a number that is not negative as it is, a negative one raised by 2 ^ 32 in two steps.
 use native.Mathlib.Omega.{arith}
 use Rattle.twos_complement.proofs.Words.{word-lt}
-use Rattle.twos_complement.proofs.Casts.{from-nonneg, from-negative, Raised}
+use Rattle.twos_complement.proofs.Casts.{from-nonneg, from-negative}
 use Rattle.twos_complement.proofs.from_signed.Statement.{statement}
 use Rattle.twos_complement.proofs.from_signed.Tie as tie
 

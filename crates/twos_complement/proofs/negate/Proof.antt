@@ -1,4 +1,5 @@
--- `negate` gives the word of the negative: the exceptional value is returned first, and any other has a negative that fits.
+-- `negate` gives the word of the negative: the exceptional value is returned first, and any other has a negative that
+-- fits.
 use mathlib.Core.Path.{_∙_, ap}
 use borrow.Author.Needs.{needs}
 use Rattle.twos_complement.specs.TwosComplement.{word}
