@@ -4,7 +4,7 @@ use Prim.Native.Nat.{ℕ, zero, suc, _+_, _≤_, _<_}
 use native.Mathlib.Omega.{arith}
 use native.Mathlib.Decide.{decLt}
 use native.Mathlib.Numerals.{add-one}
-use mathlib.Core.Path.{_≡_, refl, sym}
+use mathlib.Core.Path.{_≡_, refl, sym, ap}
 use mathlib.Core.List.{List, [], _++_, append-nil, append-assoc}
 use lib.ListN.{length, length-append}
 use Rattle.grid.specs.declared.Cell.{Cell}
@@ -74,3 +74,9 @@ module _ {A : Type 0} (emit : ℕ → ℕ → A) (n : ℕ) (cell : ℕ → ℕ �
             rest = b .rest ++ gather emit n (cell r);
             joined = rw (b .joined) (append-assoc (flatten emit n cell k) (b .rest) (gather emit n (cell r)));
           }
+
+  -- so there are no fewer
+  pub flatten-grows : (k r : ℕ) → k ≤ r → length (flatten emit n cell k) ≤ length (flatten emit n cell r)
+  flatten-grows k r l =
+      let b = flatten-begins k r l in
+      omega (arith, simp length-append at (ap length (b .joined)))

@@ -1,0 +1,72 @@
+-- The one writing of a grid, both ways. Demand 2: "Every valid sheet has one writing in words, and reading it gives the
+-- sheet back." An operation that leaves a valid matrix with the right cells finishes by `canonical`.
+use Prim.Native.Nat.{ℕ}
+use native.Mathlib.Omega.{arith}
+use mathlib.Core.Path.{_≡_, sym, ap, _∙_}
+use mathlib.Core.List.{List, _++_}
+use mathlib.Core.Bool.{true}
+use lib.ListN.{length, drop}
+use Rattle.grid.specs.Grid.{Grid, Same}
+use Rattle.grid.specs.Entries.{column, value}
+use Rattle.rows.proofs.Lookup.{lookup-gather}
+use Rattle.matrix.specs.Layout.{rows, sizeOf, size, cellOf, gridOf}
+use Rattle.matrix.specs.Valid.{valid}
+use Rattle.matrix.proofs.Facts.{matrix-facts, matrix-made}
+use Rattle.encoding.specs.Encode.{encode, Within}
+use Rattle.encoding.proofs.GridSections.{same-entries, same-starts}
+use Rattle.encoding.proofs.Encoded.{
+  encode-sections,
+  encode-rows,
+  encode-cols,
+  encode-row-columns,
+  encode-row-values,
+  encode-matrix,
+}
+use Rattle.encoding.proofs.Decoded.{valid-starts, valid-columns, valid-values, valid-sections}
+-- the size of a writing and its N; the rows and the N of valid words
+pub use Rattle.encoding.proofs.Encoded.{encode-length, encode-entries}
+pub use Rattle.encoding.proofs.Decoded.{valid-row, valid-row-columns, valid-row-values, valid-entries}
+
+-- the writing of a grid within the limits is a valid matrix, whatever words stand behind it
+pub encode-valid : (g : Grid) (t : List ℕ) → Within g → valid (encode g ++ t) ≡ true
+encode-valid g t w = matrix-made (encode g ++ t) (encode-matrix g t w)
+
+-- "reading it gives the sheet back": shape and cells
+pub encode-same : (g : Grid) (t : List ℕ) → Same (gridOf (encode g ++ t)) g
+unfolding cellOf
+encode-same g t = record {
+  rows = encode-rows g t;
+  cols = encode-cols g t;
+  cell = λ i j l k.
+      rw (encode-row-columns g t i l, encode-row-values g t i l) (lookup-gather (g .cols) (g .cell i) j k);
+}
+
+-- grids with the same cells have the same writing
+pub encode-ext : (g h : Grid) → Same g h → encode g ≡ encode h
+unfolding encode
+encode-ext g h s =
+    rw (same-starts g h s, same-entries g h s column, same-entries g h s value, s .rows, s .cols)
+
+-- the grid of valid words is within the limits
+pub valid-within : (s : List ℕ) → valid s ≡ true → Within (gridOf s)
+valid-within s v =
+    let h = matrix-facts s v .header in
+    record { row-range = h .row-range; col-range = h .col-range; few = omega (arith, valid-entries s v) }
+
+-- "every valid sheet has one writing": valid words are the writing of their grid, and then the spare words
+pub valid-encoded : (s : List ℕ) → valid s ≡ true → s ≡ encode (gridOf s) ++ drop (size s) s
+valid-encoded s v =
+    valid-sections s v
+    ∙ sym (encode-sections (gridOf s) (drop (size s) s) ∙ rw (valid-starts s v, valid-columns s v, valid-values s v))
+
+-- the length of that writing is the size of the matrix
+pub valid-size : (s : List ℕ) → valid s ≡ true → length (encode (gridOf s)) ≡ size s
+valid-size s v = encode-length (gridOf s) ∙ ap (sizeOf (rows s)) (valid-entries s v)
+
+-- valid words with a grid's cells are the writing of that grid, and then the spare words
+pub canonical : (s : List ℕ) (g : Grid) → valid s ≡ true → Same (gridOf s) g
+    → s ≡ encode g ++ drop (length (encode g)) s
+canonical s g v h =
+    let e = encode-ext (gridOf s) g h in
+    let n = sym (ap length e) ∙ valid-size s v in
+    valid-encoded s v ∙ rw (e, n)

@@ -1,0 +1,5 @@
+pub mod Sections
+pub mod GridSections
+pub mod Encoded
+pub mod Decoded
+pub mod Canonical
