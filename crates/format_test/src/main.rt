@@ -82,7 +82,7 @@ fn two_rows() {
     print_word(b"-5 is stored as", twos_complement::from_signed(-5));
     prefixes(&words, &[15, 14]);
     reads(&words, &[0, 0, 0, 1, 0, 2, 1, 0, 1, 1, 1, 2]);
-    // starts that begin above 0, fall, end below and above N; an empty first row and an empty last one
+    // starts that begin above 0, fall, end below and above N, and leave rows whose columns do not rise
     damage(&mut words, &[4, 1, 5, 4, 6, 2, 6, 4, 5, 0, 5, 3]);
     // counts and starts near the ends of the range
     damage(
