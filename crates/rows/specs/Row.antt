@@ -3,12 +3,13 @@ use Prim.Native.Nat.{ℕ, suc, _+_, _<_}
 use mathlib.Core.Path.{_≡_}
 use mathlib.Core.List.{List, [], _∷_}
 use mathlib.Core.Bool.{Bool, true, cond}
-use lib.ListN.{length}
+use lib.ListN.{length, take}
 use lib.Dec.{ltb, leb, eqb}
 use Rattle.words.specs.Words.{at}
 use Rattle.words.specs.Tests.{_and_}
 use Rattle.grid.specs.declared.Cell.{Cell}
 use Rattle.grid.specs.declared.Cell.the-variants.{Absent, Present}
+use Rattle.grid.specs.Entries.{column, value, gather}
 
 -- "Column numbers are below C and rise strictly within a row": each is at least `low`, and the next above it
 abbrev pub rising : ℕ → ℕ → List ℕ → Bool
@@ -35,3 +36,9 @@ pub record Row (n : ℕ) (cols vals : List ℕ) : Type 0 where
   pub even : length vals ≡ length cols
   pub rises : Rises cols
   pub small : (a : ℕ) → a < length cols → at cols a < n
+
+-- a row that was left at the front of two buffers: e entries, which are those of the cells f in the first n columns
+pub record Holds (n : ℕ) (f : ℕ → Cell) (e : ℕ) (cols vals : List ℕ) : Type 0 where
+  pub count : e ≡ length (gather column n f)
+  pub columns : take e cols ≡ gather column n f
+  pub values : take e vals ≡ gather value n f

@@ -1,0 +1,32 @@
+-- What the operations do with the cells at one position (document 01, "The six operations").
+use Prim.Native.Nat.{ℕ, zero, suc}
+use mathlib.Core.Bool.{Bool, true, false, cond}
+use Rattle.grid.specs.declared.Cell.{Cell}
+use Rattle.grid.specs.declared.Cell.the-variants.{Absent, Present}
+use Rattle.operators.specs.declared.ApplyOp.{ApplyOp}
+use Rattle.operators.specs.declared.BinaryOp.{BinaryOp}
+use Rattle.operators.specs.declared.Monoid.{Monoid}
+use Rattle.operators.specs.Operators.{binaryWord, monoidOp, entryWord}
+
+-- "the operator where both are present, otherwise nothing"
+abbrev pub intersect : BinaryOp → Cell → Cell → Cell
+intersect op Absent b = Absent
+intersect op (Present x) Absent = Absent
+intersect op (Present x) (Present y) = Present (binaryWord op x y)
+
+-- "the operator where both are present; a lone value is passed as it is, from either side"
+abbrev pub unite : BinaryOp → Cell → Cell → Cell
+unite op Absent b = b
+unite op (Present x) Absent = Present x
+unite op (Present x) (Present y) = Present (binaryWord op x y)
+
+-- "over all k where A(i,k) and B(k,j) are both present, multiply, then add up with the monoid. No such k: no entry." Here
+-- row and column are A(i,·) and B(·,j), and k goes up to n in order.
+unfoldable pub dot : Monoid → BinaryOp → ℕ → (ℕ → Cell) → (ℕ → Cell) → Cell
+dot monoid op zero row col = Absent
+dot monoid op (suc n) row col = unite (monoidOp monoid) (dot monoid op n row col) (intersect op (row n) (col n))
+
+-- "Apply: .. Only present entries." The entry stands at row i and column j of the matrix as stored.
+abbrev pub applyCell : ApplyOp → ℕ → ℕ → Cell → Cell
+applyCell op i j Absent = Absent
+applyCell op i j (Present x) = Present (entryWord op x i j)

@@ -1,0 +1,3 @@
+pub mod CellOperations
+pub mod GridOperations
+pub mod WriteBacks
