@@ -11,11 +11,3 @@ maxCols = 512
 -- "N is 0 to 2,048"
 abbrev pub maxEntries : ℕ
 maxEntries = 2048
-
--- "the largest sheet is 4,615 words"
-abbrev pub maxMatrixWords : ℕ
-maxMatrixWords = 4615
-
--- "work buffer under 13,845 words": three of the largest sheets
-abbrev pub workspaceWords : ℕ
-workspaceWords = 13845

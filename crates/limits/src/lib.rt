@@ -8,10 +8,5 @@ pub const MAX_COLS: u32 = 512;
 // The number of entries N is 0 to this.
 pub const MAX_ENTRIES: u32 = 2048;
 
-// The words of the largest matrix, and of the workspace that an operation needs: three such matrices.
-pub const MAX_MATRIX_WORDS: usize = 4615;
-
-pub const WORKSPACE_WORDS: usize = 13845;
-
-// The places of a row: the length of the local arrays that hold one.
-pub const ROW_PLACES: usize = 512;
+// The places of a row, as the length of the local arrays that hold one.
+pub const ROW_PLACES: usize = MAX_COLS as usize;

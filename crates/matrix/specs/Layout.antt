@@ -1,7 +1,8 @@
 -- Where the words of a matrix stand (document 01, "How a sheet is written"): "sections in fixed order, each after its
 -- count: 2, then rows R, columns C; R+1, then the row starts; N, then the column numbers; N, then the values".
-use Prim.Native.Nat.{ℕ, _+_}
+use Prim.Native.Nat.{ℕ, _+_, _*_}
 use mathlib.Core.List.{List}
+use Rattle.limits.specs.Limits.{maxRows, maxEntries}
 use Rattle.words.specs.Words.{at, part}
 use Rattle.grid.specs.declared.Cell.{Cell}
 use Rattle.grid.specs.Grid.{Grid}
@@ -37,6 +38,13 @@ valuesAt r n = r + n + 7
 -- "Its size is R + 2N + 7 words."
 abbrev pub sizeOf : ℕ → ℕ → ℕ
 sizeOf r n = r + n + n + 7
+
+-- "the largest sheet is 4,615 words", and the work buffer is three of them: 13,845 words
+abbrev pub maxMatrixWords : ℕ
+maxMatrixWords = sizeOf maxRows maxEntries
+
+abbrev pub workspaceWords : ℕ
+workspaceWords = 3 * maxMatrixWords
 
 -- rows R, columns C, the count of the row starts
 abbrev pub rows : List ℕ → ℕ

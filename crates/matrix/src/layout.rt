@@ -1,6 +1,9 @@
 // Where the words of a matrix stand (document 01, "How a sheet is written"), R the rows and N the entries:
 // 2, R, C; R + 1 and the row starts; N and the column numbers; N and the values.
 
+use limits::MAX_ENTRIES;
+use limits::MAX_ROWS;
+
 pub const ROWS_AT: usize = 1;
 
 pub const COLS_AT: usize = 2;
@@ -21,3 +24,8 @@ pub const VALUES_PAST: usize = 7;
 
 // The size is R + 2N + FIXED_WORDS.
 pub const FIXED_WORDS: usize = 7;
+
+// The words of the largest matrix, and of the workspace that an operation needs: three such matrices.
+pub const MAX_MATRIX_WORDS: usize = MAX_ROWS as usize + 2 * MAX_ENTRIES as usize + FIXED_WORDS;
+
+pub const WORKSPACE_WORDS: usize = 3 * MAX_MATRIX_WORDS;
