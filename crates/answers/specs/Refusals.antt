@@ -62,6 +62,7 @@ accepted n = record { code = 0; entries = n }
 abbrev pub refused : ℕ → Answer
 refused code = record { code = code; entries = 0 }
 
--- "It changes no lent word": what a buffer holds afterwards, the new words only where the call is accepted
+-- "It changes no lent word but the work buffer's": what any other buffer holds afterwards, the new words only where the
+-- call is accepted
 abbrev pub unlessRefused : Answer → List ℕ → List ℕ → List ℕ
 unlessRefused answer old new = cond (eqb (answer .code) 0) new old

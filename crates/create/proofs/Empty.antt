@@ -7,8 +7,8 @@ use lib.ListN.{length, set, replicate, length-replicate, replicate-append-replic
 use Rattle.grid.specs.declared.Cell.{Cell}
 use Rattle.grid.specs.declared.Cell.the-variants.{Absent}
 use Rattle.grid.specs.Grid.{Grid, emptyGrid}
-use Rattle.grid.specs.Entries.{column, value, one, gather, flatten, entryCount, entriesBefore}
-use Rattle.encoding.specs.Encode.{tabulate, gridStarts, encode}
+use Rattle.grid.specs.Entries.{column, value, one, gather, flatten, entryCount}
+use Rattle.encoding.specs.Encode.{entriesBefore, tabulate, gridStarts, encode}
 
 -- nothing is gathered where every cell is absent
 gather-absent : (emit : ℕ → ℕ → ℕ) (n : ℕ) → gather emit n (λ j. Absent) ≡ []

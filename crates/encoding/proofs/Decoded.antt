@@ -9,7 +9,7 @@ use mathlib.Core.Bool.{true}
 use lib.ListN.{length, drop}
 use Rattle.words.specs.Words.{part}
 use Rattle.words.proofs.Parts.{part-empty, length-part, part-cons, part-append, part-at}
-use Rattle.grid.specs.Entries.{column, value, gather, flatten, gridColumns, gridValues, entriesBefore, entryCount}
+use Rattle.grid.specs.Entries.{column, value, gather, flatten, gridColumns, gridValues, entryCount}
 use Rattle.rows.specs.Row.{Row}
 use Rattle.rows.proofs.Lookup.{rising-row, gather-lookup-columns, gather-lookup-values}
 use Rattle.matrix.specs.Layout.{
@@ -34,7 +34,7 @@ use Rattle.matrix.specs.Layout.{
 use Rattle.matrix.specs.Valid.{valid}
 use Rattle.matrix.specs.Facts.{Matrix, RowSpan}
 use Rattle.matrix.proofs.Facts.{matrix-facts, row-span}
-use Rattle.encoding.specs.Encode.{counted, gridStarts}
+use Rattle.encoding.specs.Encode.{entriesBefore, counted, gridStarts}
 use Rattle.encoding.proofs.Sections.{section-made}
 use Rattle.encoding.proofs.GridSections.{starts-are}
 

@@ -8,7 +8,7 @@ use mathlib.Core.List.{List, [], _∷_, _++_, append-assoc}
 use lib.ListN.{length, drop, length-append}
 use Rattle.words.specs.Words.{at, part}
 use Rattle.grid.specs.Grid.{Grid}
-use Rattle.grid.specs.Entries.{column, value, gather, flatten, gridColumns, gridValues, entriesBefore, entryCount}
+use Rattle.grid.specs.Entries.{column, value, gather, flatten, gridColumns, gridValues, entryCount}
 use Rattle.grid.proofs.Gather.{flatten-length, flatten-grows}
 use Rattle.rows.proofs.Lookup.{gather-rising}
 use Rattle.matrix.specs.Layout.{
@@ -28,7 +28,7 @@ use Rattle.matrix.specs.Layout.{
   rowValues,
 }
 use Rattle.matrix.specs.Facts.{Header, Starts, Matrix}
-use Rattle.encoding.specs.Encode.{counted, gridStarts, encode, gridSize, Within}
+use Rattle.encoding.specs.Encode.{entriesBefore, counted, gridStarts, encode, gridSize, Within}
 use Rattle.encoding.proofs.Sections.{Section, section-count, section-at, section-part, section-rest}
 use Rattle.encoding.proofs.GridSections.{starts-length, values-length, starts-at, row-of-all}
 

@@ -11,9 +11,9 @@ use lib.Seq.{getD-at, ext-getD}
 use Rattle.words.specs.Words.{at, part}
 use Rattle.words.proofs.Parts.{part-middle}
 use Rattle.grid.specs.Grid.{Grid, Same}
-use Rattle.grid.specs.Entries.{column, value, gather, flatten, gridValues, entriesBefore, entryCount}
+use Rattle.grid.specs.Entries.{column, value, gather, flatten, gridValues, entryCount}
 use Rattle.grid.proofs.Gather.{flatten-length, flatten-same, flatten-next, flatten-begins}
-use Rattle.encoding.specs.Encode.{tabulate, gridStarts}
+use Rattle.encoding.specs.Encode.{entriesBefore, tabulate, gridStarts}
 
 -- `tabulate f n` has n words
 tabulate-length : (f : ℕ → ℕ) (n : ℕ) → length (tabulate f n) ≡ n

@@ -3,3 +3,4 @@ pub mod GridSections
 pub mod Encoded
 pub mod Decoded
 pub mod Canonical
+pub mod Assembled

@@ -5,7 +5,7 @@ use mathlib.Core.List.{List, [], _∷_, _++_}
 use lib.ListN.{length, drop}
 use Rattle.limits.specs.Limits.{maxRows, maxCols, maxEntries}
 use Rattle.grid.specs.Grid.{Grid}
-use Rattle.grid.specs.Entries.{gridColumns, gridValues, entriesBefore, entryCount}
+use Rattle.grid.specs.Entries.{column, flatten, gridColumns, gridValues, entryCount}
 use Rattle.matrix.specs.Layout.{sizeOf}
 use Rattle.matrix.specs.Facts.{InRange}
 
@@ -17,6 +17,10 @@ counted l = length l ∷ l
 unfoldable pub tabulate : (ℕ → ℕ) → ℕ → List ℕ
 tabulate f zero = []
 tabulate f (suc n) = tabulate f n ++ (f n ∷ [])
+
+-- how many entries the rows before row k have
+abbrev pub entriesBefore : Grid → ℕ → ℕ
+entriesBefore g k = length (flatten column (g .cols) (g .cell) k)
 
 -- the row starts: for each row how many entries come before it, and at the end how many there are
 abbrev pub gridStarts : Grid → List ℕ
@@ -36,7 +40,7 @@ gridSize g = sizeOf (g .rows) (entryCount g)
 abbrev pub writtenOver : Grid → List ℕ → List ℕ
 writtenOver g w = encode g ++ drop (gridSize g) w
 
--- a grid within the limits
+-- a grid within the limits. That each value is a word below 2 ^ 32 is the buffer's own.
 pub record Within (g : Grid) : Type 0 where
   pub row-range : InRange maxRows (g .rows)
   pub col-range : InRange maxCols (g .cols)

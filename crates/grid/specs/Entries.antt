@@ -13,7 +13,7 @@ column j v = j
 abbrev pub value : ℕ → ℕ → ℕ
 value j v = v
 
--- what a cell at column j gives: one item where it is present
+-- what a cell at column j gives: one item where it is present, none where it is absent
 unfoldable pub one : {A : Type 0} → (ℕ → ℕ → A) → ℕ → Cell → List A
 one emit j Absent = []
 one emit j (Present v) = emit j v ∷ []
@@ -35,10 +35,6 @@ gridColumns g = flatten column (g .cols) (g .cell) (g .rows)
 abbrev pub gridValues : Grid → List ℕ
 gridValues g = flatten value (g .cols) (g .cell) (g .rows)
 
--- how many entries the rows before row k have
-abbrev pub entriesBefore : Grid → ℕ → ℕ
-entriesBefore g k = length (flatten column (g .cols) (g .cell) k)
-
 -- "A grid's entries are its values": their number
 abbrev pub entryCount : Grid → ℕ
-entryCount g = entriesBefore g (g .rows)
+entryCount g = length (gridColumns g)

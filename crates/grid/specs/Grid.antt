@@ -4,7 +4,8 @@ use mathlib.Core.Path.{_≡_}
 use Rattle.grid.specs.declared.Cell.{Cell}
 use Rattle.grid.specs.declared.Cell.the-variants.{Absent}
 
--- "one grid: rows, columns and, in each cell, a value or none". Only the cells within the shape count.
+-- "one grid: rows, columns and, in each cell, a value or none". Only the cells within the shape count. A value is kept as
+-- its word in two's complement.
 pub record Grid : Type 0 where
   pub rows : ℕ
   pub cols : ℕ

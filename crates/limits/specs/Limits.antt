@@ -1,4 +1,5 @@
--- The limits of a matrix, as document 01 gives them ("How a sheet is written"). Nothing else states these numbers.
+-- The limits of a matrix, as document 01 gives them ("How a sheet is written"). No other definition
+-- states these numbers; src/ has the same ones for the code.
 use Prim.Native.Nat.{ℕ}
 
 -- "R and C are 1 to 512"

@@ -1,13 +1,13 @@
--- What the tests of a matrix say, as facts on numbers: what functions on valid words require.
+-- What the tests of Valid.antt say, as facts on numbers: what functions on valid words require. Each record is proved to
+-- hold exactly where its test does (proofs/Facts.antt).
 use Prim.Native.Nat.{ℕ, _+_, _≤_, _<_}
 use mathlib.Core.Path.{_≡_}
 use mathlib.Core.List.{List}
 use mathlib.Core.Bool.{true}
 use lib.ListN.{length}
 use Rattle.limits.specs.Limits.{maxRows, maxCols, maxEntries}
-use Rattle.words.specs.Words.{at}
 use Rattle.rows.specs.Row.{rising}
-use Rattle.matrix.specs.Layout.{rows, cols, startCount, start, entries, entriesAgain, size, rowColumns}
+use Rattle.matrix.specs.Layout.{shapeCount, rows, cols, startCount, start, entries, entriesAgain, size, rowColumns}
 
 -- a number of rows or columns that is 1 to a limit
 pub record InRange (limit x : ℕ) : Type 0 where
@@ -15,7 +15,7 @@ pub record InRange (limit x : ℕ) : Type 0 where
   pub most : x ≤ limit
 
 pub record Header (s : List ℕ) : Type 0 where
-  pub two : at s 0 ≡ 2
+  pub two : shapeCount s ≡ 2
   pub row-range : InRange maxRows (rows s)
   pub col-range : InRange maxCols (cols s)
   pub starts : startCount s ≡ rows s + 1

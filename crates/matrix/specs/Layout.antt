@@ -1,5 +1,5 @@
--- Where the words of a matrix stand (document 01, "How a sheet is written"): "sections in fixed order, each after its
--- count: 2, then rows R, columns C; R+1, then the row starts; N, then the column numbers; N, then the values".
+-- Where the words of a matrix stand (document 01, "How a sheet is written"): four sections "in fixed order, each after its
+-- count": the shape, the row starts, the column numbers, the values. Each place is given from the one before it.
 use Prim.Native.Nat.{ℕ, _+_, _*_}
 use mathlib.Core.List.{List}
 use Rattle.limits.specs.Limits.{maxRows, maxEntries}
@@ -8,36 +8,40 @@ use Rattle.grid.specs.declared.Cell.{Cell}
 use Rattle.grid.specs.Grid.{Grid}
 use Rattle.rows.specs.Row.{lookup}
 
--- the places of the first words
+-- "2, then rows R, columns C"
+abbrev pub shapeCountAt : ℕ
+shapeCountAt = 0
+
 abbrev pub rowsAt : ℕ
-rowsAt = 1
+rowsAt = shapeCountAt + 1
 
 abbrev pub colsAt : ℕ
-colsAt = 2
+colsAt = shapeCountAt + 2
 
+-- "R+1, then the row starts"
 abbrev pub startCountAt : ℕ
-startCountAt = 3
+startCountAt = shapeCountAt + 3
 
 abbrev pub startsAt : ℕ
-startsAt = 4
+startsAt = startCountAt + 1
 
--- with r rows and n entries: where the count of the column numbers and the column numbers stand, and where the count
--- of the values and the values stand
+-- "N, then the column numbers", with r rows
 abbrev pub countAt : ℕ → ℕ
-countAt r = r + 5
+countAt r = r + (startsAt + 1)
 
 abbrev pub columnsAt : ℕ → ℕ
-columnsAt r = r + 6
+columnsAt r = r + (startsAt + 2)
 
+-- "N, then the values", with r rows and n entries
 abbrev pub countAgainAt : ℕ → ℕ → ℕ
-countAgainAt r n = r + n + 6
+countAgainAt r n = r + n + (startsAt + 2)
 
 abbrev pub valuesAt : ℕ → ℕ → ℕ
-valuesAt r n = r + n + 7
+valuesAt r n = r + n + (startsAt + 3)
 
 -- "Its size is R + 2N + 7 words."
 abbrev pub sizeOf : ℕ → ℕ → ℕ
-sizeOf r n = r + n + n + 7
+sizeOf r n = r + n + n + (startsAt + 3)
 
 -- "the largest sheet is 4,615 words", and the work buffer is three of them: 13,845 words
 abbrev pub maxMatrixWords : ℕ
@@ -46,7 +50,10 @@ maxMatrixWords = sizeOf maxRows maxEntries
 abbrev pub workspaceWords : ℕ
 workspaceWords = 3 * maxMatrixWords
 
--- rows R, columns C, the count of the row starts
+-- the count of the shape, rows R, columns C, the count of the row starts
+abbrev pub shapeCount : List ℕ → ℕ
+shapeCount s = at s shapeCountAt
+
 abbrev pub rows : List ℕ → ℕ
 rows s = at s rowsAt
 

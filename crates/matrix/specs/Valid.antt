@@ -8,10 +8,9 @@ use lib.Dec.{leb, eqb}
 use Rattle.limits.specs.Limits.{maxRows, maxCols, maxEntries}
 use Rattle.answers.specs.declared.Answer.{Answer}
 use Rattle.answers.specs.Refusals.{accepted, refused, invalidFirst}
-use Rattle.words.specs.Words.{at}
 use Rattle.words.specs.Tests.{_and_, all}
 use Rattle.rows.specs.Row.{rising}
-use Rattle.matrix.specs.Layout.{rows, cols, startCount, start, entries, entriesAgain, size, rowColumns}
+use Rattle.matrix.specs.Layout.{shapeCount, rows, cols, startCount, start, entries, entriesAgain, size, rowColumns}
 
 -- "1 to" a limit
 unfoldable pub inRange : ℕ → ℕ → Bool
@@ -20,7 +19,7 @@ inRange limit x = leb 1 x and leb x limit
 -- the counts of the sections, "R and C are 1 to 512, N is 0 to 2,048", and the size within the buffer
 unfoldable pub headerValid : List ℕ → Bool
 headerValid s =
-    eqb (at s 0) 2
+    eqb (shapeCount s) 2
     and inRange maxRows (rows s)
     and inRange maxCols (cols s)
     and eqb (startCount s) (rows s + 1)

@@ -4,26 +4,28 @@
 use limits::MAX_ENTRIES;
 use limits::MAX_ROWS;
 
-pub const ROWS_AT: usize = 1;
+pub const SHAPE_COUNT_AT: usize = 0;
 
-pub const COLS_AT: usize = 2;
+pub const ROWS_AT: usize = SHAPE_COUNT_AT + 1;
 
-pub const START_COUNT_AT: usize = 3;
+pub const COLS_AT: usize = SHAPE_COUNT_AT + 2;
 
-pub const STARTS_AT: usize = 4;
+pub const START_COUNT_AT: usize = SHAPE_COUNT_AT + 3;
+
+pub const STARTS_AT: usize = START_COUNT_AT + 1;
 
 // N before the column numbers is at R + COUNT_PAST, the column numbers are from R + COLUMNS_PAST on, N before the
 // values is at R + N + COUNT_AGAIN_PAST, and the values are from R + N + VALUES_PAST on.
-pub const COUNT_PAST: usize = 5;
+pub const COUNT_PAST: usize = STARTS_AT + 1;
 
-pub const COLUMNS_PAST: usize = 6;
+pub const COLUMNS_PAST: usize = STARTS_AT + 2;
 
-pub const COUNT_AGAIN_PAST: usize = 6;
+pub const COUNT_AGAIN_PAST: usize = STARTS_AT + 2;
 
-pub const VALUES_PAST: usize = 7;
+pub const VALUES_PAST: usize = STARTS_AT + 3;
 
 // The size is R + 2N + FIXED_WORDS.
-pub const FIXED_WORDS: usize = 7;
+pub const FIXED_WORDS: usize = STARTS_AT + 3;
 
 // The words of the largest matrix, and of the workspace that an operation needs: three such matrices.
 pub const MAX_MATRIX_WORDS: usize = MAX_ROWS as usize + 2 * MAX_ENTRIES as usize + FIXED_WORDS;

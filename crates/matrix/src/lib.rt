@@ -1,5 +1,5 @@
 // Matrices in words: what is valid, and where the parts of a valid one are. Any words may be lent to `check` and
-// `is_valid`; every other function here wants the facts of a valid header.
+// `is_valid`; the functions that take a part out of a matrix want the facts of a valid one.
 use answers::Answer;
 use answers::INVALID_FIRST;
 use layout::COLS_AT;
@@ -8,6 +8,7 @@ use layout::COUNT_AGAIN_PAST;
 use layout::COUNT_PAST;
 use layout::FIXED_WORDS;
 use layout::ROWS_AT;
+use layout::SHAPE_COUNT_AT;
 use layout::START_COUNT_AT;
 use layout::STARTS_AT;
 use layout::VALUES_PAST;
@@ -102,7 +103,7 @@ fn header_valid(words: &[u32]) -> bool
     if words.len() < FIXED_WORDS + 1 {
         return false;
     }
-    if words[0] != 2 {
+    if words[SHAPE_COUNT_AT] != 2 {
         return false;
     }
     let r = words[ROWS_AT];
