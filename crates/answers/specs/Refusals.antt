@@ -31,8 +31,8 @@ abbrev pub indexOutOfBounds : ℕ
 indexOutOfBounds = 7
 
 -- "rows or columns outside 1 to 512; shapes of inputs, mask, C and T disagree; no strip where one is due"
-abbrev pub dimensionMismatch : ℕ
-dimensionMismatch = 8
+abbrev pub invalidShape : ℕ
+invalidShape = 8
 
 -- "work buffer under 13,845 words"
 abbrev pub workspaceTooShort : ℕ

@@ -15,7 +15,7 @@ pub const INVALID_OUTPUT: u32 = 6;
 
 pub const INDEX_OUT_OF_BOUNDS: u32 = 7;
 
-pub const DIMENSION_MISMATCH: u32 = 8;
+pub const INVALID_SHAPE: u32 = 8;
 
 pub const WORKSPACE_TOO_SHORT: u32 = 9;
 

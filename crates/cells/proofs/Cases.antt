@@ -8,7 +8,7 @@ use Rattle.answers.specs.Refusals.{invalidFirst, indexOutOfBounds}
 use Rattle.words.specs.Tests.{_and_}
 use Rattle.matrix.specs.Layout.{rows, cols, cellOf}
 use Rattle.matrix.specs.Valid.{valid}
-use Rattle.cells.specs.Read.{found, refusedRead, readAnswer}
+use Rattle.cells.specs.Read.{foundAnswer, refusedRead, readAnswer}
 
 module _ (s : List ℕ) (i j : ℕ) where
   pub read-invalid : valid s ≡ false → refusedRead invalidFirst ≡ readAnswer s i j
@@ -23,6 +23,6 @@ module _ (s : List ℕ) (i j : ℕ) where
   unfolding readAnswer _and_
   read-past-cols v h k = rw (v, lt-ltb _ _ h, le-ltb _ _ k)
 
-  pub read-found : valid s ≡ true → i < rows s → j < cols s → found (cellOf s i j) ≡ readAnswer s i j
+  pub read-found : valid s ≡ true → i < rows s → j < cols s → foundAnswer (cellOf s i j) ≡ readAnswer s i j
   unfolding readAnswer _and_
   read-found v h k = rw (v, lt-ltb _ _ h, lt-ltb _ _ k)

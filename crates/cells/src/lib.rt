@@ -8,12 +8,13 @@ ghost use mathlib.Core.Path.{_≡_};
 ghost use Rattle.matrix.specs.Layout.{cellOf, rowColumns};
 ghost use Rattle.matrix.specs.Facts.{Header, RowSpan};
 ghost use Rattle.rows.specs.Row.{Rises};
-ghost use Rattle.cells.specs.Read.{readAnswer, refusedRead};
+ghost use Rattle.cells.specs.Read.{readAnswer, foundAnswer, refusedRead};
 
-// 0 and the cell, or a refusal code and no value.
+// 0 and whether the cell is present, with its value; or a refusal code. The value is 0 where there is none.
 pub struct CellAnswer {
     pub code: u32,
-    pub cell: Cell,
+    pub present: bool,
+    pub value: u32,
 }
 
 // The cell at row i and column j. INVALID_FIRST where the words are no valid matrix, INDEX_OUT_OF_BOUNDS where the row
@@ -30,10 +31,7 @@ pub fn read_cell(words: &[u32], i: u32, j: u32) -> CellAnswer
     if words[COLS_AT] <= j {
         return refused(INDEX_OUT_OF_BOUNDS);
     }
-    CellAnswer {
-        code: 0,
-        cell: cell_at(words, i as usize, j),
-    }
+    found(cell_at(words, i as usize, j))
 }
 
 // The cell at row i and column j of a valid matrix.
@@ -48,11 +46,29 @@ pub fn cell_at(words: &[u32], i: usize, j: u32) -> Cell
     )
 }
 
+fn found(cell: Cell) -> CellAnswer
+    ensures { λ r. ⌜ r ≡ foundAnswer cell ⌝ }
+{
+    match cell {
+        Cell::Absent => CellAnswer {
+            code: 0,
+            present: false,
+            value: 0,
+        },
+        Cell::Present(v) => CellAnswer {
+            code: 0,
+            present: true,
+            value: v,
+        },
+    }
+}
+
 fn refused(code: u32) -> CellAnswer
     ensures { λ r. ⌜ r ≡ refusedRead code ⌝ }
 {
     CellAnswer {
         code: code,
-        cell: Cell::Absent,
+        present: false,
+        value: 0,
     }
 }

@@ -6,7 +6,7 @@ use mathlib.Core.Bool.{true, false}
 use lib.ListN.{length, drop}
 use borrow.Author.Tests.{le-leb, lt-leb}
 use Rattle.limits.specs.Limits.{maxRows, maxCols}
-use Rattle.answers.specs.Refusals.{accepted, refused, dimensionMismatch, insufficientSpace}
+use Rattle.answers.specs.Refusals.{accepted, refused, invalidShape, insufficientSpace}
 use Rattle.words.specs.Tests.{_and_}
 use Rattle.grid.specs.Grid.{emptyGrid}
 use Rattle.matrix.specs.Layout.{sizeOf}
@@ -16,12 +16,12 @@ use Rattle.create.specs.Create.{createAnswer, createWords, Created}
 use Rattle.create.proofs.Empty.{empty-count}
 
 module _ (w : List ℕ) (r c : ℕ) where
-  pub rows-refused : inRange maxRows r ≡ false → Created w r c (refused dimensionMismatch) w
+  pub rows-refused : inRange maxRows r ≡ false → Created w r c (refused invalidShape) w
   unfolding createAnswer createWords _and_
   rows-refused h = record { answer-is = rw h; words-are = rw h }
 
   pub cols-refused : inRange maxRows r ≡ true → inRange maxCols c ≡ false
-      → Created w r c (refused dimensionMismatch) w
+      → Created w r c (refused invalidShape) w
   unfolding createAnswer createWords _and_
   cols-refused h k = record { answer-is = rw (h, k); words-are = rw (h, k) }
 

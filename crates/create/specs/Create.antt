@@ -8,7 +8,7 @@ use lib.ListN.{length}
 use lib.Dec.{leb}
 use Rattle.limits.specs.Limits.{maxRows, maxCols}
 use Rattle.answers.specs.declared.Answer.{Answer}
-use Rattle.answers.specs.Refusals.{accepted, refused, unlessRefused, dimensionMismatch, insufficientSpace}
+use Rattle.answers.specs.Refusals.{accepted, refused, unlessRefused, invalidShape, insufficientSpace}
 use Rattle.words.specs.Tests.{_and_}
 use Rattle.grid.specs.Grid.{emptyGrid}
 use Rattle.grid.specs.Entries.{entryCount}
@@ -22,7 +22,7 @@ createAnswer w r c =
     (cond (leb (gridSize (emptyGrid r c)) (length w))
     (accepted (entryCount (emptyGrid r c)))
     (refused insufficientSpace))
-    (refused dimensionMismatch)
+    (refused invalidShape)
 
 -- the buffer afterwards
 unfoldable pub createWords : List ℕ → ℕ → ℕ → List ℕ

@@ -1,8 +1,8 @@
 // Making a matrix without entries in a lent buffer (document 01: "lay an empty sheet over whatever words the buffer
 // held").
 use answers::Answer;
-use answers::DIMENSION_MISMATCH;
 use answers::INSUFFICIENT_SPACE;
+use answers::INVALID_SHAPE;
 use limits::MAX_COLS;
 use limits::MAX_ROWS;
 use matrix::layout::COLS_AT;
@@ -20,20 +20,20 @@ ghost use Rattle.encoding.specs.Encode.{encode};
 ghost use Rattle.matrix.specs.Layout.{sizeOf};
 ghost use Rattle.create.specs.Create.{Created};
 
-// The empty matrix of the given shape at the front of the buffer: 0 and 0. DIMENSION_MISMATCH where a number of rows or
+// The empty matrix of the given shape at the front of the buffer: 0 and 0. INVALID_SHAPE where a number of rows or
 // columns is out of range, INSUFFICIENT_SPACE where the buffer is too short.
 pub fn new_empty(buffer: &mut [u32], rows: u32, cols: u32) -> Answer
     ensures { λ r. ⌜ Created (now (buffer .entry)) rows cols r (now (buffer .exit)) ⌝ }
 {
     if !matrix::in_range(rows, MAX_ROWS) {
         return Answer {
-            code: DIMENSION_MISMATCH,
+            code: INVALID_SHAPE,
             entries: 0,
         };
     }
     if !matrix::in_range(cols, MAX_COLS) {
         return Answer {
-            code: DIMENSION_MISMATCH,
+            code: INVALID_SHAPE,
             entries: 0,
         };
     }

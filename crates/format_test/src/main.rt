@@ -1,6 +1,5 @@
 // Runs the calls of the format on document 01's strip, on each kind of damage and on the limits, and prints what they
 // answer: a code and a number, a cell, or the words shown.
-use grid::Cell;
 use libc::STDOUT_FILENO;
 use row_view::Section;
 
@@ -228,8 +227,7 @@ fn reads(words: &[u32], cases: &[u32]) {
 
 fn read(words: &[u32], i: u32, j: u32) {
     let answer = cells::read_cell(words, i, j);
-    let cell = answer.cell;
-    print_cell(i, j, answer.code, cell);
+    print_cell(i, j, answer.code, answer.present, answer.value);
 }
 
 // Makes an empty matrix for each three of a length, rows and columns.
@@ -338,16 +336,17 @@ fn show(label: &[u8], part: &[u32]) {
     io::write_all(STDOUT_FILENO, b"\n");
 }
 
-fn print_cell(i: u32, j: u32, code: u32, cell: Cell) {
+fn print_cell(i: u32, j: u32, code: u32, present: bool, value: u32) {
     io::write_all(STDOUT_FILENO, b"cell ");
     print_number(i);
     io::write_all(STDOUT_FILENO, b" ");
     print_number(j);
     io::write_all(STDOUT_FILENO, b": ");
     print_number(code);
-    match cell {
-        Cell::Present(v) => print_word(b" present", v),
-        Cell::Absent => heading(b" absent"),
+    if present {
+        print_word(b" present", value);
+    } else {
+        heading(b" absent");
     }
 }
 

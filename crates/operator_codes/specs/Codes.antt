@@ -111,12 +111,12 @@ no-monoid-above : monoidNumbered 8 ≡ monoid.Unknown
 unfolding monoidNumbered
 no-monoid-above = refl
 
--- P2: "MINUS, 15 second"
+-- the operator of P2: "MINUS, 15 second"
 minus-fifteen-second : applyNumbered 2 4 15 ≡ apply.Known (BinaryScalarSecond Minus 15)
 unfolding applyNumbered binaryNumbered
 minus-fifteen-second = refl
 
--- P3: "COLINDEX, s = 0"
+-- the operator of P3: "COLINDEX, s = 0"
 colindex-zero : applyNumbered 3 1 0 ≡ apply.Known (IndexUnary ColIndex 0)
 unfolding applyNumbered indexUnaryNumbered
 colindex-zero = refl

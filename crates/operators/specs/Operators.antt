@@ -68,20 +68,20 @@ entryWord (BinaryScalarFirst op s) x i j = binaryWord op s x
 entryWord (BinaryScalarSecond op s) x i j = binaryWord op x s
 entryWord (IndexUnary op s) x i j = indexUnaryWord op i j s
 
--- P4: "PLUS of 2147483647 and 1" is -2147483648
-p4 : signed (binaryWord Plus 2147483647 1) ≡ negℤ (pos 2147483648)
+-- the values of P4: "PLUS of 2147483647 and 1" is -2147483648
+plus-wraps : signed (binaryWord Plus 2147483647 1) ≡ negℤ (pos 2147483648)
 unfolding binaryWord signed word
-p4 = refl
+plus-wraps = refl
 
--- P5: "TIMES of 46341 and 46341" is -2147479015
-p5 : signed (binaryWord Times 46341 46341) ≡ negℤ (pos 2147479015)
+-- of P5: "TIMES of 46341 and 46341" is -2147479015
+times-wraps : signed (binaryWord Times 46341 46341) ≡ negℤ (pos 2147479015)
 unfolding binaryWord signed word
-p5 = refl
+times-wraps = refl
 
--- P6: "TIMES of 65536 and 65536" is 0
-p6 : signed (binaryWord Times 65536 65536) ≡ pos 0
+-- and of P6: "TIMES of 65536 and 65536" is 0
+times-zero : signed (binaryWord Times 65536 65536) ≡ pos 0
 unfolding binaryWord signed word
-p6 = refl
+times-zero = refl
 
 -- MINUS takes y from x: 10 - 15 is -5, which "is stored as 4294967291"
 minus-order : binaryWord Minus 10 15 ≡ 4294967291

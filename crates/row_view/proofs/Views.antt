@@ -2,7 +2,7 @@
 use Prim.Native.Nat.{ℕ, _+_, _<_}
 use native.Mathlib.Omega.{arith}
 use mathlib.Core.Path.{_≡_, ap}
-use mathlib.Core.List.{List, []}
+use mathlib.Core.List.{List}
 use mathlib.Core.Bool.{true, false}
 use denote.Ref.{RefT, now}
 use lib.ListN.{length}
@@ -71,10 +71,10 @@ module _ (a b : List ℕ) (i : ℕ) where
       ne-eqb _ _ f
 
 module _ (section : Section) (r a b : RefT (List ℕ)) (i : ℕ) where
-  pub shown-none : viewable (now a) (now b) i ≡ false → now r ≡ []
+  pub shown-nothing : viewable (now a) (now b) i ≡ false → PartOf r a 0 0
       → Shown r a b (rowView section (now a) (now b) i)
   unfolding rowView
-  shown-none h e = rw h e
+  shown-nothing h p = rw h p
 
   pub shown-second : viewable (now a) (now b) i ≡ true → rowEmpty (now a) i ≡ true
       → PartOf r b (sectionFrom section (now b) i) (sectionTo section (now b) i)

@@ -1,9 +1,8 @@
 -- What a look at one row over two matrices shows (document 01, "The six operations", last paragraph).
 use Prim.Native.Nat.{ℕ, _+_}
-use mathlib.Core.Path.{_≡_}
-use mathlib.Core.List.{List, []}
+use mathlib.Core.List.{List}
 use mathlib.Core.Bool.{Bool, cond}
-use denote.Ref.{RefT, now}
+use denote.Ref.{RefT}
 use lib.Dec.{ltb, eqb}
 use Rattle.words.specs.Tests.{_and_}
 use Rattle.words.specs.Lent.{PartOf}
@@ -12,11 +11,14 @@ use Rattle.matrix.specs.Valid.{valid}
 use Rattle.row_view.specs.declared.Section.{Section}
 use Rattle.row_view.specs.declared.Section.the-variants.{Columns, Values}
 
--- where the part lies: in the first matrix or in the second, from a word up to a word, or nowhere
+-- where the part lies: in the first matrix or in the second, from a word up to, and not including, a word
 pub data View : Type 0 where
   first : ℕ → ℕ → View
   second : ℕ → ℕ → View
-  none : View
+
+-- "the part is empty": the empty part at the front of the first matrix
+abbrev pub nothing : View
+nothing = first 0 0
 
 -- the section asked, "column numbers or values as asked", of row i
 abbrev pub sectionFrom : Section → List ℕ → ℕ → ℕ
@@ -42,10 +44,9 @@ rowView section a b i =
     (cond (rowEmpty a i)
     (second (sectionFrom section b i) (sectionTo section b i))
     (first (sectionFrom section a i) (sectionTo section a i)))
-    none
+    nothing
 
 -- "it is a part of the lent words": r is the part of a or b that the view names
 abbrev pub Shown : RefT (List ℕ) → RefT (List ℕ) → RefT (List ℕ) → View → Type 0
 Shown r a b (first x y) = PartOf r a x y
 Shown r a b (second x y) = PartOf r b x y
-Shown r a b none = now r ≡ []

@@ -22,7 +22,7 @@ lookup [] vals j = Absent
 lookup (c ∷ cols) [] j = Absent
 lookup (c ∷ cols) (v ∷ vals) j = cond (eqb c j) (Present v) (lookup cols vals j)
 
--- how many column numbers come before column j
+-- how many column numbers of a rising row are below j: where column j is, or would be put to keep the order
 unfoldable pub position : ℕ → List ℕ → ℕ
 position j [] = 0
 position j (c ∷ l) = cond (ltb c j) (suc (position j l)) 0

@@ -1,5 +1,5 @@
-// Signed 32-bit arithmetic on words, in two's complement. A word x holds the number `signed x`, and each function
-// gives the word of the exact result, modulo 2^32. Sums and differences are std::num's wrapping_add_u32 and
+// Signed 32-bit arithmetic on words, in two's complement. A word x holds the number `signed x`, and each
+// operation here gives the word of its exact result, modulo 2^32. Sums and differences are std::num's wrapping_add_u32 and
 // wrapping_sub_u32.
 ghost use mathlib.Core.Path.{_≡_};
 ghost use lib.IntN.{negℤ, _*ℤ_};

@@ -8,7 +8,7 @@ use Rattle.rows.proofs.Rising.{rising-rises}
 use Rattle.matrix.specs.Valid.{valid}
 use Rattle.matrix.specs.Facts.{Matrix}
 use Rattle.matrix.proofs.Facts.{matrix-facts, row-span}
-use Rattle.cells.specs.Read.{found}
+use Rattle.cells.specs.Read.{foundAnswer}
 use Rattle.cells.proofs.Cases.{read-invalid, read-past-rows, read-past-cols, read-found}
 use borrow.Author.Needs.{needs}
 use Rattle.cells.proofs.read_cell.Statement.{statement}
@@ -70,10 +70,14 @@ cell-at-requires c κs =
     )
 
 -- src/lib.rt:19:1
+found-requires : tie.Need-found-requires
+found-requires c κs = search needs
+
 returns-4 : tie.Need-returns-4
 returns-4 c =
-    let q = c .before .before .before in
-    ap found (c .cell-at .ensures) ∙ read-found _ _ _ (held (q .before .before)) (q .if2 .left) (c .before .if3 .left)
+    let q = c .before .before .before .before in
+    c .found .ensures ∙ ap foundAnswer (c .before .cell-at .ensures)
+    ∙ read-found _ _ _ (held (q .before .before)) (q .if2 .left) (c .before .before .if3 .left)
 
 pub read-cell-spec : {M : Type 1} → statement M
 read-cell-spec =
@@ -89,4 +93,5 @@ read-cell-spec =
     refused-requires-3
     returns-3
     cell-at-requires
+    found-requires
     returns-4)

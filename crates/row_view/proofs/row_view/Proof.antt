@@ -12,7 +12,7 @@ use Rattle.row_view.proofs.Views.{
   span-second,
   row-empty,
   row-filled,
-  shown-none,
+  shown-nothing,
   shown-second,
   shown-first,
 }
@@ -52,7 +52,8 @@ held : (c : tie.Else1) → Viewable (now (c .before .before .before .before .arg
 held c = viewable-facts _ _ _ (told c)
 
 returns : tie.Need-returns
-returns c = shown-none _ _ _ _ _ (said-no (c .before .before .row-viewable .ensures) (c .before .if1 .taken)) refl
+returns c = shown-nothing _ _ _ _ _ (said-no (c .before .before .row-viewable .ensures) (c .before .if1 .taken))
+    (record { memory = refl; offset = search needs; words = refl })
 
 -- src/lib.rt:24:9
 row-columns-requires : tie.Need-row-columns-requires
