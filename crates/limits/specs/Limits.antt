@@ -12,3 +12,7 @@ maxCols = 512
 -- "N is 0 to 2,048"
 abbrev pub maxEntries : ℕ
 maxEntries = 2048
+
+-- "an index list shorter than 1 or longer than 512"
+abbrev pub maxList : ℕ
+maxList = 512

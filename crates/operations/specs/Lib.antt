@@ -1,3 +1,4 @@
 pub mod CellOperations
 pub mod GridOperations
 pub mod WriteBacks
+pub mod Calls

@@ -26,3 +26,15 @@ pub struct WriteBack {
     pub has_mask: bool,
     pub accumulator: Accumulator,
 }
+
+// A call of one of the six operations, its numbers decoded: the flags, whether every operator, monoid and accumulator
+// number is one, what is computed, whether the first input has to be a vector (it is then never transposed), whether
+// there is a mask, and the accumulator.
+pub struct Call {
+    pub flags: u32,
+    pub known: bool,
+    pub operation: Operation,
+    pub vector_first: bool,
+    pub has_mask: bool,
+    pub accumulator: Accumulator,
+}
