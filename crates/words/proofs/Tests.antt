@@ -32,6 +32,12 @@ pub and-both : {a b : Bool} → a ≡ true → b ≡ true → (a and b) ≡ true
 unfolding _and_
 and-both {a} {b} p q = rw (p, q)
 
+-- tests may be grouped otherwise
+pub and-assoc : (a b c : Bool) → ((a and b) and c) ≡ (a and (b and c))
+unfolding _and_
+and-assoc true b c = refl
+and-assoc false b c = refl
+
 -- what a function's Boolean result said of the test that it stands for, after `if !f(..)`
 pub said-no : {r b : Bool} → r ≡ b → not r ≡ true → b ≡ false
 said-no e t = sym e ∙ not-true _ t
