@@ -1,0 +1,54 @@
+-- The workspace while a result is put together. The column numbers are written where they stay; the values, whose place
+-- depends on their number, are staged behind the largest column section and moved at the end.
+use Prim.Native.Nat.{ℕ, _+_, _-_, _≤_, _<_}
+use mathlib.Core.Path.{_≡_}
+use mathlib.Core.List.{List}
+use lib.ListN.{length, set}
+use Rattle.limits.specs.Limits.{maxRows, maxCols, maxEntries}
+use Rattle.words.specs.Words.{part, overwrite}
+use Rattle.matrix.specs.Layout.{
+  shapeCountAt,
+  rowsAt,
+  colsAt,
+  startCountAt,
+  startsAt,
+  countAt,
+  columnsAt,
+  countAgainAt,
+  valuesAt,
+  maxMatrixWords,
+}
+
+abbrev pub stagedAt : ℕ
+stagedAt = maxMatrixWords - maxEntries
+
+-- row i of r rows can be staged after n entries
+pub record RowBounds (r i n : ℕ) (cs vs w : List ℕ) : Type 0 where
+  pub rows : r ≤ maxRows
+  pub row : i < r
+  pub even : length vs ≡ length cs
+  pub few : n + length cs ≤ maxEntries
+  pub space : maxMatrixWords ≤ length w
+
+-- the start of the row, its column numbers, its values
+abbrev pub stagedRow : ℕ → ℕ → ℕ → List ℕ → List ℕ → List ℕ → List ℕ
+stagedRow r i n cs vs w =
+    overwrite (stagedAt + n) vs (overwrite (columnsAt r + n) cs (set w (i + startsAt) n))
+
+-- n entries in r rows and c columns
+pub record ResultBounds (r c n : ℕ) (w : List ℕ) : Type 0 where
+  pub rows : r ≤ maxRows
+  pub cols : c ≤ maxCols
+  pub few : n ≤ maxEntries
+  pub space : maxMatrixWords ≤ length w
+
+-- the shape and the count of the starts
+abbrev pub headed : ℕ → ℕ → List ℕ → List ℕ
+headed r c w = set (set (set (set w shapeCountAt 2) rowsAt r) colsAt c) startCountAt (r + 1)
+
+-- the values in their place, the counts, the last start, and the head
+abbrev pub finished : ℕ → ℕ → ℕ → List ℕ → List ℕ
+finished r c n w =
+    headed r c
+    (set (set (set (overwrite (valuesAt r n) (part stagedAt (stagedAt + n) w) w) (countAgainAt r n) n) (countAt r) n)
+    (r + startsAt) n)

@@ -1,0 +1,45 @@
+// The result of an operation, put together in the workspace: row by row its columns and values are staged, and at the
+// end the words of the matrix stand at the front.
+use limits::MAX_ENTRIES;
+use matrix::layout::COLS_AT;
+use matrix::layout::COLUMNS_PAST;
+use matrix::layout::COUNT_AGAIN_PAST;
+use matrix::layout::COUNT_PAST;
+use matrix::layout::MAX_MATRIX_WORDS;
+use matrix::layout::ROWS_AT;
+use matrix::layout::SHAPE_COUNT_AT;
+use matrix::layout::START_COUNT_AT;
+use matrix::layout::STARTS_AT;
+use matrix::layout::VALUES_PAST;
+ghost use mathlib.Core.Path.{_≡_};
+ghost use Rattle.results.specs.Staging.{RowBounds, ResultBounds, stagedRow, finished};
+
+// Where the values are staged: behind the largest column section.
+pub const STAGED_VALUES_AT: usize = MAX_MATRIX_WORDS - MAX_ENTRIES as usize;
+
+// Row i of a result of `rows` rows, after n entries: its start, its column numbers and its values.
+pub fn stage_row(work: &mut [u32], rows: usize, i: usize, n: usize, columns: &[u32], values: &[u32])
+    requires { ⌜ RowBounds rows i n (now columns) (now values) (now work) ⌝ }
+    ensures { λ _. ⌜ now (work .exit) ≡ stagedRow rows i n (now (columns .entry)) (now (values .entry)) (now (work .entry)) ⌝ }
+{
+    work[i + STARTS_AT] = n as u32;
+    words::copy_into(work, rows + COLUMNS_PAST + n, columns);
+    words::copy_into(work, STAGED_VALUES_AT + n, values);
+}
+
+// The words of a result whose rows are all staged: the values are moved to their place, and the counts and the shape
+// are written.
+pub fn finish(work: &mut [u32], rows: usize, cols: usize, n: usize)
+    requires { ⌜ ResultBounds rows cols n (now work) ⌝ }
+    ensures { λ _. ⌜ now (work .exit) ≡ finished rows cols n (now (work .entry)) ⌝ }
+{
+    words::move_down(work, STAGED_VALUES_AT, rows + n + VALUES_PAST, n);
+    let count = n as u32;
+    work[rows + n + COUNT_AGAIN_PAST] = count;
+    work[rows + COUNT_PAST] = count;
+    work[rows + STARTS_AT] = count;
+    work[SHAPE_COUNT_AT] = 2;
+    work[ROWS_AT] = rows as u32;
+    work[COLS_AT] = cols as u32;
+    work[START_COUNT_AT] = rows as u32 + 1;
+}
