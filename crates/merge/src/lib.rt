@@ -5,15 +5,135 @@ use operations::Accumulator;
 use operations::WriteBack;
 use operators::BinaryOp;
 ghost use mathlib.Core.Path.{_≡_};
+ghost use Prim.Native.Nat.{_+_, _≤_, _<_, min};
+ghost use lib.ListN.{length, getD};
+ghost use Rattle.rows.specs.Row.{lookup, position, Rises, Row, Holds};
 ghost use Rattle.operations.specs.CellOperations.{intersect, unite};
 ghost use Rattle.operations.specs.WriteBacks.{accumulated, maskHolds, masked, inside, writeBack};
-ghost use Rattle.merge.specs.Combined.{combined};
+ghost use Rattle.merge.specs.Combined.{combined, combinedRow};
+ghost use Rattle.merge.specs.Steps.{Cursor, Put};
 
 // How the cells of two rows make one. Only the write-back looks at the mask.
 pub enum Combine {
     Intersect(BinaryOp),
     Unite(BinaryOp),
     Write(WriteBack),
+}
+
+// Two rows c and t of so many places, and a mask's row m, made into one row at the front of oc and ov. Returns the number
+// of its entries. Only the columns where c or t has an entry are looked at: where both have none, the output has none.
+pub fn merge_row(
+    how: Combine,
+    places: u32,
+    mc: &[u32],
+    mv: &[u32],
+    cc: &[u32],
+    cv: &[u32],
+    tc: &[u32],
+    tv: &[u32],
+    oc: &mut [u32],
+    ov: &mut [u32],
+) -> usize
+    requires { ⌜ Row places (now mc) (now mv) ⌝ }
+    requires { ⌜ Row places (now cc) (now cv) ⌝ }
+    requires { ⌜ Row places (now tc) (now tv) ⌝ }
+    requires { ⌜ (places ≤ length (now oc)) × (places ≤ length (now ov)) ⌝ }
+    ensures { λ r. ⌜ Holds places (combinedRow how (now (mc .entry)) (now (mv .entry)) (now (cc .entry)) (now (cv .entry)) (now (tc .entry)) (now (tv .entry))) r (now (oc .exit)) (now (ov .exit)) ⌝ }
+{
+    let mut m = 0;
+    let mut i = 0;
+    let mut k = 0;
+    let mut e = 0;
+    let mut q = next_column(cc, i, tc, k, places);
+    while q < places {
+        m = seek(mc, m, q);
+        let cell = combine_at(how, q, mc, mv, m, cc, cv, i, tc, tv, k);
+        e = put_cell(oc, ov, e, q, cell);
+        let after = q + 1;
+        i = seek(cc, i, after);
+        k = seek(tc, k, after);
+        q = next_column(cc, i, tc, k, places);
+    }
+    e
+}
+
+// The column number at index i, or `places` past the last.
+fn head(columns: &[u32], i: usize, places: u32) -> u32
+    ensures { λ r. ⌜ r ≡ getD (now (columns .entry)) i places ⌝ }
+{
+    if i < columns.len() {
+        return columns[i];
+    }
+    places
+}
+
+// The next column where one of two rows has an entry, or `places`.
+fn next_column(cc: &[u32], i: usize, tc: &[u32], k: usize, places: u32) -> u32
+    ensures { λ r. ⌜ r ≡ min (getD (now (cc .entry)) i places) (getD (now (tc .entry)) k places) ⌝ }
+{
+    let a = head(cc, i, places);
+    let b = head(tc, k, places);
+    if a < b {
+        return a;
+    }
+    b
+}
+
+// The position of column q, from an index that is not past it.
+fn seek(columns: &[u32], i: usize, q: u32) -> usize
+    requires { ⌜ Rises (now columns) ⌝ }
+    requires { ⌜ i ≤ position q (now columns) ⌝ }
+    ensures { λ r. ⌜ r ≡ position q (now (columns .entry)) ⌝ }
+{
+    let mut k = i;
+    while k < columns.len() {
+        if q <= columns[k] {
+            return k;
+        }
+        k += 1;
+    }
+    k
+}
+
+// The output's cell at column q, whose positions in the three rows are m, i and k.
+fn combine_at(
+    how: Combine,
+    q: u32,
+    mc: &[u32],
+    mv: &[u32],
+    m: usize,
+    cc: &[u32],
+    cv: &[u32],
+    i: usize,
+    tc: &[u32],
+    tv: &[u32],
+    k: usize,
+) -> Cell
+    requires { ⌜ Cursor (now mc) (now mv) m q ⌝ }
+    requires { ⌜ Cursor (now cc) (now cv) i q ⌝ }
+    requires { ⌜ Cursor (now tc) (now tv) k q ⌝ }
+    ensures { λ r. ⌜ r ≡ combinedRow how (now (mc .entry)) (now (mv .entry)) (now (cc .entry)) (now (cv .entry)) (now (tc .entry)) (now (tv .entry)) q ⌝ }
+{
+    let x = rows::cell_at(mc, mv, m, q);
+    let y = rows::cell_at(cc, cv, i, q);
+    let z = rows::cell_at(tc, tv, k, q);
+    combine_cells(how, x, y, z)
+}
+
+// Puts the entry of a cell at column q, if there is one, behind e entries. Returns how many there are then. An entry
+// whose value is 0 counts like any other.
+fn put_cell(oc: &mut [u32], ov: &mut [u32], e: usize, q: u32, cell: Cell) -> usize
+    requires { ⌜ (e < length (now oc)) × (e < length (now ov)) ⌝ }
+    ensures { λ r. ⌜ Put (now (oc .entry)) (now (ov .entry)) (now (oc .exit)) (now (ov .exit)) e q cell r ⌝ }
+{
+    match cell {
+        Cell::Absent => e,
+        Cell::Present(v) => {
+            oc[e] = q;
+            ov[e] = v;
+            e + 1
+        }
+    }
 }
 
 // The cell that the output has where the mask has m, and the two rows c and t.

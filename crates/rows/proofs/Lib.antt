@@ -5,3 +5,4 @@ pub mod Found
 pub mod Lookup
 pub mod Holds
 pub mod Walk
+pub mod Cursors
