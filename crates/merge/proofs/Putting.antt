@@ -23,7 +23,8 @@ module _ (cols vals : List ℕ) (e q : ℕ) (cell : Cell) where
 
 -- column q put behind the columns before it
 pub holds-cell : {f : ℕ → Cell} {e q r : ℕ} {cols vals cols′ vals′ : List ℕ} {cell : Cell} → Holds q f e cols vals
-    → e < length cols → e < length vals → f q ≡ cell → Put cols vals cols′ vals′ e q cell r → Holds (q + 1) f r cols′ vals′
+    → e < length cols → e < length vals → f q ≡ cell → Put cols vals cols′ vals′ e q cell r
+    → Holds (q + 1) f r cols′ vals′
 unfolding one
 holds-cell {f} {e} {q} {r} {cell = Absent} h a b s p =
     let z : r ≡ e = omega (arith, p .count) in

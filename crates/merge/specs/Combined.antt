@@ -1,5 +1,5 @@
--- The three ways to make one row of two: the intersection, the union and the write-back, each by its definition on the
--- cells at one position. The mask's cell m counts for the write-back only.
+-- Three ways to make one row of two (document 01, "The six operations"): "Intersection", "Union" and "Write-back", each
+-- by its definition on the cells at one position. The mask's cell m counts for the write-back only, where c is the old C.
 use Prim.Native.Nat.{ℕ}
 use mathlib.Core.List.{List}
 use Rattle.grid.specs.declared.Cell.{Cell}
@@ -15,6 +15,6 @@ combined (Intersect op) m c t = intersect op c t
 combined (Unite op) m c t = unite op c t
 combined (Write w) m c t = writeBack w m c t
 
--- the output's row, as a function of the column: mc and mv are the mask's row, cc and cv the first, tc and tv the second
+-- the output's row as a function of the column: the mask's row is mc and mv, the two rows cc and cv, tc and tv
 abbrev pub combinedRow : Combine → List ℕ → List ℕ → List ℕ → List ℕ → List ℕ → List ℕ → ℕ → Cell
 combinedRow how mc mv cc cv tc tv j = combined how (lookup mc mv j) (lookup cc cv j) (lookup tc tv j)

@@ -20,8 +20,9 @@ pub enum Combine {
     Write(WriteBack),
 }
 
-// Two rows c and t of so many places, and a mask's row m, made into one row at the front of oc and ov. Returns the number
-// of its entries. Only the columns where c or t has an entry are looked at: where both have none, the output has none.
+// Two rows of `places` columns, (cc, cv) and (tc, tv), made into one under the mask's row (mc, mv). The result is left
+// at the front of `oc` and `ov`, and its number of entries returned. Only the columns where one of the two has an entry
+// are looked at: where both have none, the result has none.
 pub fn merge_row(
     how: Combine,
     places: u32,
@@ -38,7 +39,10 @@ pub fn merge_row(
     requires { ⌜ Row places (now cc) (now cv) ⌝ }
     requires { ⌜ Row places (now tc) (now tv) ⌝ }
     requires { ⌜ (places ≤ length (now oc)) × (places ≤ length (now ov)) ⌝ }
-    ensures { λ r. ⌜ Holds places (combinedRow how (now (mc .entry)) (now (mv .entry)) (now (cc .entry)) (now (cv .entry)) (now (tc .entry)) (now (tv .entry))) r (now (oc .exit)) (now (ov .exit)) ⌝ }
+    ensures { λ r. ⌜ Holds places
+        (combinedRow how (now (mc .entry)) (now (mv .entry)) (now (cc .entry)) (now (cv .entry))
+        (now (tc .entry)) (now (tv .entry)))
+        r (now (oc .exit)) (now (ov .exit)) ⌝ }
 {
     let mut m = 0;
     let mut i = 0;
@@ -112,7 +116,9 @@ fn combine_at(
     requires { ⌜ Cursor (now mc) (now mv) m q ⌝ }
     requires { ⌜ Cursor (now cc) (now cv) i q ⌝ }
     requires { ⌜ Cursor (now tc) (now tv) k q ⌝ }
-    ensures { λ r. ⌜ r ≡ combinedRow how (now (mc .entry)) (now (mv .entry)) (now (cc .entry)) (now (cv .entry)) (now (tc .entry)) (now (tv .entry)) q ⌝ }
+    ensures { λ r. ⌜ r ≡
+        combinedRow how (now (mc .entry)) (now (mv .entry)) (now (cc .entry)) (now (cv .entry))
+        (now (tc .entry)) (now (tv .entry)) q ⌝ }
 {
     let x = rows::cell_at(mc, mv, m, q);
     let y = rows::cell_at(cc, cv, i, q);

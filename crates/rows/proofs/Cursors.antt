@@ -47,7 +47,8 @@ position-grows {cols} rises p q l = go (decLt (position q cols) (position p cols
     go (yes d) =
         let u = stands p cols rises in
         let v = stands q cols rises in
-        absurd (omega (arith, u .within, u .before (position q cols) d, v .after (position q cols) (omega arith) (omega (arith, u .within))))
+        let w : position q cols < length cols = omega (arith, u .within) in
+        absurd (omega (arith, u .before (position q cols) d, v .after (position q cols) (omega arith) w))
     go (no d) = omega arith
 
 -- so an index is not past the position of the column after its own

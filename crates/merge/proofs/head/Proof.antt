@@ -13,7 +13,8 @@ shared-slice-read-result : tie.Need-shared-slice-read-result
 shared-slice-read-result c = search needs
 
 returns : tie.Need-returns
-returns c = let a = c .before .before .args in sym (front-at (a .places) (now (a .columns)) (a .i) (c .before .if1 .taken))
+returns c =
+    let a = c .before .before .args in sym (front-at (a .places) (now (a .columns)) (a .i) (c .before .if1 .taken))
 
 returns-2 : tie.Need-returns-2
 returns-2 c = let a = c .before .args in sym (front-end (a .places) (now (a .columns)) (a .i) (c .if1 .left))

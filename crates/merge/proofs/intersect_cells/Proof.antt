@@ -25,7 +25,8 @@ returns-2 : tie.Need-returns-2
 returns-2 c = search needs
 
 returns-3 : tie.Need-returns-3
-returns-3 c = rw (c .before .before .before .before .before .a .given .1, c .before .before .b .given .1, c .apply-binary .ensures)
+returns-3 c =
+    let b = c .before .before in rw (b .before .before .before .a .given .1, b .b .given .1, c .apply-binary .ensures)
 
 pub intersect-cells-spec : {M : Type 1} → statement M
 intersect-cells-spec =

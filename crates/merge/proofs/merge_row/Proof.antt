@@ -6,11 +6,11 @@ use mathlib.Core.List.{List}
 use denote.Ref.{now}
 use lib.ListN.{getD}
 use borrow.Author.Needs.{needs}
-use Rattle.grid.specs.declared.Cell.{Cell}
 use Rattle.rows.proofs.Cursors.{position-after}
 use Rattle.merge.specs.Combined.{combinedRow}
 use Rattle.merge.proofs.Quiet.{row-quiet}
-use Rattle.merge.proofs.Merging.{Merged, merged-start, merged-room, merged-put, merged-done, merged-up, merged-on}
+use Rattle.merge.proofs.Merging.{Merged, merged-start, merged-room, merged-put, merged-done}
+use Rattle.merge.proofs.Merging.{merged-up, merged-on}
 use Rattle.merge.proofs.merge_row.Statement.{statement}
 use Rattle.merge.proofs.merge_row.Tie as tie
 
@@ -39,8 +39,8 @@ top c = body c .before
 abbrev Done : tie.Start Inv-loop μ-loop → List ℕ → List ℕ → ℕ → ℕ → ℕ → ℕ → ℕ → Type 0
 Done s oc ov m i k e q =
     let a = s .args in
-    Merged (combinedRow (a .how) (now (a .mc)) (now (a .mv)) (now (a .cc)) (now (a .cv)) (now (a .tc)) (now (a .tv))) (a .places)
-    (now (a .mc)) (now (a .cc)) (now (a .tc)) (now (a .oc)) (now (a .ov)) oc ov m i k e q
+    Merged (combinedRow (a .how) (now (a .mc)) (now (a .mv)) (now (a .cc)) (now (a .cv)) (now (a .tc)) (now (a .tv)))
+    (a .places) (now (a .mc)) (now (a .cc)) (now (a .tc)) (now (a .oc)) (now (a .ov)) oc ov m i k e q
 
 -- on to the next column with an entry
 onward : (s : tie.Start Inv-loop μ-loop) {oc ov : List ℕ} {m i k e p q : ℕ} → Done s oc ov m i k e p
@@ -49,8 +49,10 @@ onward : (s : tie.Start Inv-loop μ-loop) {oc ov : List ℕ} {m i k e p q : ℕ}
 onward s h next =
     let a = s .args in
     let w = s .pre in
-    let quiet = row-quiet (a .how) (now (a .mc)) (now (a .mv)) (now (a .cc)) (now (a .cv)) (now (a .tc)) (now (a .tv)) in
-    (merged-up (w .0 .rises) (w .1 .0) (w .1 .1 .0) quiet h next, merged-on (w .0 .rises) (w .1 .0) (w .1 .1 .0) quiet h next)
+    let f = row-quiet (a .how) (now (a .mc)) (now (a .mv)) (now (a .cc)) (now (a .cv)) (now (a .tc)) (now (a .tv)) in (
+      merged-up (w .0 .rises) (w .1 .0) (w .1 .1 .0) f h next,
+      merged-on (w .0 .rises) (w .1 .0) (w .1 .1 .0) f h next,
+    )
 
 next-column-requires : tie.Need-next-column-requires Inv-loop μ-loop
 next-column-requires c κs = search needs

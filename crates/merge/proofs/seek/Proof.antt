@@ -1,5 +1,4 @@
 -- `seek` gives the position: no index that is passed holds column q or a later one.
-use native.Mathlib.Omega.{arith}
 use Prim.Native.Nat.{_-_, _≤_}
 use lib.ListN.{length}
 use borrow.Author.Needs.{needs}
@@ -24,7 +23,8 @@ shared-slice-read-if1 : tie.Need-shared-slice-read-if1 Inv-loop μ-loop
 shared-slice-read-if1 c = search needs
 
 returns : tie.Need-returns Inv-loop μ-loop
-returns c = seek-stop _ (c .before .before .before .before .pre .0) _ _ (c .before .before .before .loop .inv) (c .if1 .taken)
+returns c =
+    let l = c .before .before .before in seek-stop _ (l .before .pre .0) _ _ (l .loop .inv) (c .if1 .taken)
 
 add-k : tie.Need-add-k Inv-loop μ-loop
 add-k c = search needs
@@ -33,10 +33,11 @@ loop-less : tie.Need-loop-less Inv-loop μ-loop
 loop-less c = search needs
 
 loop-again : tie.Need-loop-again Inv-loop μ-loop
-loop-again c = seek-more _ (c .before .before .before .before .pre .0) _ _ (c .before .before .loop-test .taken) (c .if1 .left)
+loop-again c =
+    let b = c .before .before in seek-more _ (b .before .before .pre .0) _ _ (b .loop-test .taken) (c .if1 .left)
 
 returns-2 : tie.Need-returns-2 Inv-loop μ-loop
-returns-2 c = seek-end _ (c .before .before .pre .0) _ _ (c .before .loop .inv) (c .loop-test .left)
+returns-2 c = let l = c .before in seek-end _ (l .before .pre .0) _ _ (l .loop .inv) (c .loop-test .left)
 
 pub seek-spec : {M : Type 1} → statement M
 seek-spec =
