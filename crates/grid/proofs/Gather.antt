@@ -1,8 +1,9 @@
 -- Laws of `gather` and `flatten`, the entries of a row and of several rows. Cited where a row or a matrix is written
 -- from its cells.
-use Prim.Native.Nat.{ℕ, zero, suc, _+_, _≤_, _<_}
+use Prim.Native.Nat.{ℕ, zero, suc, _+_, _-_, _≤_, _<_}
 use native.Mathlib.Omega.{arith}
 use native.Mathlib.Decide.{decLt}
+use native.Mathlib.Nat.{add-zero, add-suc}
 use native.Mathlib.Numerals.{add-one}
 use mathlib.Core.Path.{_≡_, refl, sym, ap}
 use mathlib.Core.List.{List, [], _++_, append-nil, append-assoc}
@@ -80,3 +81,35 @@ module _ {A : Type 0} (emit : ℕ → ℕ → A) (n : ℕ) (cell : ℕ → ℕ �
   flatten-grows k r l =
       let b = flatten-begins k r l in
       omega (arith, simp length-append at (ap length (b .joined)))
+
+-- a cell gives at most one item
+one-most : {A : Type 0} (emit : ℕ → ℕ → A) (j : ℕ) (c : Cell) → length (one emit j c) ≤ 1
+unfolding one
+one-most emit j Absent = omega arith
+one-most emit j (Present v) = omega arith
+
+-- a row that is gathered column by column
+module _ {A : Type 0} (emit : ℕ → ℕ → A) (row : ℕ → Cell) where
+  -- one column more
+  pub gather-next : (n : ℕ) → gather emit (n + 1) row ≡ gather emit n row ++ one emit n (row n)
+  unfolding gather
+  gather-next n = rw add-one
+
+  -- a gap of d columns without entries
+  gather-gap : (p d : ℕ) → ((j : ℕ) → p ≤ j → j < p + d → row j ≡ Absent) → gather emit (p + d) row ≡ gather emit p row
+  unfolding gather one
+  gather-gap p zero h = rw add-zero
+  gather-gap p (suc d) h =
+      rw (add-suc, h (p + d) (omega arith) (omega arith), append-nil) (gather-gap p d (λ j a b. h j a (omega arith)))
+
+  -- columns without entries from p up to q
+  pub gather-skip : (p q : ℕ) → p ≤ q → ((j : ℕ) → p ≤ j → j < q → row j ≡ Absent)
+      → gather emit q row ≡ gather emit p row
+  gather-skip p q l h =
+      let e : q ≡ p + (q - p) = omega arith in rw e (gather-gap p (q - p) (λ j a b. h j a (omega arith)))
+
+  -- a column has at most one entry
+  pub gather-most : (n : ℕ) → length (gather emit n row) ≤ n
+  unfolding gather
+  gather-most zero = omega arith
+  gather-most (suc n) = rw length-append (omega (arith, gather-most n, one-most emit n (row n)))

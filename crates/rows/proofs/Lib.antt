@@ -3,3 +3,6 @@ pub mod Search
 pub mod Position
 pub mod Found
 pub mod Lookup
+pub mod Holds
+pub mod Walk
+pub mod Cursors

@@ -47,7 +47,15 @@ pub fn find_cell(columns: &[u32], values: &[u32], j: u32) -> Cell
     requires { ⌜ Rises (now columns) ⌝ ∗ ⌜ length (now values) ≡ length (now columns) ⌝ }
     ensures { λ r. ⌜ r ≡ lookup (now (columns .entry)) (now (values .entry)) j ⌝ }
 {
-    let p = find_column(columns, j);
+    cell_at(columns, values, find_column(columns, j), j)
+}
+
+// The cell at column j of a valid row, whose position is p.
+pub fn cell_at(columns: &[u32], values: &[u32], p: usize, j: u32) -> Cell
+    requires { ⌜ Rises (now columns) ⌝ ∗ ⌜ length (now values) ≡ length (now columns) ⌝ }
+    requires { ⌜ p ≡ position j (now columns) ⌝ }
+    ensures { λ r. ⌜ r ≡ lookup (now (columns .entry)) (now (values .entry)) j ⌝ }
+{
     if columns.len() <= p {
         return Cell::Absent;
     }
