@@ -42,10 +42,14 @@ module _ {n e : ℕ} {f : ℕ → Cell} {cols vals : List ℕ} (h : Holds n f e 
     values = rw (gather-skip value f n q l a) (h .values);
   }
 
-  -- the same cells under another name
+  -- the same cells, written in another way
   pub holds-same : (g : ℕ → Cell) → ((j : ℕ) → j < n → f j ≡ g j) → Holds n g e cols vals
   holds-same g s = record {
     count = h .count ∙ ap length (gather-same column n f g s);
     columns = h .columns ∙ gather-same column n f g s;
     values = h .values ∙ gather-same value n f g s;
   }
+
+-- a row without entries
+pub holds-absent : (n : ℕ) (f : ℕ → Cell) (cols vals : List ℕ) → ((j : ℕ) → f j ≡ Absent) → Holds n f 0 cols vals
+holds-absent n f cols vals a = holds-skip (holds-none f cols vals) n (omega arith) (λ j l m. a j)

@@ -24,6 +24,10 @@ front-at n (c ∷ cols) (suc p) l = front-at n cols p (omega arith)
 pub front-end : (n : ℕ) (cols : List ℕ) (p : ℕ) → length cols ≤ p → front n cols p ≡ n
 front-end n cols p l = List·getD-eq-default cols n l
 
+-- without entries every cell is absent
+pub absent-all : (cols vals : List ℕ) → length cols ≡ 0 → (j : ℕ) → lookup cols vals j ≡ Absent
+absent-all cols vals l j = lookup-absent cols vals j (λ k m e. omega arith)
+
 module _ {n : ℕ} {cols vals : List ℕ} (w : Row n cols vals) where
   -- the cell of entry p
   pub lookup-entry : (p : ℕ) → p < length cols → lookup cols vals (at cols p) ≡ Present (at vals p)

@@ -1,0 +1,4 @@
+pub mod Cells
+pub mod Sweep
+pub mod Spreading
+pub mod Gathering
