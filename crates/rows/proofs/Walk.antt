@@ -29,6 +29,14 @@ pub absent-all : (cols vals : List ℕ) → length cols ≡ 0 → (j : ℕ) → 
 absent-all cols vals l j = lookup-absent cols vals j (λ k m e. omega arith)
 
 module _ {n : ℕ} {cols vals : List ℕ} (w : Row n cols vals) where
+  -- it is a row of more columns too
+  pub row-wider : {m : ℕ} → n ≤ m → Row m cols vals
+  row-wider l = record {
+    even = w .even;
+    rises = w .rises;
+    small = λ a b. omega (arith, w .small a b);
+  }
+
   -- the cell of entry p
   pub lookup-entry : (p : ℕ) → p < length cols → lookup cols vals (at cols p) ≡ Present (at vals p)
   lookup-entry p l = lookup-at cols vals p (w .even) l (λ k b. w .rises .up k p b l)

@@ -1,0 +1,3 @@
+pub mod Dot
+pub mod Adding
+pub mod Summing
