@@ -21,7 +21,7 @@ pub mod layout;
 ghost use mathlib.Core.Path.{_≡_};
 ghost use Prim.Native.Nat.{_+_};
 ghost use Rattle.words.specs.Lent.{PartOf};
-ghost use Rattle.matrix.specs.Layout.{entries, columnsFrom, valuesFrom};
+ghost use Rattle.matrix.specs.Layout.{rows, cols, entries, columnsFrom, valuesFrom};
 ghost use Rattle.matrix.specs.Valid.{inRange, headerValid, startsValid, rowsValid, valid, checkAnswer};
 ghost use Rattle.matrix.specs.Facts.{Header, Starts, RowSpan};
 
@@ -61,6 +61,22 @@ pub fn entry_count(words: &[u32]) -> u32
 {
     let r = words[ROWS_AT] as usize;
     words[r + COUNT_PAST]
+}
+
+// The number of rows.
+pub fn row_count(words: &[u32]) -> u32
+    requires { ⌜ Header (now words) ⌝ }
+    ensures { λ r. ⌜ r ≡ rows (now (words .entry)) ⌝ }
+{
+    words[ROWS_AT]
+}
+
+// The number of columns.
+pub fn col_count(words: &[u32]) -> u32
+    requires { ⌜ Header (now words) ⌝ }
+    ensures { λ r. ⌜ r ≡ cols (now (words .entry)) ⌝ }
+{
+    words[COLS_AT]
 }
 
 // The column numbers of row i.

@@ -2,3 +2,4 @@ pub mod CellOperations
 pub mod GridOperations
 pub mod WriteBacks
 pub mod Calls
+pub mod Lists

@@ -10,7 +10,7 @@ use borrow.Author.Tests.{lt-ltb}
 use Rattle.words.specs.Words.{at}
 use Rattle.words.specs.Tests.{all}
 use Rattle.words.proofs.Tests.{refuted, all-none, all-more}
-use Rattle.requests.proofs.Lists.{list-facts, list-made}
+use Rattle.operations.proofs.Lists.{list-facts, list-made}
 use borrow.Author.Needs.{needs}
 use Rattle.requests.proofs.list_valid.Statement.{statement}
 use Rattle.requests.proofs.list_valid.Tie as tie

@@ -10,13 +10,8 @@ use Rattle.limits.specs.Limits.{maxList}
 use Rattle.words.specs.Words.{at}
 use Rattle.words.specs.Tests.{_and_, all}
 use Rattle.words.proofs.Tests.{and-left, and-right, and-both, all-at}
 use Rattle.operations.specs.Calls.{listValid}
-
--- an index list that fits n rows or columns
-pub record IndexList (n : ℕ) (l : List ℕ) : Type 0 where
-  pub least : 1 ≤ length l
-  pub most : length l ≤ maxList
-  pub below : (k : ℕ) → k < length l → at l k < n
+use Rattle.operations.specs.Lists.{IndexList}
 
 pub list-facts : (n : ℕ) (l : List ℕ) → listValid n l ≡ true → IndexList n l
 unfolding listValid

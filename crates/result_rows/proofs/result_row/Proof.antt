@@ -1,0 +1,108 @@
+use borrow.Author.Needs.{needs}
+use Rattle.result_rows.proofs.result_row.Statement.{statement}
+use Rattle.result_rows.proofs.result_row.Tie as tie
+
+enum-known-operation : tie.Need-enum-known-operation
+enum-known-operation c = search needs
+
+product-requires : tie.Need-product-requires
+product-requires c κs = search needs
+
+enum-known-operation-2 : tie.Need-enum-known-operation-2
+enum-known-operation-2 c = search needs
+
+pair-requires : tie.Need-pair-requires
+pair-requires c κs = search needs
+
+enum-known-operation-3 : tie.Need-enum-known-operation-3
+enum-known-operation-3 c = search needs
+
+pair-requires-2 : tie.Need-pair-requires-2
+pair-requires-2 c κs = search needs
+
+enum-known-operation-4 : tie.Need-enum-known-operation-4
+enum-known-operation-4 c = search needs
+
+applied-requires : tie.Need-applied-requires
+applied-requires c κs = search needs
+
+enum-told : tie.Need-enum-told
+enum-told c = search needs
+
+extracted-requires : tie.Need-extracted-requires
+extracted-requires c κs = search needs
+
+same-length : tie.Need-same-length
+same-length c = search needs
+
+same-length-2 : tie.Need-same-length-2
+same-length-2 c = search needs
+
+returns : tie.Need-returns
+returns c = ?
+
+same-length-3 : tie.Need-same-length-3
+same-length-3 c = search needs
+
+same-length-4 : tie.Need-same-length-4
+same-length-4 c = search needs
+
+returns-2 : tie.Need-returns-2
+returns-2 c = ?
+
+same-length-5 : tie.Need-same-length-5
+same-length-5 c = search needs
+
+same-length-6 : tie.Need-same-length-6
+same-length-6 c = search needs
+
+returns-3 : tie.Need-returns-3
+returns-3 c = ?
+
+same-length-7 : tie.Need-same-length-7
+same-length-7 c = search needs
+
+same-length-8 : tie.Need-same-length-8
+same-length-8 c = search needs
+
+returns-4 : tie.Need-returns-4
+returns-4 c = ?
+
+same-length-9 : tie.Need-same-length-9
+same-length-9 c = search needs
+
+same-length-10 : tie.Need-same-length-10
+same-length-10 c = search needs
+
+returns-5 : tie.Need-returns-5
+returns-5 c = ?
+
+pub result-row-spec : {M : Type 1} → statement M
+result-row-spec =
+    tie.close
+    (tie.spec
+    enum-known-operation
+    product-requires
+    enum-known-operation-2
+    pair-requires
+    enum-known-operation-3
+    pair-requires-2
+    enum-known-operation-4
+    applied-requires
+    enum-told
+    extracted-requires
+    same-length
+    same-length-2
+    returns
+    same-length-3
+    same-length-4
+    returns-2
+    same-length-5
+    same-length-6
+    returns-3
+    same-length-7
+    same-length-8
+    returns-4
+    same-length-9
+    same-length-10
+    returns-5)

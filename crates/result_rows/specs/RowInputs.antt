@@ -1,0 +1,53 @@
+-- What the rows of T need of the inputs, which are valid matrices as their flags ask.
+use Prim.Native.Nat.{ℕ, _≤_, _<_}
+use mathlib.Core.Path.{_≡_}
+use mathlib.Core.List.{List}
+use mathlib.Core.Bool.{true, false}
+use lib.ListN.{length}
+use Rattle.limits.specs.Limits.{maxList}
+use Rattle.words.specs.Words.{at}
+use Rattle.grid.specs.declared.Cell.{Cell}
+use Rattle.grid.specs.declared.Cell.the-variants.{Absent}
+use Rattle.grid.specs.Grid.{Grid}
+use Rattle.operations.specs.declared.Operation.{Operation}
+use Rattle.operations.specs.GridOperations.{resultGrid}
+use Rattle.operations.specs.Calls.{hasSecond, inputsAgree, listsValid}
+use Rattle.matrix.specs.Layout.{rows, cols, gridOf}
+use Rattle.matrix.specs.Facts.{Matrix}
+
+-- the matrices that the operation has are valid, their shapes and the lists agree, and T has row i
+pub record RowInputs (op : Operation) (a b is js : List ℕ) (i : ℕ) : Type 0 where
+  pub first : Matrix a
+  pub second : hasSecond op ≡ true → Matrix b
+  pub agree : inputsAgree op (gridOf a) (gridOf b) ≡ true
+  pub lists : listsValid op (gridOf a) is js ≡ true
+  pub row : i < resultGrid op false (gridOf a) (gridOf b) is js .rows
+
+-- two buffers that can hold a row of g
+pub record Buffers (g : Grid) (oc ov : List ℕ) : Type 0 where
+  pub columns : g .cols ≤ length oc
+  pub values : g .cols ≤ length ov
+
+pub record ProductInputs (a b : List ℕ) (i : ℕ) : Type 0 where
+  pub first : Matrix a
+  pub second : Matrix b
+  pub inner : cols a ≡ rows b
+  pub row : i < rows a
+
+pub record PairInputs (a b : List ℕ) (i : ℕ) : Type 0 where
+  pub first : Matrix a
+  pub second : Matrix b
+  pub same-rows : rows a ≡ rows b
+  pub same-cols : cols a ≡ cols b
+  pub row : i < rows a
+
+pub record ListInputs (a is js : List ℕ) (i : ℕ) : Type 0 where
+  pub first : Matrix a
+  pub row : i < length is
+  pub listed : at is i < rows a
+  pub few : length js ≤ maxList
+  pub below : (k : ℕ) → k < length js → at js k < cols a
+
+-- a mask's cell where there is no mask
+abbrev pub noCell : Cell
+noCell = Absent
