@@ -7,7 +7,7 @@ use mathlib.Core.Bool.{Bool}
 use lib.ListN.{length, set, length-set}
 use Rattle.words.specs.Words.{at}
 use Rattle.grid.specs.declared.Cell.{Cell}
-use Rattle.grid.specs.declared.Cell.the-variants.{Absent, Present}
+use Rattle.grid.specs.declared.Cell.the-variants.{Present}
 use Rattle.operators.specs.declared.ApplyOp.{ApplyOp}
 use Rattle.operators.specs.Operators.{entryWord}
 use Rattle.operations.specs.CellOperations.{applyCell}

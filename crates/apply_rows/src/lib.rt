@@ -21,7 +21,10 @@ pub fn apply_row(
     ov: &mut [u32],
 ) -> usize
     requires { ⌜ Row places (now columns) (now values) ⌝ ∗ ⌜ (places ≤ length (now oc)) × (places ≤ length (now ov)) ⌝ }
-    ensures { λ r. ⌜ Holds places (λ j. applyCell op (storedRow transposed i j) (storedCol transposed i j) (lookup (now (columns .entry)) (now (values .entry)) j)) r (now (oc .exit)) (now (ov .exit)) ⌝ }
+    ensures { λ r. ⌜ Holds places
+        (λ j. applyCell op (storedRow transposed i j) (storedCol transposed i j)
+        (lookup (now (columns .entry)) (now (values .entry)) j))
+        r (now (oc .exit)) (now (ov .exit)) ⌝ }
 {
     let mut p: usize = 0;
     while p < columns.len() {

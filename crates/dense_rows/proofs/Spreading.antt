@@ -1,6 +1,6 @@
 -- The loop of `spread_row`: the entries before p are spread.
 use Prim.Native.Nat.{ℕ, _+_, _≤_, _<_}
-use mathlib.Core.Path.{_≡_, sym, _∙_}
+use mathlib.Core.Path.{sym, _∙_}
 use mathlib.Core.List.{List}
 use lib.ListN.{length, set}
 use Rattle.limits.specs.Limits.{maxCols}

@@ -19,7 +19,9 @@ pub fn extract_row(
 ) -> usize
     requires { ⌜ Row maxCols (now columns) (now values) ⌝ ∗ ⌜ Indices (now list) ⌝ }
     requires { ⌜ (length (now list) ≤ length (now oc)) × (length (now list) ≤ length (now ov)) ⌝ }
-    ensures { λ r. ⌜ Holds (length (now (list .entry))) (λ j. lookup (now (columns .entry)) (now (values .entry)) (at (now (list .entry)) j)) r (now (oc .exit)) (now (ov .exit)) ⌝ }
+    ensures { λ r. ⌜ Holds (length (now (list .entry)))
+        (λ j. lookup (now (columns .entry)) (now (values .entry)) (at (now (list .entry)) j))
+        r (now (oc .exit)) (now (ov .exit)) ⌝ }
 {
     if columns.len() == 0 {
         return 0;
@@ -38,8 +40,11 @@ fn gather_listed(
     oc: &mut [u32],
     ov: &mut [u32],
 ) -> usize
-    requires { ⌜ Indices (now list) ⌝ ∗ ⌜ (length (now list) ≤ length (now oc)) × (length (now list) ≤ length (now ov)) ⌝ }
-    ensures { λ r. ⌜ Holds (length (now (list .entry))) (λ j. dense (now (marks .entry)) (now (cells .entry)) (at (now (list .entry)) j)) r (now (oc .exit)) (now (ov .exit)) ⌝ }
+    requires { ⌜ Indices (now list) ⌝ }
+    requires { ⌜ (length (now list) ≤ length (now oc)) × (length (now list) ≤ length (now ov)) ⌝ }
+    ensures { λ r. ⌜ Holds (length (now (list .entry)))
+        (λ j. dense (now (marks .entry)) (now (cells .entry)) (at (now (list .entry)) j))
+        r (now (oc .exit)) (now (ov .exit)) ⌝ }
 {
     let mut e: usize = 0;
     let mut j: usize = 0;

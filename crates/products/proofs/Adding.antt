@@ -1,7 +1,7 @@
 -- The loop of `add_row`: the entries before p of a row, each times x, are added to a dense row.
 use Prim.Native.Nat.{ℕ, _+_, _≤_, _<_}
 use native.Mathlib.Omega.{arith}
-use mathlib.Core.Path.{_≡_, refl, sym, _∙_}
+use mathlib.Core.Path.{_≡_, _∙_}
 use mathlib.Core.List.{List}
 use lib.ListN.{length, set}
 use Rattle.limits.specs.Limits.{maxCols}
@@ -11,26 +11,23 @@ use Rattle.grid.specs.declared.Cell.the-variants.{Absent, Present}
 use Rattle.operators.specs.declared.BinaryOp.{BinaryOp}
 use Rattle.operators.specs.declared.Monoid.{Monoid}
 use Rattle.operators.specs.Operators.{binaryWord, monoidOp}
-use Rattle.operations.specs.CellOperations.{intersect, unite}
+use Rattle.operations.specs.CellOperations.{unite}
 use Rattle.rows.specs.Row.{lookup, Row}
 use Rattle.rows.proofs.Walk.{front-at, lookup-entry}
 use Rattle.dense_rows.specs.Dense.{marked, dense, Sized, Spread}
 use Rattle.dense_rows.proofs.Cells.{stored-sized, stored-here, stored-other}
 use Rattle.dense_rows.proofs.Sweep.{Swept, swept-start, swept-step, swept-done}
+use Rattle.products.specs.Products.{addedRow}
 use Rattle.products.proofs.Dot.{unite-absent}
-
--- the row `old` with x times the row `row` added
-abbrev pub added : Monoid → BinaryOp → ℕ → (ℕ → Cell) → (ℕ → Cell) → ℕ → Cell
-added monoid op x row old j = unite (monoidOp monoid) (old j) (intersect op (Present x) (row j))
 
 pub record Adding (monoid : Monoid) (op : BinaryOp) (x : ℕ) (cols vals : List ℕ) (old : ℕ → Cell) (marks cells : List ℕ)
     (p : ℕ) : Type 0 where
   pub sized : Sized marks cells
-  pub swept : Swept maxCols cols old (added monoid op x (lookup cols vals) old) (dense marks cells) p
+  pub swept : Swept maxCols cols old (addedRow monoid op x (lookup cols vals) old) (dense marks cells) p
 
 -- where the row has no entry nothing is added
 keeps : (monoid : Monoid) (op : BinaryOp) (x : ℕ) (row old : ℕ → Cell) (j : ℕ) → row j ≡ Absent
-    → added monoid op x row old j ≡ old j
+    → addedRow monoid op x row old j ≡ old j
 keeps monoid op x row old j e = rw e (unite-absent (monoidOp monoid) (old j))
 
 module _ {cols vals : List ℕ} (w : Row maxCols cols vals) {monoid : Monoid} {op : BinaryOp} {x : ℕ} {old : ℕ → Cell} where
@@ -54,5 +51,5 @@ module _ {cols vals : List ℕ} (w : Row maxCols cols vals) {monoid : Monoid} {o
               (stored-other (h .sized) c s);
         }
 
-    pub adding-done : length cols ≤ p → Spread (added monoid op x (lookup cols vals) old) marks cells
+    pub adding-done : length cols ≤ p → Spread (addedRow monoid op x (lookup cols vals) old) marks cells
     adding-done l = record { sized = h .sized; cell = swept-done w (keeps monoid op x _ old) (h .swept) l }

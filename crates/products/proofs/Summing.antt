@@ -1,13 +1,13 @@
 -- The loop of `add_rows`: the rows of the matrix b that the entries before p name are added up.
 use Prim.Native.Nat.{ℕ, _+_, _≤_, _<_}
 use native.Mathlib.Omega.{arith}
-use mathlib.Core.Path.{_≡_, refl, sym, ap, _∙_}
+use mathlib.Core.Path.{_≡_, sym, ap, _∙_}
 use mathlib.Core.List.{List}
 use lib.ListN.{length}
 use Rattle.limits.specs.Limits.{maxCols}
 use Rattle.words.specs.Words.{at}
 use Rattle.grid.specs.declared.Cell.{Cell}
-use Rattle.grid.specs.declared.Cell.the-variants.{Absent, Present}
+use Rattle.grid.specs.declared.Cell.the-variants.{Absent}
 use Rattle.operators.specs.declared.BinaryOp.{BinaryOp}
 use Rattle.operators.specs.declared.Monoid.{Monoid}
 use Rattle.operations.specs.CellOperations.{dot}
@@ -18,8 +18,8 @@ use Rattle.matrix.specs.Facts.{Matrix}
 use Rattle.matrix.proofs.Facts.{matrix-made}
 use Rattle.encoding.proofs.Canonical.{valid-row}
 use Rattle.dense_rows.specs.Dense.{dense, Sized, Spread}
+use Rattle.products.specs.Products.{addedRow}
 use Rattle.products.proofs.Dot.{dot-next, dot-skip}
-use Rattle.products.proofs.Adding.{added}
 
 -- row k of a matrix fits the dense row
 pub matrix-row : (b : List ℕ) → Matrix b → (k : ℕ) → k < rows b → Row maxCols (rowColumns b k) (rowValues b k)
@@ -45,7 +45,7 @@ module _ {n : ℕ} {cols vals : List ℕ} (w : Row n cols vals) {monoid : Monoid
   module _ {marks cells : List ℕ} {p : ℕ} (h : Summing monoid op n cols vals b marks cells p) where
     -- entry p times its row of b is added
     pub summing-step : {marks′ cells′ : List ℕ} → p < length cols
-        → Spread (added monoid op (at vals p) (b (at cols p)) (dense marks cells)) marks′ cells′
+        → Spread (addedRow monoid op (at vals p) (b (at cols p)) (dense marks cells)) marks′ cells′
         → Summing monoid op n cols vals b marks′ cells′ (p + 1)
     summing-step {marks′} {cells′} l s = record {
       sized = s .sized;

@@ -10,11 +10,12 @@ ghost use lib.ListN.{length};
 ghost use Rattle.limits.specs.Limits.{maxCols};
 ghost use Rattle.grid.specs.declared.Cell.the-variants.{Absent, Present};
 ghost use Rattle.operators.specs.Operators.{monoidOp};
-ghost use Rattle.operations.specs.CellOperations.{intersect, unite, dot};
+ghost use Rattle.operations.specs.CellOperations.{unite};
 ghost use Rattle.rows.specs.Row.{lookup, Row, Holds};
 ghost use Rattle.matrix.specs.Layout.{rows, cols, rowColumns, rowValues, cellOf};
 ghost use Rattle.matrix.specs.Facts.{Header, RowSpan, Matrix};
 ghost use Rattle.dense_rows.specs.Dense.{marked, dense, Sized, Spread};
+ghost use Rattle.products.specs.Products.{productRow, addedRow};
 
 // The row of the first input times the matrix b, to the front of `oc` and `ov`; its number of entries. A row without
 // entries costs nothing.
@@ -29,7 +30,9 @@ pub fn product_row(
 ) -> usize
     requires { ⌜ Row (rows (now b)) (now columns) (now values) ⌝ ∗ ⌜ Matrix (now b) ⌝ }
     requires { ⌜ (cols (now b) ≤ length (now oc)) × (cols (now b) ≤ length (now ov)) ⌝ }
-    ensures { λ r. ⌜ Holds (cols (now (b .entry))) (λ j. dot monoid op (rows (now (b .entry))) (lookup (now (columns .entry)) (now (values .entry))) (λ k. cellOf (now (b .entry)) k j)) r (now (oc .exit)) (now (ov .exit)) ⌝ }
+    ensures { λ r. ⌜ Holds (cols (now (b .entry)))
+        (productRow monoid op (lookup (now (columns .entry)) (now (values .entry))) (now (b .entry)))
+        r (now (oc .exit)) (now (ov .exit)) ⌝ }
 {
     if columns.len() == 0 {
         return 0;
@@ -52,7 +55,9 @@ fn add_rows(
 )
     requires { ⌜ Row (rows (now b)) (now columns) (now values) ⌝ ∗ ⌜ Matrix (now b) ⌝ }
     requires { ⌜ Spread (λ j. Absent) (now marks) (now cells) ⌝ }
-    ensures { λ _. ⌜ Spread (λ j. dot monoid op (rows (now (b .entry))) (lookup (now (columns .entry)) (now (values .entry))) (λ k. cellOf (now (b .entry)) k j)) (now (marks .exit)) (now (cells .exit)) ⌝ }
+    ensures { λ _. ⌜ Spread
+        (productRow monoid op (lookup (now (columns .entry)) (now (values .entry))) (now (b .entry)))
+        (now (marks .exit)) (now (cells .exit)) ⌝ }
 {
     let mut p: usize = 0;
     while p < columns.len() {
@@ -74,7 +79,9 @@ fn add_matrix_row(
 )
     requires { ⌜ Header (now b) ⌝ ∗ ⌜ RowSpan (now b) k ⌝ ∗ ⌜ Row maxCols (rowColumns (now b) k) (rowValues (now b) k) ⌝ }
     requires { ⌜ Sized (now marks) (now cells) ⌝ }
-    ensures { λ _. ⌜ Spread (λ j. unite (monoidOp monoid) (dense (now (marks .entry)) (now (cells .entry)) j) (intersect op (Present x) (cellOf (now (b .entry)) k j))) (now (marks .exit)) (now (cells .exit)) ⌝ }
+    ensures { λ _. ⌜ Spread
+        (addedRow monoid op x (cellOf (now (b .entry)) k) (dense (now (marks .entry)) (now (cells .entry))))
+        (now (marks .exit)) (now (cells .exit)) ⌝ }
 {
     add_row(
         monoid,
@@ -98,7 +105,10 @@ fn add_row(
     cells: &mut [u32; ROW_PLACES],
 )
     requires { ⌜ Row maxCols (now columns) (now values) ⌝ ∗ ⌜ Sized (now marks) (now cells) ⌝ }
-    ensures { λ _. ⌜ Spread (λ j. unite (monoidOp monoid) (dense (now (marks .entry)) (now (cells .entry)) j) (intersect op (Present x) (lookup (now (columns .entry)) (now (values .entry)) j))) (now (marks .exit)) (now (cells .exit)) ⌝ }
+    ensures { λ _. ⌜ Spread
+        (addedRow monoid op x (lookup (now (columns .entry)) (now (values .entry)))
+        (dense (now (marks .entry)) (now (cells .entry))))
+        (now (marks .exit)) (now (cells .exit)) ⌝ }
 {
     let mut p: usize = 0;
     while p < columns.len() {

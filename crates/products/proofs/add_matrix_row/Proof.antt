@@ -21,7 +21,7 @@ returns : tie.Need-returns
 unfolding cellOf
 returns c =
     let values = c .before .before .before in
-    rw (← values .before .row-columns .ensures .words, ← values .row-values .ensures .words) (c .add-row .ensures)
+    rw (values .before .row-columns .ensures .words, values .row-values .ensures .words) at (c .add-row .ensures)
 
 pub add-matrix-row-spec : {M : Type 1} → statement M
 add-matrix-row-spec =

@@ -1,0 +1,18 @@
+-- Rows of the product, as functions of the column.
+use Prim.Native.Nat.{ℕ}
+use mathlib.Core.List.{List}
+use Rattle.grid.specs.declared.Cell.{Cell}
+use Rattle.grid.specs.declared.Cell.the-variants.{Present}
+use Rattle.operators.specs.declared.BinaryOp.{BinaryOp}
+use Rattle.operators.specs.declared.Monoid.{Monoid}
+use Rattle.operators.specs.Operators.{monoidOp}
+use Rattle.operations.specs.CellOperations.{intersect, unite, dot}
+use Rattle.matrix.specs.Layout.{rows, cellOf}
+
+-- the row a times the matrix b
+abbrev pub productRow : Monoid → BinaryOp → (ℕ → Cell) → List ℕ → ℕ → Cell
+productRow monoid op a b j = dot monoid op (rows b) a (λ k. cellOf b k j)
+
+-- the row `sum` after x times the row b is added
+abbrev pub addedRow : Monoid → BinaryOp → ℕ → (ℕ → Cell) → (ℕ → Cell) → ℕ → Cell
+addedRow monoid op x b sum j = unite (monoidOp monoid) (sum j) (intersect op (Present x) (b j))
