@@ -9,6 +9,7 @@ use borrow.Author.Tests.{eqb-true}
 use Rattle.limits.specs.Limits.{maxCols}
 use Rattle.words.specs.Words.{at}
 use Rattle.words.proofs.Tests.{and-left, and-right}
+use Rattle.grid.specs.Grid.{Grid}
 use Rattle.rows.specs.Row.{Row, lookup}
 use Rattle.matrix.specs.Layout.{rows, cols, rowColumns, rowValues, cellOf}
 use Rattle.matrix.specs.Facts.{Matrix, RowSpan}
@@ -21,7 +22,7 @@ use Rattle.operations.specs.declared.Operation.the-variants.{Mxm, EwiseMult, Ew
 use Rattle.operations.specs.Lists.{IndexList}
 use Rattle.operations.proofs.Lists.{list-facts}
 use Rattle.extract_rows.specs.Indices.{Indices}
-use Rattle.result_rows.specs.RowInputs.{RowInputs, ProductInputs, PairInputs, ListInputs}
+use Rattle.result_rows.specs.RowInputs.{RowInputs, Buffers, ProductInputs, PairInputs, ListInputs}
 
 -- a row of a valid matrix, and where it lies
 pub matrix-row : (s : List ℕ) → Matrix s → (i : ℕ) → i < rows s → Row (cols s) (rowColumns s i) (rowValues s i)
@@ -92,3 +93,7 @@ indices h = record {
   few = omega (arith, h .few);
   index = λ k l. let m = h .below k l in let c = h .first .header .col-range .most in omega arith;
 }
+
+-- buffers for a row of T, said of their lengths
+pub buffers : {g : Grid} {oc ov : List ℕ} → Buffers g oc ov → (g .cols ≤ length oc) × (g .cols ≤ length ov)
+buffers h = (h .columns, h .values)

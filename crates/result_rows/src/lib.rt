@@ -1,7 +1,9 @@
 // A row of T for any of the operations. The inputs are valid matrices, as their transpose flags ask.
 use merge::Combine;
 use operations::Operation;
-use operators::{ApplyOp, BinaryOp, Monoid};
+use operators::ApplyOp;
+use operators::BinaryOp;
+use operators::Monoid;
 ghost use mathlib.Core.Path.{_≡_};
 ghost use Prim.Native.Nat.{_≤_, _<_};
 ghost use lib.ListN.{length};
@@ -42,14 +44,30 @@ pub fn result_row(
 }
 
 // The product's row.
-fn product(monoid: Monoid, op: BinaryOp, a: &[u32], b: &[u32], i: usize, oc: &mut [u32], ov: &mut [u32]) -> usize
+fn product(
+    monoid: Monoid,
+    op: BinaryOp,
+    a: &[u32],
+    b: &[u32],
+    i: usize,
+    oc: &mut [u32],
+    ov: &mut [u32],
+) -> usize
     requires { ⌜ ProductInputs (now a) (now b) i ⌝ }
     requires { ⌜ (cols (now b) ≤ length (now oc)) × (cols (now b) ≤ length (now ov)) ⌝ }
     ensures { λ r. ⌜ Holds (cols (now (b .entry)))
         (λ j. dot monoid op (cols (now (a .entry))) (cellOf (now (a .entry)) i) (λ k. cellOf (now (b .entry)) k j))
         r (now (oc .exit)) (now (ov .exit)) ⌝ }
 {
-    products::product_row(monoid, op, matrix::row_columns(a, i), matrix::row_values(a, i), b, oc, ov)
+    products::product_row(
+        monoid,
+        op,
+        matrix::row_columns(a, i),
+        matrix::row_values(a, i),
+        b,
+        oc,
+        ov,
+    )
 }
 
 // A row of the intersection or the union.
@@ -103,5 +121,11 @@ fn extracted(a: &[u32], is: &[u32], js: &[u32], i: usize, oc: &mut [u32], ov: &m
         r (now (oc .exit)) (now (ov .exit)) ⌝ }
 {
     let row = is[i] as usize;
-    extract_rows::extract_row(matrix::row_columns(a, row), matrix::row_values(a, row), js, oc, ov)
+    extract_rows::extract_row(
+        matrix::row_columns(a, row),
+        matrix::row_values(a, row),
+        js,
+        oc,
+        ov,
+    )
 }

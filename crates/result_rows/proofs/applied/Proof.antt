@@ -21,7 +21,7 @@ row-values-requires : tie.Need-row-values-requires
 row-values-requires c κs = let p = c .before .before .before .before .before .pre in (p .0 .header, matrix-span _ (p .0) _ (p .1 .0))
 
 apply-row-requires : tie.Need-apply-row-requires
-apply-row-requires c κs = 
+apply-row-requires c κs =
     let p = c .before .before .before .before .before .before .before .before .pre in
     let r = c .before .before in
     rw (r .before .before .col-count .ensures) (
@@ -37,11 +37,12 @@ same-length-2 c = search needs
 
 returns : tie.Need-returns
 unfolding cellOf
-returns c = 
+returns c =
     let q = c .before .before .before .before in
     let r = q .before .before .before in
     rw (
-      ← (r .before .row-columns .ensures .words), ← (r .row-values .ensures .words),
+      ← (r .before .row-columns .ensures .words),
+      ← (r .row-values .ensures .words),
       ← (r .before .before .col-count .ensures),
     )
     (q .apply-row .ensures)

@@ -21,12 +21,14 @@ row-values-requires : tie.Need-row-values-requires
 row-values-requires c κs = let h = c .before .before .before .before .before .before .before .pre .0 in (h .first .header, matrix-span _ (h .first) _ (h .listed))
 
 extract-row-requires : tie.Need-extract-row-requires
-extract-row-requires c κs = 
+extract-row-requires c κs =
     let p = c .before .before .before .before .before .before .before .before .before .before .pre in
     let h = p .0 in
-    let r = c .before .before in
-    (rw (r .before .row-columns .ensures .words, r .row-values .ensures .words)
-    (wider-row (h .first .header .col-range .most) (matrix-row _ (h .first) _ (h .listed))), (indices h, p .1))
+    let r = c .before .before in (
+      rw (r .before .row-columns .ensures .words, r .row-values .ensures .words)
+          (wider-row (h .first .header .col-range .most) (matrix-row _ (h .first) _ (h .listed))),
+      (indices h, p .1),
+    )
 
 same-length : tie.Need-same-length
 same-length c = search needs
@@ -36,7 +38,7 @@ same-length-2 c = search needs
 
 returns : tie.Need-returns
 unfolding cellOf
-returns c = 
+returns c =
     let q = c .before .before .before .before in
     let r = q .before .before .before in
     rw (← (r .before .row-columns .ensures .words), ← (r .row-values .ensures .words)) (q .extract-row .ensures)

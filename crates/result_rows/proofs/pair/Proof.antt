@@ -41,7 +41,7 @@ row-values-requires-2 : tie.Need-row-values-requires-2
 row-values-requires-2 c κs = let h = c .before .before .before .before .before .before .before .before .before .before .pre .0 in (h .second .header, matrix-span _ (h .second) _ (omega (arith, h .row, h .same-rows)))
 
 merge-row-requires : tie.Need-merge-row-requires
-merge-row-requires c κs = 
+merge-row-requires c κs =
     let p = c .before .before .before .before .before .before .before .before .before .before .before .before .before .pre in
     let h = p .0 in
     let r = c .before .before in
@@ -52,7 +52,7 @@ merge-row-requires c κs =
         rw (s .before .row-columns .ensures .words, s .row-values .ensures .words) (matrix-row _ (h .first) _ (h .row)),
         (
           rw (r .before .row-columns2 .ensures .words, r .row-values2 .ensures .words, h .same-cols)
-          (matrix-row _ (h .second) _ (omega (arith, h .row, h .same-rows))),
+              (matrix-row _ (h .second) _ (omega (arith, h .row, h .same-rows))),
           p .1,
         ),
       ),
@@ -66,13 +66,15 @@ same-length-2 c = search needs
 
 returns : tie.Need-returns
 unfolding cellOf lookup
-returns c = 
+returns c =
     let q = c .before .before .before .before in
     let r = q .before .before .before in
     let s = r .before .before in
     rw (
-      ← (s .before .row-columns .ensures .words), ← (s .row-values .ensures .words),
-      ← (r .before .row-columns2 .ensures .words), ← (r .row-values2 .ensures .words),
+      ← (s .before .row-columns .ensures .words),
+      ← (s .row-values .ensures .words),
+      ← (r .before .row-columns2 .ensures .words),
+      ← (r .row-values2 .ensures .words),
       ← (s .before .before .before .before .col-count .ensures),
     )
     (q .merge-row .ensures)

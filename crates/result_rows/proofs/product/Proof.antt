@@ -12,11 +12,13 @@ row-values-requires : tie.Need-row-values-requires
 row-values-requires c κs = let h = c .before .before .before .before .before .pre .0 in (h .first .header, matrix-span _ (h .first) _ (h .row))
 
 product-row-requires : tie.Need-product-row-requires
-product-row-requires c κs = 
+product-row-requires c κs =
     let p = c .before .before .before .before .before .before .before .before .pre in
-    let h = p .0 in
-    (rw (c .before .before .before .row-columns .ensures .words, c .before .before .row-values .ensures .words, ← (h .inner))
-    (matrix-row _ (h .first) _ (h .row)), (h .second, p .1))
+    let h = p .0 in (
+      rw (c .before .before .before .row-columns .ensures .words, c .before .before .row-values .ensures .words, ← (h .inner))
+          (matrix-row _ (h .first) _ (h .row)),
+      (h .second, p .1),
+    )
 
 same-length : tie.Need-same-length
 same-length c = search needs
@@ -25,12 +27,14 @@ same-length-2 : tie.Need-same-length-2
 same-length-2 c = search needs
 
 returns : tie.Need-returns
-returns c = 
+returns c =
     let q = c .before .before .before .before in
     let r = q .before .before .before in
     let s = r .before .before .before .before .before .before in
     rw (
-      s .pre .0 .inner, cell-row (now (s .args .a)) (s .args .i), ← (r .before .row-columns .ensures .words),
+      s .pre .0 .inner,
+      cell-row (now (s .args .a)) (s .args .i),
+      ← (r .before .row-columns .ensures .words),
       ← (r .row-values .ensures .words),
     )
     (q .product-row .ensures)

@@ -1,3 +1,6 @@
+-- `result_row` is a row of T, whichever the operation.
+use Rattle.merge.specs.Combined.{combined}
+use Rattle.result_rows.proofs.Inputs.{product-inputs, mult-inputs, add-inputs, list-inputs, buffers}
 use borrow.Author.Needs.{needs}
 use Rattle.result_rows.proofs.result_row.Statement.{statement}
 use Rattle.result_rows.proofs.result_row.Tie as tie
@@ -6,31 +9,47 @@ enum-known-operation : tie.Need-enum-known-operation
 enum-known-operation c = search needs
 
 product-requires : tie.Need-product-requires
-product-requires c κs = search needs
+product-requires c κs =
+    let p = c .before .before .before .before .before .before .before .before .before .before .before .pre in
+    let e = c .before .before .before .operation .given .1 in
+    (product-inputs _ _ _ _ _ _ _ (rw e at (p .0)), buffers (rw e at (p .1)))
 
 enum-known-operation-2 : tie.Need-enum-known-operation-2
 enum-known-operation-2 c = search needs
 
 pair-requires : tie.Need-pair-requires
-pair-requires c κs = search needs
+pair-requires c κs =
+    let p = c .before .before .before .before .before .before .before .before .before .before .before .pre in
+    let e = c .before .before .before .operation2 .given .1 in
+    (mult-inputs _ _ _ _ _ _ (rw e at (p .0)), buffers (rw e at (p .1)))
 
 enum-known-operation-3 : tie.Need-enum-known-operation-3
 enum-known-operation-3 c = search needs
 
 pair-requires-2 : tie.Need-pair-requires-2
-pair-requires-2 c κs = search needs
+pair-requires-2 c κs =
+    let p = c .before .before .before .before .before .before .before .before .before .before .before .pre in
+    let e = c .before .before .before .operation3 .given .1 in
+    (add-inputs _ _ _ _ _ _ (rw e at (p .0)), buffers (rw e at (p .1)))
 
 enum-known-operation-4 : tie.Need-enum-known-operation-4
 enum-known-operation-4 c = search needs
 
 applied-requires : tie.Need-applied-requires
-applied-requires c κs = search needs
+applied-requires c κs =
+    let p = c .before .before .before .before .before .before .before .before .before .before .before .pre in
+    let e = c .before .before .before .operation4 .given .1 in
+    let h = rw e at (p .0) in
+    (h .first, (h .row, buffers (rw e at (p .1))))
 
 enum-told : tie.Need-enum-told
 enum-told c = search needs
 
 extracted-requires : tie.Need-extracted-requires
-extracted-requires c κs = search needs
+extracted-requires c κs =
+    let p = c .before .before .before .before .before .before .before .before .before .before .pre in
+    let e = c .before .before .enum-told .given .1 in
+    (list-inputs _ _ _ _ _ (rw e at (p .0)), buffers (rw e at (p .1)))
 
 same-length : tie.Need-same-length
 same-length c = search needs
@@ -39,7 +58,9 @@ same-length-2 : tie.Need-same-length-2
 same-length-2 c = search needs
 
 returns : tie.Need-returns
-returns c = ?
+returns c =
+    let q = c .before .before .before .before in
+    rw (q .before .before .before .before .operation .given .1) (q .product .ensures)
 
 same-length-3 : tie.Need-same-length-3
 same-length-3 c = search needs
@@ -48,7 +69,10 @@ same-length-4 : tie.Need-same-length-4
 same-length-4 c = search needs
 
 returns-2 : tie.Need-returns-2
-returns-2 c = ?
+unfolding combined
+returns-2 c =
+    let q = c .before .before .before .before in
+    rw (q .before .before .before .before .operation2 .given .1) (q .pair .ensures)
 
 same-length-5 : tie.Need-same-length-5
 same-length-5 c = search needs
@@ -57,7 +81,10 @@ same-length-6 : tie.Need-same-length-6
 same-length-6 c = search needs
 
 returns-3 : tie.Need-returns-3
-returns-3 c = ?
+unfolding combined
+returns-3 c =
+    let q = c .before .before .before .before in
+    rw (q .before .before .before .before .operation3 .given .1) (q .pair2 .ensures)
 
 same-length-7 : tie.Need-same-length-7
 same-length-7 c = search needs
@@ -66,7 +93,9 @@ same-length-8 : tie.Need-same-length-8
 same-length-8 c = search needs
 
 returns-4 : tie.Need-returns-4
-returns-4 c = ?
+returns-4 c =
+    let q = c .before .before .before .before in
+    rw (q .before .before .before .before .operation4 .given .1) (q .applied .ensures)
 
 same-length-9 : tie.Need-same-length-9
 same-length-9 c = search needs
@@ -75,7 +104,9 @@ same-length-10 : tie.Need-same-length-10
 same-length-10 c = search needs
 
 returns-5 : tie.Need-returns-5
-returns-5 c = ?
+returns-5 c =
+    let q = c .before .before .before .before in
+    rw (q .before .before .before .enum-told .given .1) (q .extracted .ensures)
 
 pub result-row-spec : {M : Type 1} → statement M
 result-row-spec =
