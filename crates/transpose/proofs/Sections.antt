@@ -1,0 +1,128 @@
+-- The sections of columns and values, from the first row that is placed to the last: before it every slot is free, and
+-- behind it the sections are those of the grid.
+use Prim.Native.Nat.{ℕ, zero, suc, _+_, _-_, _≤_, _<_}
+use native.Mathlib.Omega.{arith}
+use native.Mathlib.Nat.{add-zero, le-refl}
+use native.Mathlib.Numerals.{add-one}
+use mathlib.Core.Path.{_≡_, refl, sym, ap, _∙_}
+use mathlib.Core.List.{List, [], _++_, append-nil}
+use lib.ListN.{length, drop, set, length-set, drop-of-length-le}
+use lib.Seq.{ext-getD, getD-set-same, getD-set-other}
+use Rattle.words.specs.Words.{at, part}
+use Rattle.words.proofs.Parts.{part-empty, length-part, part-append, part-at}
+use Rattle.grid.specs.Grid.{Grid}
+use Rattle.grid.specs.Entries.{column, value, gather, flatten, gridColumns, gridValues, entryCount}
+use Rattle.grid.proofs.Gather.{gather-length, flatten-next}
+use Rattle.rows.specs.Row.{Row}
+use Rattle.matrix.specs.Layout.{rows, cols, entries, rowColumns, rowValues, gridOf}
+use Rattle.matrix.specs.Facts.{Header, RowSpan, Matrix}
+use Rattle.matrix.proofs.Facts.{matrix-made, row-span}
+use Rattle.encoding.specs.Encode.{entriesBefore, counted}
+use Rattle.encoding.proofs.Sections.{section-made}
+use Rattle.encoding.proofs.Canonical.{valid-row, valid-entries}
+use Rattle.operations.specs.GridOperations.{transposed}
+use Rattle.transpose.specs.Placed.{Slots, Placed, Room, Ready}
+use Rattle.transpose.proofs.Transposed.{transposed-count}
+use Rattle.transpose.proofs.Slots.{start-next, start-grows}
+
+-- N of a matrix is the number of entries of the transposed grid
+pub transposed-entries : {a : List ℕ} → Matrix a → entries a ≡ entryCount (transposed (gridOf a))
+transposed-entries {a} m = sym (transposed-count (gridOf a) ∙ valid-entries a (matrix-made a m))
+
+-- the loop has placed i rows of the matrix
+pub record RowsPlaced (g : Grid) (n : ℕ) (next₀ next s : List ℕ) (i : ℕ) : Type 0 where
+  pub within : i ≤ g .cols
+  pub long-next : length next ≡ length next₀
+  pub room : Room g n next s
+  pub placed : Placed g i next s
+
+-- before the first row the counts are stored, and every slot is free
+pub placed-none : {g : Grid} {n : ℕ} {next s : List ℕ} → Ready g next s → n ≡ entryCount g
+    → RowsPlaced g n next next (set (set s 0 n) (n + 1) n) 0
+unfolding gather
+placed-none {g} {n} {next} {s} h e =
+    let long = length-set s 0 n in
+    record {
+      within = omega arith;
+      long-next = refl;
+      room = record {
+        entries-are = e;
+        few = h .room .few;
+        rows-fit = h .room .rows-fit;
+        sections-fit = length-set (set s 0 n) (n + 1) n ∙ long ∙ h .room .sections-fit;
+      };
+      placed = record {
+        row = λ j l. record {
+          next-place = h .starts j l ∙ sym (add-zero (entriesBefore g j));
+          columns = λ k u. absurd (omega arith);
+          values = λ k u. absurd (omega arith);
+        };
+        count = getD-set-other (set s 0 n) (n + 1) 0 n 0 (λ z. omega arith) ∙ getD-set-same s 0 n 0 (omega arith) ∙ e;
+        again = rw (← e) (getD-set-same (set s 0 n) (n + 1) n 0 (omega arith));
+      };
+    }
+
+-- a row more is placed
+pub placed-next : {g : Grid} {n i : ℕ} {next₀ next s next′ s′ : List ℕ} → RowsPlaced g n next₀ next s i → i < g .cols
+    → length next′ ≡ length next → length s′ ≡ length s → Placed g (i + 1) next′ s′
+    → RowsPlaced g n next₀ next′ s′ (i + 1)
+placed-next h l e f p = record {
+  within = omega arith;
+  long-next = e ∙ h .long-next;
+  room = record {
+    entries-are = h .room .entries-are;
+    few = h .room .few;
+    rows-fit = omega (arith, h .room .rows-fit);
+    sections-fit = f ∙ h .room .sections-fit;
+  };
+  placed = p;
+}
+
+-- the entries of row i of a matrix
+pub row-of : {a : List ℕ} {i : ℕ} → Matrix a → i < rows a → Row (cols a) (rowColumns a i) (rowValues a i)
+row-of {a} {i} m l = valid-row a (matrix-made a m) i l
+
+module _ {g : Grid} {next s : List ℕ} (h : Placed g (g .cols) next s)
+    (long : length s ≡ entryCount g + entryCount g + 2) where
+  -- the columns or the values of row j, in the section that begins at word b
+  row-part : (emit : ℕ → ℕ → ℕ) (b : ℕ) → b + entryCount g ≤ length s
+      → ((j : ℕ) → j < g .rows → Slots emit b g (g .cols) s j) → (j : ℕ) → j < g .rows
+      → part (b + entriesBefore g j) (b + entriesBefore g (j + 1)) s ≡ gather emit (g .cols) (g .cell j)
+  row-part emit b fits slots j l =
+      let next = start-next g j in
+      let top = start-grows g (j + 1) (g .rows) (omega arith) in
+      let from = b + entriesBefore g j in
+      let to = b + entriesBefore g (j + 1) in
+      let m = length-part from to s (omega arith) in
+      let k = gather-length emit column (g .cols) (g .cell j) in
+      ext-getD 0 (part from to s) (gather emit (g .cols) (g .cell j)) (m ∙ omega arith)
+      (λ p u. part-at from to p s (omega arith) ∙ ap (at s) (omega arith) ∙ slots j l p (omega arith))
+
+  -- a section from its first word on is that of the first k rows
+  rows-part : (emit : ℕ → ℕ → ℕ) (b : ℕ) → b + entryCount g ≤ length s
+      → ((j : ℕ) → j < g .rows → Slots emit b g (g .cols) s j) → (k : ℕ) → k ≤ g .rows
+      → part b (b + entriesBefore g k) s ≡ flatten emit (g .cols) (g .cell) k
+  unfolding flatten
+  rows-part emit b fits slots zero l = rw (add-zero b, part-empty b s)
+  rows-part emit b fits slots (suc k) l = rw (add-one k) at (go (rows-part emit b fits slots k (omega arith)))
+    where
+      go : part b (b + entriesBefore g k) s ≡ flatten emit (g .cols) (g .cell) k
+          → part b (b + entriesBefore g (k + 1)) s ≡ flatten emit (g .cols) (g .cell) (k + 1)
+      go e =
+          let up = start-grows g k (k + 1) (omega arith) in
+          part-append b (b + entriesBefore g k) (b + entriesBefore g (k + 1)) s (omega arith) (omega arith)
+          ∙ rw (e, row-part emit b fits slots k l) (sym (flatten-next emit (g .cols) (g .cell) k))
+
+  -- when every row is placed, the sections are those of the grid
+  pub placed-all : s ≡ counted (gridColumns g) ++ counted (gridValues g)
+  placed-all =
+      let n = entryCount g in
+      let columns = rows-part column 1 (omega arith) (λ j l. h .row j l .columns) (g .rows) (le-refl (g .rows)) in
+      let values = rows-part value (n + 2) (omega arith) (λ j l. h .row j l .values) (g .rows) (le-refl (g .rows)) in
+      let e : 1 + n ≡ n + 1 = omega arith in
+      let none : drop (n + 2 + n) s ≡ [] = drop-of-length-le s {i = n + 2 + n} (omega arith) in
+      section-made 0 1 (1 + n) s refl (omega (arith, h .count)) (omega arith) .here
+      ∙ rw (columns, ap (λ (x : ℕ). drop x s) e)
+      (ap (λ (l : List ℕ). counted (gridColumns g) ++ l)
+      (section-made (n + 1) (n + 2) (n + 2 + n) s (omega arith) (omega (arith, h .again)) (omega arith) .here
+      ∙ rw (values, none) (append-nil (counted (gridValues g)))))

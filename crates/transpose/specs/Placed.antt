@@ -1,0 +1,44 @@
+-- Writing the entries of a grid row by row of its transpose: what is in place when i rows of the transpose, which are the
+-- first i columns of the grid, have been passed.
+use Prim.Native.Nat.{ℕ, _+_, _≤_, _<_}
+use mathlib.Core.Path.{_≡_}
+use mathlib.Core.List.{List}
+use lib.ListN.{length}
+use Rattle.limits.specs.Limits.{maxEntries}
+use Rattle.words.specs.Words.{at}
+use Rattle.grid.specs.Grid.{Grid}
+use Rattle.grid.specs.Entries.{column, value, gather, entryCount}
+use Rattle.encoding.specs.Encode.{entriesBefore}
+
+-- how many entries row j has in its first i columns
+abbrev pub filled : Grid → ℕ → ℕ → ℕ
+filled g i j = length (gather column i (g .cell j))
+
+-- in a section of columns or values that begins at word b, row j has what `emit` takes of those entries
+abbrev pub Slots : (ℕ → ℕ → ℕ) → ℕ → Grid → ℕ → List ℕ → ℕ → Type 0
+Slots emit b g i sections j =
+    (k : ℕ) → k < filled g i j → at sections (b + (entriesBefore g j + k)) ≡ at (gather emit i (g .cell j)) k
+
+-- row j has those entries in both sections, each of which begins after its count, and `next` has the place of the next
+pub record RowPlaced (g : Grid) (i : ℕ) (next sections : List ℕ) (j : ℕ) : Type 0 where
+  pub next-place : at next j ≡ entriesBefore g j + filled g i j
+  pub columns : Slots column 1 g i sections j
+  pub values : Slots value (entryCount g + 2) g i sections j
+
+-- every row has its entries of the first i columns, and the sections have their counts
+pub record Placed (g : Grid) (i : ℕ) (next sections : List ℕ) : Type 0 where
+  pub row : (j : ℕ) → j < g .rows → RowPlaced g i next sections j
+  pub count : at sections 0 ≡ entryCount g
+  pub again : at sections (entryCount g + 1) ≡ entryCount g
+
+-- a grid with few enough entries, n of them, and room for its rows and its sections
+pub record Room (g : Grid) (n : ℕ) (next sections : List ℕ) : Type 0 where
+  pub entries-are : n ≡ entryCount g
+  pub few : entryCount g ≤ maxEntries
+  pub rows-fit : g .rows ≤ length next
+  pub sections-fit : length sections ≡ entryCount g + entryCount g + 2
+
+-- before the first row: room, and the start of each row
+pub record Ready (g : Grid) (next sections : List ℕ) : Type 0 where
+  pub room : Room g (entryCount g) next sections
+  pub starts : (j : ℕ) → j < g .rows → at next j ≡ entriesBefore g j
