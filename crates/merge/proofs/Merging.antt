@@ -1,17 +1,40 @@
--- The loop of `merge_row`: what holds before column q, and how a turn takes it on to the next column with an entry.
+-- The loop of `merge_row`: how an entry is put behind the others, what holds before column q, and how a turn takes it on
+-- to the next column with an entry.
 use Prim.Native.Nat.{ℕ, _+_, _≤_, _<_, min}
 use native.Mathlib.Omega.{arith}
 use mathlib.Core.Path.{_≡_, refl, sym, _∙_}
 use mathlib.Core.List.{List}
-use lib.ListN.{length, getD}
+use lib.ListN.{length, getD, set}
 use Rattle.grid.specs.declared.Cell.{Cell}
-use Rattle.grid.specs.declared.Cell.the-variants.{Absent}
+use Rattle.grid.specs.declared.Cell.the-variants.{Absent, Present}
+use Rattle.grid.specs.Entries.{one}
 use Rattle.rows.specs.Row.{lookup, position, Rises, Row, Holds}
 use Rattle.rows.proofs.Position.{position-zero}
-use Rattle.rows.proofs.Holds.{holds-none, holds-most, holds-skip}
+use Rattle.rows.proofs.Holds.{holds-none, holds-most, holds-put, holds-skip}
 use Rattle.rows.proofs.Cursors.{position-grows, position-after, front-low, front-high, position-front, absent-front}
 use Rattle.merge.specs.Steps.{Put}
-use Rattle.merge.proofs.Putting.{holds-cell}
+
+-- the two arms of `put_cell`
+module _ (cols vals : List ℕ) (e q : ℕ) (cell : Cell) where
+  pub put-none : cell ≡ Absent → Put cols vals cols vals e q cell e
+  unfolding one
+  put-none h = rw h (record { count = omega arith; columns = refl; values = refl })
+
+  pub put-one : {v : ℕ} → cell ≡ Present v → Put cols vals (set cols e q) (set vals e v) e q cell (e + 1)
+  unfolding one
+  put-one h = rw h (record { count = omega arith; columns = refl; values = refl })
+
+-- column q put behind the columns before it
+holds-cell : {f : ℕ → Cell} {e q r : ℕ} {cols vals cols′ vals′ : List ℕ} {cell : Cell} → Holds q f e cols vals
+    → e < length cols → e < length vals → f q ≡ cell → Put cols vals cols′ vals′ e q cell r
+    → Holds (q + 1) f r cols′ vals′
+unfolding one
+holds-cell {f} {e} {q} {r} {cell = Absent} h a b s p =
+    let z : r ≡ e = omega (arith, p .count) in
+    rw (p .columns, p .values, z)
+    (holds-skip h (q + 1) (omega arith) (λ j l m. let z : j ≡ q = omega arith in rw z s))
+holds-cell {f} {e} {q} {cell = Present v} h a b s p =
+    rw (p .columns, p .values, p .count) (holds-put h a b s)
 
 -- The columns before q are done: f is the output's row, and m, i and k are the indexes into the columns of the mask and
 -- of the two rows.

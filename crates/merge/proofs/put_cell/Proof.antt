@@ -1,6 +1,6 @@
 -- `put_cell` leaves `Put`: an absent cell changes nothing, a present one is written at e.
 use borrow.Author.Needs.{needs}
-use Rattle.merge.proofs.Putting.{put-none, put-one}
+use Rattle.merge.proofs.Merging.{put-none, put-one}
 use Rattle.merge.proofs.put_cell.Statement.{statement}
 use Rattle.merge.proofs.put_cell.Tie as tie
 

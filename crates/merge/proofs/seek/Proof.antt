@@ -1,4 +1,5 @@
 -- `seek` gives the position: no index that is passed holds column q or a later one.
+use native.Mathlib.Omega.{arith}
 use Prim.Native.Nat.{_-_, _≤_}
 use lib.ListN.{length}
 use borrow.Author.Needs.{needs}
@@ -24,7 +25,7 @@ shared-slice-read-if1 c = search needs
 
 returns : tie.Need-returns Inv-loop μ-loop
 returns c =
-    let l = c .before .before .before in seek-stop _ (l .before .pre .0) _ _ (l .loop .inv) (c .if1 .taken)
+    let l = c .before .before .before in seek-stop _ (l .before .pre .0) _ _ (l .loop .inv) (omega arith)
 
 add-k : tie.Need-add-k Inv-loop μ-loop
 add-k c = search needs
@@ -34,7 +35,7 @@ loop-less c = search needs
 
 loop-again : tie.Need-loop-again Inv-loop μ-loop
 loop-again c =
-    let b = c .before .before in seek-more _ (b .before .before .pre .0) _ _ (b .loop-test .taken) (c .if1 .left)
+    let b = c .before .before in seek-more _ (b .before .before .pre .0) _ _ (b .loop-test .taken) (omega arith)
 
 returns-2 : tie.Need-returns-2 Inv-loop μ-loop
 returns-2 c = let l = c .before in seek-end _ (l .before .pre .0) _ _ (l .loop .inv) (c .loop-test .left)
