@@ -32,10 +32,10 @@ pub enum Outcome {
 }
 
 // The final C at the front of the workspace.
-pub fn compute(
+pub fn compute<'a>(
     call: Call,
-    a: &[u32],
-    b: &[u32],
+    a: &'a [u32],
+    b: &'a [u32],
     mask: &[u32],
     c: &[u32],
     is: &[u32],
@@ -96,21 +96,21 @@ fn write_back_of(call: Call) -> WriteBack
 }
 
 // The columns and the values of the mask's row i, or none where there is no mask.
-fn mask_columns(has_mask: bool, mask: &[u32], i: usize) -> &[u32]
-    requires { ⌜ (has_mask ≡ true → MaskRow (now mask) i) ⌝ }
-    ensures { λ r. ⌜ now r ≡ cond has_mask (rowColumns (now (mask .entry)) i) [] ⌝ }
+fn mask_columns(masked: bool, mask: &[u32], i: usize) -> &[u32]
+    requires { ⌜ (masked ≡ true → MaskRow (now mask) i) ⌝ }
+    ensures { λ r. ⌜ now r ≡ cond masked (rowColumns (now (mask .entry)) i) [] ⌝ }
 {
-    if !has_mask {
+    if !masked {
         return &mask[0..0];
     }
     matrix::row_columns(mask, i)
 }
 
-fn mask_values(has_mask: bool, mask: &[u32], i: usize) -> &[u32]
-    requires { ⌜ (has_mask ≡ true → MaskRow (now mask) i) ⌝ }
-    ensures { λ r. ⌜ now r ≡ cond has_mask (rowValues (now (mask .entry)) i) [] ⌝ }
+fn mask_values(masked: bool, mask: &[u32], i: usize) -> &[u32]
+    requires { ⌜ (masked ≡ true → MaskRow (now mask) i) ⌝ }
+    ensures { λ r. ⌜ now r ≡ cond masked (rowValues (now (mask .entry)) i) [] ⌝ }
 {
-    if !has_mask {
+    if !masked {
         return &mask[0..0];
     }
     matrix::row_values(mask, i)
@@ -181,12 +181,12 @@ fn final_row<'a>(
 }
 
 // All rows, one after the other.
-fn compute_rows(
+fn compute_rows<'a>(
     call: Call,
     first: bool,
     second: bool,
-    a: &[u32],
-    b: &[u32],
+    a: &'a [u32],
+    b: &'a [u32],
     mask: &[u32],
     c: &[u32],
     is: &[u32],

@@ -1,0 +1,4 @@
+pub mod WriteRow
+pub mod Sources
+pub mod Results
+pub mod FinalRow
