@@ -1,8 +1,9 @@
 pub mod Transposed
 pub mod Occurrences
 pub mod Sums
-pub mod Sweep
+pub mod Traversal
 pub mod Slots
 pub mod Placing
 pub mod Sections
+pub mod Passes
 pub mod Written

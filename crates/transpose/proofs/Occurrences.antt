@@ -1,11 +1,10 @@
--- Counting words: the turns of a loop that counts, and that the column numbers of a grid count the entries of the rows of
--- its transpose.
+-- Counting words: the turns of a loop that counts, and that the column numbers of a grid count the entries of each row
+-- of its transpose.
 use Prim.Native.Nat.{ℕ, zero, suc, _+_, _≤_, _<_}
 use native.Mathlib.Omega.{arith}
-use native.Mathlib.Decide.{decLt, ℕ-discrete}
+use native.Mathlib.Decide.{ℕ-discrete}
 use native.Mathlib.Numerals.{add-one}
-use native.Mathlib.Nat.{add-zero}
-use mathlib.Core.Path.{_≡_, refl, sym, ap, _∙_}
+use mathlib.Core.Path.{_≡_, refl, sym, _∙_}
 use mathlib.Core.List.{List, [], _∷_, _++_}
 use lib.ListN.{length, take, set, length-set, length-append}
 use lib.Seq.{take-suc, take-all, length-take-le, getD-set-same, getD-set-other}
@@ -16,7 +15,7 @@ use Rattle.grid.specs.declared.Cell.the-variants.{Absent, Present}
 use Rattle.grid.specs.Grid.{Grid}
 use Rattle.grid.specs.Entries.{column, one, gather, flatten, gridColumns}
 use Rattle.operations.specs.GridOperations.{transposed}
-use Rattle.transpose.specs.Counts.{occurrences, Countable}
+use Rattle.transpose.specs.Counts.{occurrences, Countable, CountsOf}
 use Rattle.transpose.specs.Placed.{filled}
 use Rattle.transpose.proofs.Transposed.{one-anywhere}
 
@@ -55,12 +54,12 @@ pub record Counting (columns counts₀ counts : List ℕ) (k : ℕ) : Type 0 whe
   pub long : length counts ≡ length counts₀
   pub counted-are : (j : ℕ) → j < length counts₀ → at counts j ≡ occurrences j (take k columns)
 
+-- none of them yet
 pub counting-start : (columns counts : List ℕ) → Countable columns counts → Counting columns counts counts 0
 unfolding occurrences
 counting-start columns counts h = record { within = omega arith; long = refl; counted-are = λ j l. h .clear j }
 
-module _ {columns counts₀ counts : List ℕ} {k : ℕ} (p : Countable columns counts₀)
-    (h : Counting columns counts₀ counts k) where
+module _ {columns counts₀ counts : List ℕ} {k : ℕ} (h : Counting columns counts₀ counts k) where
   -- the counts stay small
   pub counting-small : (j : ℕ) → j < length counts₀ → at counts j ≤ k
   counting-small j l =
@@ -80,6 +79,7 @@ module _ {columns counts₀ counts : List ℕ} {k : ℕ} (p : Countable columns 
             (go j m (ℕ-discrete c j));
       }
     where
+      -- the count of a column that it is, or is not
       go : (j : ℕ) → j < length counts₀ → Dec (at columns k ≡ j)
           → at (set counts (at columns k) (at counts (at columns k) + 1)) j
           ≡ occurrences j (take k columns) + occurrences j (at columns k ∷ [])
@@ -92,31 +92,33 @@ module _ {columns counts₀ counts : List ℕ} {k : ℕ} (p : Countable columns 
           ∙ omega (arith, h .counted-are j m))
 
   -- all of them
-  pub counting-done : length columns ≤ k → (j : ℕ) → j < length counts₀ → at counts j ≡ occurrences j columns
-  counting-done l j m = h .counted-are j m ∙ rw (take-all k columns l)
+  pub counting-done : length columns ≤ k → CountsOf columns counts
+  counting-done l = record {
+    counts-are = λ j m. h .counted-are j (omega (arith, h .long)) ∙ rw (take-all k columns l);
+  }
 
--- a column occurs in a row's entries as often as the cell there has entries
+-- a cell at column n adds nothing to the count of another column
+one-other : (j n : ℕ) (c : Cell) → (n ≡ j → ⊥) → occurrences j (one column n c) ≡ 0
+unfolding one occurrences
+one-other j n Absent d = refl
+one-other j n (Present v) d = occurs-not j n d
+
+-- and to that of its own column the number of its entries
+one-same : (j : ℕ) (c : Cell) → occurrences j (one column j c) ≡ length (one column j c)
+unfolding one occurrences
+one-same j Absent = refl
+one-same j (Present v) = occurs j j refl
+
+-- how often a column occurs among the entries of a row's first n columns
 module _ (row : ℕ → Cell) where
-  -- what one cell adds: nothing to another column
-  one-other : (j n : ℕ) (c : Cell) → (n ≡ j → ⊥) → occurrences j (one column n c) ≡ 0
-  unfolding one occurrences
-  one-other j n Absent d = refl
-  one-other j n (Present v) d = occurs-not j n d
-
-  -- and to its own column what it holds
-  one-same : (j : ℕ) (c : Cell) → occurrences j (one column j c) ≡ length (one column j c)
-  unfolding one occurrences
-  one-same j Absent = refl
-  one-same j (Present v) = occurs j j refl
-
-  -- a column past the first n is not among their entries
+  -- a column past them does not
   gather-past : (j n : ℕ) → n ≤ j → occurrences j (gather column n row) ≡ 0
   unfolding gather occurrences
   gather-past j zero l = refl
   gather-past j (suc n) l =
       rw (occurrences-append, gather-past j n (omega arith)) (omega (arith, one-other j n (row n) (λ e. omega arith)))
 
-  -- a column among the first n
+  -- one of them as often as the cell there has entries
   gather-occurrences : (j n : ℕ) → j < n → occurrences j (gather column n row) ≡ length (one column j (row j))
   unfolding gather
   gather-occurrences j zero l = absurd (omega arith)

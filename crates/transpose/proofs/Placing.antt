@@ -1,8 +1,8 @@
--- The walk over row i of a matrix that puts each entry into the next slot of its column, which is a row j of the transposed
--- grid g: the stores of a turn, and the turns of the loop.
+-- The loop over row i of a matrix that puts each entry into the next slot of its column, a row of the transposed grid:
+-- the stores of a turn, and the turns.
 use Prim.Native.Nat.{ℕ, _+_, _≤_, _<_}
 use native.Mathlib.Omega.{arith}
-use mathlib.Core.Path.{_≡_, refl, sym, ap, _∙_}
+use mathlib.Core.Path.{_≡_, refl, _∙_}
 use mathlib.Core.List.{List}
 use lib.ListN.{length, set, length-set}
 use lib.Seq.{getD-set-same, getD-set-other}
@@ -17,7 +17,7 @@ use Rattle.matrix.specs.Facts.{RowSpan}
 use Rattle.encoding.specs.Encode.{entriesBefore}
 use Rattle.operations.specs.GridOperations.{transposed}
 use Rattle.transpose.specs.Placed.{filled, RowPlaced, Placed, Room}
-use Rattle.transpose.proofs.Sweep.{Sweep, sweep-start, sweep-step, sweep-done}
+use Rattle.transpose.proofs.Traversal.{Traversal, traversal-start, traversal-step, traversal-done}
 use Rattle.transpose.proofs.Slots.{
   filled-grows,
   filled-more,
@@ -29,6 +29,16 @@ use Rattle.transpose.proofs.Slots.{
   slots-more,
 }
 
+-- words of the same length have the same room
+pub room-kept : {g : Grid} {n : ℕ} {next s next′ s′ : List ℕ} → Room g n next s → length next′ ≡ length next
+    → length s′ ≡ length s → Room g n next′ s′
+room-kept r e f = record {
+  entries-are = r .entries-are;
+  few = r .few;
+  rows-fit = omega (arith, r .rows-fit);
+  sections-fit = f ∙ r .sections-fit;
+}
+
 -- no entry in column i: row j has as much as with one column more
 row-same : {g : Grid} {i j : ℕ} {next s : List ℕ} → g .cell j i ≡ Absent → RowPlaced g i next s j
     → RowPlaced g (i + 1) next s j
@@ -38,13 +48,14 @@ row-same {g} {i} {j} {next} {s} e h = record {
   values = slots-same value (entryCount g + 2) g i s j e (h .values);
 }
 
--- after a turn for row c of the grid: the next place of that row, and the sections with the entry v of column i at place x
+-- after a turn: the next places with one more for row c, and the sections with the entry v of column i at place x
 abbrev pub advanced : List ℕ → ℕ → List ℕ
 advanced next c = set next c (at next c + 1)
 
 abbrev pub stored : List ℕ → ℕ → ℕ → ℕ → ℕ → List ℕ
 stored s x n i v = set (set s (x + 1) i) (x + n + 2) v
 
+-- a turn that meets the entry v in column i of row c
 module _ {g : Grid} {n i c v : ℕ} {next s : List ℕ} (room : Room g n next s) (c-row : c < g .rows) (i-col : i < g .cols)
     (there : g .cell c i ≡ Present v) (h : RowPlaced g i next s c) where
   -- the slot is one of row c
@@ -62,7 +73,8 @@ module _ {g : Grid} {n i c v : ℕ} {next s : List ℕ} (room : Room g n next s)
       let bound = slot-bound in
       let long = length-set s (x + 1) i in
       record {
-        next-place = getD-set-same next c (x + 1) 0 (omega arith) ∙ omega (arith, h .next-place, filled-more g i c there);
+        next-place =
+            getD-set-same next c (x + 1) 0 (omega arith) ∙ omega (arith, h .next-place, filled-more g i c there);
         columns =
             slots-keep column 1 g (i + 1) (set s (x + 1) i) c (x + n + 2) v
             (λ k u e. omega (arith, slot-within g c k c-row (omega (arith, filled-grows g (i + 1) c (omega arith)))))
@@ -109,50 +121,56 @@ pub row-source : (a : List ℕ) {i : ℕ} {columns values : List ℕ} → RowSpa
 unfolding cellOf
 row-source a r w e f = record { within = r .row; row = rw (e, f) w; cells = λ j. rw (e, f) }
 
+-- if j is a row of the grid, it has its entries of the first i columns
+abbrev pub IfRow : Grid → ℕ → List ℕ → List ℕ → ℕ → Type 0
+IfRow g i next s j = j < g .rows → RowPlaced g i next s j
+
 -- the loop has placed the first k entries of row i
 pub record Placing (g : Grid) (i : ℕ) (columns next₀ s₀ next s : List ℕ) (k : ℕ) : Type 0 where
   pub long-next : length next ≡ length next₀
   pub long-sections : length s ≡ length s₀
-  pub sweep : Sweep columns (λ j. j < g .rows → RowPlaced g i next s j) (λ j. j < g .rows → RowPlaced g (i + 1) next s j) k
+  pub entries : Traversal columns (IfRow g i next s) (IfRow g (i + 1) next s) k
   pub count : at s 0 ≡ entryCount g
   pub again : at s (entryCount g + 1) ≡ entryCount g
 
+-- none of them yet
 pub placing-start : {g : Grid} {i : ℕ} {columns values next s : List ℕ} → Source g i columns values
     → Placed g i next s → Placing g i columns next s next s 0
 placing-start {g} {i} {columns} {values} src h = record {
   long-next = refl;
   long-sections = refl;
-  sweep = sweep-start (λ j m l. row-same (src .cells j ∙ lookup-absent columns values j m) (h .row j l)) (h .row);
+  entries = traversal-start (λ j m l. row-same (src .cells j ∙ lookup-absent columns values j m) (h .row j l)) (h .row);
   count = h .count;
   again = h .again;
 }
 
--- what a turn finds: the column is a row of the grid, and its next place is free
-pub record Turn (g : Grid) (columns next : List ℕ) (k : ℕ) : Type 0 where
+-- what a turn finds: the column is a row of the grid, it has a value beside it, and its next place is that of a slot
+pub record Turn (g : Grid) (columns values next : List ℕ) (k : ℕ) : Type 0 where
   pub row-in : at columns k < g .rows
+  pub value-in : k < length values
   pub place-in : at next (at columns k) < entryCount g
 
 module _ {g : Grid} {n i k : ℕ} {columns values next₀ s₀ next s : List ℕ} (src : Source g i columns values)
     (room : Room g n next₀ s₀) (h : Placing g i columns next₀ s₀ next s k) (l : k < length columns) where
+  -- the cell of entry k
   there : g .cell (at columns k) i ≡ Present (at values k)
   there =
       src .cells (at columns k)
       ∙ lookup-at columns values k (src .row .even) l (λ m u. src .row .rises .up m k u l)
 
+  -- its row of the grid waits for it
   here : RowPlaced g i next s (at columns k)
-  here = h .sweep .waits k (omega arith) l (src .row .small k l)
+  here = h .entries .pending k (omega arith) l (src .row .small k l)
 
+  -- there is the room that there was
   room-now : Room g n next s
-  room-now = record {
-    entries-are = room .entries-are;
-    few = room .few;
-    rows-fit = omega (arith, h .long-next, room .rows-fit);
-    sections-fit = h .long-sections ∙ room .sections-fit;
-  }
+  room-now = room-kept room (h .long-next) (h .long-sections)
 
-  pub placing-turn : Turn g columns next k
+  -- the numbers of a turn
+  pub placing-turn : Turn g columns values next k
   placing-turn = record {
     row-in = src .row .small k l;
+    value-in = omega (arith, src .row .even);
     place-in = slot-bound room-now (src .row .small k l) (src .within) there here;
   }
 
@@ -169,12 +187,12 @@ module _ {g : Grid} {n i k : ℕ} {columns values next₀ s₀ next s : List ℕ
       record {
         long-next = length-set next c (x + 1) ∙ h .long-next;
         long-sections = length-set (set s (x + 1) i) (x + n + 2) v ∙ length-set s (x + 1) i ∙ h .long-sections;
-        sweep = sweep-step (h .sweep) (src .row .rises) l
+        entries = traversal-step (h .entries) (src .row .rises) l
             (λ w r. row-more room-now c-row (src .within) there here)
             (λ j d w r. keep (i + 1) j (omega (arith, src .within)) r d (w r))
             (λ j d w r. keep i j (omega (arith, src .within)) r d (w r));
         count = kept 0 (λ e. omega arith) (λ e. omega arith) ∙ h .count;
-        again = kept (entryCount g + 1) (λ e. omega (arith, t .place-in)) (λ e. omega (arith, room .entries-are)) ∙ h .again;
+        again = kept (entryCount g + 1) (λ e. omega arith) (λ e. omega arith) ∙ h .again;
       }
     where
       -- a word that no turn stores to
@@ -187,4 +205,4 @@ module _ {g : Grid} {n i k : ℕ} {columns values next₀ s₀ next s : List ℕ
 -- after the last entry every row has its entries of one column more
 pub placing-done : {g : Grid} {i k : ℕ} {columns next₀ s₀ next s : List ℕ}
     → Placing g i columns next₀ s₀ next s k → length columns ≤ k → Placed g (i + 1) next s
-placing-done h l = record { row = sweep-done (h .sweep) l; count = h .count; again = h .again }
+placing-done h l = record { row = traversal-done (h .entries) l; count = h .count; again = h .again }

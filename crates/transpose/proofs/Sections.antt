@@ -1,6 +1,6 @@
 -- The sections of columns and values, from the first row that is placed to the last: before it every slot is free, and
 -- behind it the sections are those of the grid.
-use Prim.Native.Nat.{ℕ, zero, suc, _+_, _-_, _≤_, _<_}
+use Prim.Native.Nat.{ℕ, zero, suc, _+_, _≤_, _<_}
 use native.Mathlib.Omega.{arith}
 use native.Mathlib.Nat.{add-zero, le-refl}
 use native.Mathlib.Numerals.{add-one}
@@ -13,21 +13,11 @@ use Rattle.words.proofs.Parts.{part-empty, length-part, part-append, part-at}
 use Rattle.grid.specs.Grid.{Grid}
 use Rattle.grid.specs.Entries.{column, value, gather, flatten, gridColumns, gridValues, entryCount}
 use Rattle.grid.proofs.Gather.{gather-length, flatten-next}
-use Rattle.rows.specs.Row.{Row}
-use Rattle.matrix.specs.Layout.{rows, cols, entries, rowColumns, rowValues, gridOf}
-use Rattle.matrix.specs.Facts.{Header, RowSpan, Matrix}
-use Rattle.matrix.proofs.Facts.{matrix-made, row-span}
 use Rattle.encoding.specs.Encode.{entriesBefore, counted}
 use Rattle.encoding.proofs.Sections.{section-made}
-use Rattle.encoding.proofs.Canonical.{valid-row, valid-entries}
-use Rattle.operations.specs.GridOperations.{transposed}
-use Rattle.transpose.specs.Placed.{Slots, Placed, Room, Ready}
-use Rattle.transpose.proofs.Transposed.{transposed-count}
+use Rattle.transpose.specs.Placed.{entrySections, Slots, Placed, Room, Ready}
 use Rattle.transpose.proofs.Slots.{start-next, start-grows}
-
--- N of a matrix is the number of entries of the transposed grid
-pub transposed-entries : {a : List ℕ} → Matrix a → entries a ≡ entryCount (transposed (gridOf a))
-transposed-entries {a} m = sym (transposed-count (gridOf a) ∙ valid-entries a (matrix-made a m))
+use Rattle.transpose.proofs.Placing.{room-kept}
 
 -- the loop has placed i rows of the matrix
 pub record RowsPlaced (g : Grid) (n : ℕ) (next₀ next s : List ℕ) (i : ℕ) : Type 0 where
@@ -69,26 +59,17 @@ pub placed-next : {g : Grid} {n i : ℕ} {next₀ next s next′ s′ : List ℕ
 placed-next h l e f p = record {
   within = omega arith;
   long-next = e ∙ h .long-next;
-  room = record {
-    entries-are = h .room .entries-are;
-    few = h .room .few;
-    rows-fit = omega (arith, h .room .rows-fit);
-    sections-fit = f ∙ h .room .sections-fit;
-  };
+  room = room-kept (h .room) e f;
   placed = p;
 }
 
--- the entries of row i of a matrix
-pub row-of : {a : List ℕ} {i : ℕ} → Matrix a → i < rows a → Row (cols a) (rowColumns a i) (rowValues a i)
-row-of {a} {i} m l = valid-row a (matrix-made a m) i l
-
-module _ {g : Grid} {next s : List ℕ} (h : Placed g (g .cols) next s)
-    (long : length s ≡ entryCount g + entryCount g + 2) where
-  -- the columns or the values of row j, in the section that begins at word b
-  row-part : (emit : ℕ → ℕ → ℕ) (b : ℕ) → b + entryCount g ≤ length s
-      → ((j : ℕ) → j < g .rows → Slots emit b g (g .cols) s j) → (j : ℕ) → j < g .rows
+-- a section that begins at word b of s, where every row has all its slots
+module _ (emit : ℕ → ℕ → ℕ) (b : ℕ) (g : Grid) (s : List ℕ) (fits : b + entryCount g ≤ length s)
+    (slots : (j : ℕ) → j < g .rows → Slots emit b g (g .cols) s j) where
+  -- the columns or the values of row j
+  row-part : (j : ℕ) → j < g .rows
       → part (b + entriesBefore g j) (b + entriesBefore g (j + 1)) s ≡ gather emit (g .cols) (g .cell j)
-  row-part emit b fits slots j l =
+  row-part j l =
       let next = start-next g j in
       let top = start-grows g (j + 1) (g .rows) (omega arith) in
       let from = b + entriesBefore g j in
@@ -98,31 +79,35 @@ module _ {g : Grid} {next s : List ℕ} (h : Placed g (g .cols) next s)
       ext-getD 0 (part from to s) (gather emit (g .cols) (g .cell j)) (m ∙ omega arith)
       (λ p u. part-at from to p s (omega arith) ∙ ap (at s) (omega arith) ∙ slots j l p (omega arith))
 
-  -- a section from its first word on is that of the first k rows
-  rows-part : (emit : ℕ → ℕ → ℕ) (b : ℕ) → b + entryCount g ≤ length s
-      → ((j : ℕ) → j < g .rows → Slots emit b g (g .cols) s j) → (k : ℕ) → k ≤ g .rows
-      → part b (b + entriesBefore g k) s ≡ flatten emit (g .cols) (g .cell) k
+  -- those of the first k rows
+  rows-part : (k : ℕ) → k ≤ g .rows → part b (b + entriesBefore g k) s ≡ flatten emit (g .cols) (g .cell) k
   unfolding flatten
-  rows-part emit b fits slots zero l = rw (add-zero b, part-empty b s)
-  rows-part emit b fits slots (suc k) l = rw (add-one k) at (go (rows-part emit b fits slots k (omega arith)))
+  rows-part zero l = rw (add-zero b, part-empty b s)
+  rows-part (suc k) l = rw (add-one k) at (go (rows-part k (omega arith)))
     where
+      -- one row more
       go : part b (b + entriesBefore g k) s ≡ flatten emit (g .cols) (g .cell) k
           → part b (b + entriesBefore g (k + 1)) s ≡ flatten emit (g .cols) (g .cell) (k + 1)
       go e =
           let up = start-grows g k (k + 1) (omega arith) in
           part-append b (b + entriesBefore g k) (b + entriesBefore g (k + 1)) s (omega arith) (omega arith)
-          ∙ rw (e, row-part emit b fits slots k l) (sym (flatten-next emit (g .cols) (g .cell) k))
+          ∙ rw (e, row-part k l) (sym (flatten-next emit (g .cols) (g .cell) k))
 
-  -- when every row is placed, the sections are those of the grid
-  pub placed-all : s ≡ counted (gridColumns g) ++ counted (gridValues g)
-  placed-all =
-      let n = entryCount g in
-      let columns = rows-part column 1 (omega arith) (λ j l. h .row j l .columns) (g .rows) (le-refl (g .rows)) in
-      let values = rows-part value (n + 2) (omega arith) (λ j l. h .row j l .values) (g .rows) (le-refl (g .rows)) in
-      let e : 1 + n ≡ n + 1 = omega arith in
-      let none : drop (n + 2 + n) s ≡ [] = drop-of-length-le s {i = n + 2 + n} (omega arith) in
-      section-made 0 1 (1 + n) s refl (omega (arith, h .count)) (omega arith) .here
-      ∙ rw (columns, ap (λ (x : ℕ). drop x s) e)
-      (ap (λ (l : List ℕ). counted (gridColumns g) ++ l)
-      (section-made (n + 1) (n + 2) (n + 2 + n) s (omega arith) (omega (arith, h .again)) (omega arith) .here
-      ∙ rw (values, none) (append-nil (counted (gridValues g)))))
+  -- those of all rows
+  section-part : part b (b + entryCount g) s ≡ flatten emit (g .cols) (g .cell) (g .rows)
+  section-part = rows-part (g .rows) (le-refl (g .rows))
+
+-- when every row is placed, the sections are those of the grid
+pub placed-all : {g : Grid} {next s : List ℕ} → Placed g (g .cols) next s
+    → length s ≡ entryCount g + entryCount g + 2 → s ≡ entrySections g
+placed-all {g} {next} {s} h long =
+    let n = entryCount g in
+    let columns = section-part column 1 g s (omega arith) (λ j l. h .row j l .columns) in
+    let values = section-part value (n + 2) g s (omega arith) (λ j l. h .row j l .values) in
+    let e : 1 + n ≡ n + 1 = omega arith in
+    let none : drop (n + 2 + n) s ≡ [] = drop-of-length-le s {i = n + 2 + n} (omega arith) in
+    section-made 0 1 (1 + n) s refl (omega (arith, h .count)) (omega arith) .here
+    ∙ rw (columns, ap (λ (x : ℕ). drop x s) e)
+    (ap (λ (l : List ℕ). counted (gridColumns g) ++ l)
+    (section-made (n + 1) (n + 2) (n + 2 + n) s (omega arith) (omega (arith, h .again)) (omega arith) .here
+    ∙ rw (values, none) (append-nil (counted (gridValues g)))))

@@ -1,10 +1,10 @@
--- Where the entries of each row of a grid go: the slots of different rows lie apart, and a store into the next slot of a
--- row adds an entry there and keeps the others.
+-- Where the entries of each row of a grid go: the slots of two rows lie apart, and a store into the next slot of a row
+-- adds an entry there and keeps the others.
 use Prim.Native.Nat.{ℕ, zero, suc, _+_, _≤_, _<_}
 use native.Mathlib.Omega.{arith}
 use native.Mathlib.Decide.{decLt, ℕ-discrete}
 use native.Mathlib.Numerals.{add-one}
-use mathlib.Core.Path.{_≡_, refl, sym, ap, _∙_}
+use mathlib.Core.Path.{_≡_, sym, ap, _∙_}
 use mathlib.Core.List.{List, [], _∷_, _++_, append-nil}
 use lib.ListN.{length, set, length-append, List·getD-append}
 use lib.Seq.{getD-at, getD-set-same, getD-set-other}
@@ -12,17 +12,19 @@ use Rattle.words.specs.Words.{at}
 use Rattle.grid.specs.declared.Cell.{Cell}
 use Rattle.grid.specs.declared.Cell.the-variants.{Absent, Present}
 use Rattle.grid.specs.Grid.{Grid}
-use Rattle.grid.specs.Entries.{column, value, one, gather, entryCount}
+use Rattle.grid.specs.Entries.{column, one, gather, entryCount}
 use Rattle.grid.proofs.Gather.{gather-length, flatten-next, flatten-grows}
 use Rattle.encoding.specs.Encode.{entriesBefore}
-use Rattle.transpose.specs.Placed.{filled, Slots, RowPlaced}
+use Rattle.transpose.specs.Placed.{filled, Slots}
 
--- a column more of a row: an entry more, or none
+-- a row with one column more
 module _ (emit : ℕ → ℕ → ℕ) (row : ℕ → Cell) (i : ℕ) where
+  -- an entry more
   pub gather-present : {v : ℕ} → row i ≡ Present v → gather emit (i + 1) row ≡ gather emit i row ++ (emit i v ∷ [])
   unfolding gather one
   gather-present e = rw (add-one i, e)
 
+  -- none
   pub gather-absent : row i ≡ Absent → gather emit (i + 1) row ≡ gather emit i row
   unfolding gather one
   gather-absent e = rw (add-one i, e, append-nil)
@@ -44,17 +46,19 @@ module _ (g : Grid) where
   pub start-next : (j : ℕ) → entriesBefore g (j + 1) ≡ entriesBefore g j + filled g (g .cols) j
   start-next j = ap length (flatten-next column (g .cols) (g .cell) j) ∙ simp length-append
 
+  -- starts never fall
   pub start-grows : (j k : ℕ) → j ≤ k → entriesBefore g j ≤ entriesBefore g k
   start-grows = flatten-grows column (g .cols) (g .cell)
 
+  -- no row has more than all its entries
   pub filled-grows : (i j : ℕ) → i ≤ g .cols → filled g i j ≤ filled g (g .cols) j
   filled-grows i j l = gather-grows column (g .cell j) i (g .cols) l
 
-  -- an entry more
+  -- with one column more a row has an entry more
   pub filled-more : (i j : ℕ) {v : ℕ} → g .cell j i ≡ Present v → filled g (i + 1) j ≡ filled g i j + 1
   filled-more i j e = ap length (gather-present column (g .cell j) i e) ∙ simp length-append
 
-  -- none
+  -- or as many
   pub filled-same : (i j : ℕ) → g .cell j i ≡ Absent → filled g (i + 1) j ≡ filled g i j
   filled-same i j e = ap length (gather-absent column (g .cell j) i e)
 
@@ -88,9 +92,11 @@ module _ (emit : ℕ → ℕ → ℕ) (b : ℕ) (g : Grid) (i : ℕ) (s : List �
   slots-more v p e q l h k u =
       rw (gather-present emit (g .cell j) i e) (go (decLt k (filled g i j)))
     where
+      -- there are as many items as entries
       long : length (gather emit i (g .cell j)) ≡ filled g i j
       long = gather-length emit column i (g .cell j)
 
+      -- an item that was there, or the new one
       go : Dec (k < filled g i j)
           → at (set s p (emit i v)) (b + (entriesBefore g j + k)) ≡ at (gather emit i (g .cell j) ++ (emit i v ∷ [])) k
       go (yes d) =

@@ -4,13 +4,13 @@ use Prim.Native.Nat.{ℕ, zero, suc, _+_, _≤_, _<_}
 use native.Mathlib.Omega.{arith}
 use native.Mathlib.Decide.{decLt, ℕ-discrete}
 use native.Mathlib.Numerals.{add-one}
-use mathlib.Core.Path.{_≡_, refl, sym, ap, _∙_}
+use mathlib.Core.Path.{_≡_, refl, _∙_}
 use mathlib.Core.List.{List}
 use lib.ListN.{length, set, length-set, length-append}
 use lib.Seq.{getD-set-same, getD-set-other}
 use Rattle.words.specs.Words.{at}
 use Rattle.grid.specs.Grid.{Grid}
-use Rattle.grid.specs.Entries.{column, gather, flatten}
+use Rattle.grid.specs.Entries.{flatten}
 use Rattle.encoding.specs.Encode.{entriesBefore}
 use Rattle.transpose.specs.Counts.{sumBefore, Summable, Sums}
 use Rattle.transpose.specs.Placed.{filled}
@@ -49,6 +49,7 @@ pub record Summing (c : ℕ) (counts₀ starts₀ counts starts : List ℕ) (sum
   pub next-are : (k : ℕ) → k < j → at counts k ≡ sumBefore counts₀ k
   pub rest : (k : ℕ) → j ≤ k → at counts k ≡ at counts₀ k
 
+-- none of them yet
 pub summing-start : (c : ℕ) (counts starts : List ℕ) → Summing c counts starts counts starts 0 0
 unfolding sumBefore
 summing-start c counts starts = record {

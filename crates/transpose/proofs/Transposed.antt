@@ -1,7 +1,7 @@
 -- A transposed grid has as many entries and is within the limits, so its writing fits where the largest matrix does.
 use Prim.Native.Nat.{ℕ, zero, suc, _+_, _≤_}
 use native.Mathlib.Omega.{arith}
-use mathlib.Core.Path.{_≡_, refl, _∙_}
+use mathlib.Core.Path.{_≡_, refl, sym, _∙_}
 use mathlib.Core.List.{List}
 use lib.ListN.{length, length-append}
 use Rattle.limits.specs.Limits.{maxRows, maxCols}
@@ -9,8 +9,11 @@ use Rattle.grid.specs.declared.Cell.{Cell}
 use Rattle.grid.specs.declared.Cell.the-variants.{Absent, Present}
 use Rattle.grid.specs.Grid.{Grid}
 use Rattle.grid.specs.Entries.{column, one, gather, flatten, entryCount}
-use Rattle.matrix.specs.Layout.{maxMatrixWords}
+use Rattle.matrix.specs.Layout.{maxMatrixWords, entries, gridOf}
+use Rattle.matrix.specs.Facts.{Matrix}
+use Rattle.matrix.proofs.Facts.{matrix-made}
 use Rattle.encoding.specs.Encode.{gridSize, Within}
+use Rattle.encoding.proofs.Canonical.{valid-entries, valid-within}
 use Rattle.operations.specs.GridOperations.{transposed}
 
 -- at which column a cell stands does not change how many entries it has
@@ -27,7 +30,8 @@ flatten-none cell (suc r) = rw length-append (omega (arith, flatten-none cell r)
 
 -- one column more: its entries are those of one row more of the transpose
 flatten-column : (n : ℕ) (cell : ℕ → ℕ → Cell) (r : ℕ)
-    → length (flatten column (suc n) cell r) ≡ length (flatten column n cell r) + length (gather column r (λ i. cell i n))
+    → length (flatten column (suc n) cell r)
+    ≡ length (flatten column n cell r) + length (gather column r (λ i. cell i n))
 unfolding flatten gather
 flatten-column n cell zero = refl
 flatten-column n cell (suc r) =
@@ -42,8 +46,12 @@ flatten-transposed (suc n) cell r =
     flatten-column n cell r ∙ rw length-append (omega (arith, flatten-transposed n cell r))
 
 -- the number of entries
-pub transposed-count : (g : Grid) → entryCount (transposed g) ≡ entryCount g
+transposed-count : (g : Grid) → entryCount (transposed g) ≡ entryCount g
 transposed-count g = flatten-transposed (g .rows) (λ i j. g .cell j i) (g .cols)
+
+-- N of a matrix
+pub transposed-entries : {a : List ℕ} → Matrix a → entries a ≡ entryCount (transposed (gridOf a))
+transposed-entries {a} m = sym (transposed-count (gridOf a) ∙ valid-entries a (matrix-made a m))
 
 -- rows and columns have one limit
 limits-agree : maxRows ≡ maxCols
@@ -57,6 +65,6 @@ transposed-within {g} w = record {
   few = omega (arith, transposed-count g, w .few);
 }
 
--- and the writing of a grid within the limits is no longer than the largest matrix
-pub within-fits : {g : Grid} → Within g → gridSize g ≤ maxMatrixWords
-within-fits w = omega (arith, w .row-range .most, w .few)
+-- and its writing is no longer than the largest matrix
+pub transposed-fits : {a : List ℕ} → Matrix a → gridSize (transposed (gridOf a)) ≤ maxMatrixWords
+transposed-fits {a} m = let w = transposed-within (valid-within a (matrix-made a m)) in omega arith

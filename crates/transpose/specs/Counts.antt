@@ -24,6 +24,10 @@ pub record Countable (columns counts : List ℕ) : Type 0 where
   pub small : (k : ℕ) → k < length columns → at columns k < length counts
   pub clear : (j : ℕ) → at counts j ≡ 0
 
+-- they have been counted
+pub record CountsOf (columns counts : List ℕ) : Type 0 where
+  pub counts-are : (j : ℕ) → j < length counts → at counts j ≡ occurrences j columns
+
 -- c counts whose sum is no more than the entries of a matrix, and the words for c + 1 starts
 pub record Summable (c : ℕ) (counts starts : List ℕ) : Type 0 where
   pub within : c ≤ length counts

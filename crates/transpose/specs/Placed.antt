@@ -1,14 +1,18 @@
--- Writing the entries of a grid row by row of its transpose: what is in place when i rows of the transpose, which are the
--- first i columns of the grid, have been passed.
+-- Writing the entries of a grid column by column, as a walk over the rows of its transpose meets them: what is in place
+-- when the first i columns have been passed.
 use Prim.Native.Nat.{ℕ, _+_, _≤_, _<_}
 use mathlib.Core.Path.{_≡_}
-use mathlib.Core.List.{List}
+use mathlib.Core.List.{List, _++_}
 use lib.ListN.{length}
 use Rattle.limits.specs.Limits.{maxEntries}
 use Rattle.words.specs.Words.{at}
 use Rattle.grid.specs.Grid.{Grid}
-use Rattle.grid.specs.Entries.{column, value, gather, entryCount}
-use Rattle.encoding.specs.Encode.{entriesBefore}
+use Rattle.grid.specs.Entries.{column, value, gather, gridColumns, gridValues, entryCount}
+use Rattle.encoding.specs.Encode.{counted, entriesBefore}
+
+-- the column numbers and the values of a grid, each after their count
+abbrev pub entrySections : Grid → List ℕ
+entrySections g = counted (gridColumns g) ++ counted (gridValues g)
 
 -- how many entries row j has in its first i columns
 abbrev pub filled : Grid → ℕ → ℕ → ℕ

@@ -1,5 +1,5 @@
-// The transpose of a matrix, by counting: how many entries each column has says where its entries go, and one walk over
-// the rows puts them there. The time goes by entries, rows and columns.
+// The transpose of a matrix, by counting: the number of entries in each column says where its entries go, and one walk
+// over the rows puts them there. The time goes by entries, rows and columns.
 use limits::ROW_PLACES;
 use matrix::layout::COLS_AT;
 use matrix::layout::COLUMNS_PAST;
@@ -11,26 +11,24 @@ use matrix::layout::SHAPE_COUNT_AT;
 use matrix::layout::START_COUNT_AT;
 use matrix::layout::STARTS_AT;
 ghost use mathlib.Core.Path.{_≡_};
-ghost use Prim.Native.Nat.{ℕ, _+_, _≤_, _<_};
-ghost use mathlib.Core.List.{_++_};
+ghost use Prim.Native.Nat.{_+_, _≤_};
 ghost use lib.ListN.{length};
-ghost use Rattle.words.specs.Words.{at};
 ghost use Rattle.rows.specs.Row.{Row};
-ghost use Rattle.grid.specs.Entries.{gridColumns, gridValues};
 ghost use Rattle.matrix.specs.Layout.{maxMatrixWords, cols, rowColumns, rowValues, gridOf};
 ghost use Rattle.matrix.specs.Facts.{Header, RowSpan, Matrix};
-ghost use Rattle.encoding.specs.Encode.{counted, writtenOver};
+ghost use Rattle.encoding.specs.Encode.{writtenOver};
 ghost use Rattle.operations.specs.GridOperations.{transposed};
-ghost use Rattle.transpose.specs.Counts.{occurrences, Countable, Summable, Sums};
-ghost use Rattle.transpose.specs.Placed.{Placed, Room, Ready};
+ghost use Rattle.transpose.specs.Counts.{Countable, CountsOf, Summable, Sums};
+ghost use Rattle.transpose.specs.Placed.{entrySections, Placed, Room, Ready};
 
 // The transposed matrix at the front of `out`; what lies behind it stays.
 pub fn transpose(a: &[u32], out: &mut [u32])
     requires { ⌜ Matrix (now a) ⌝ ∗ ⌜ maxMatrixWords ≤ length (now out) ⌝ }
     ensures { λ _. ⌜ now (out .exit) ≡ writtenOver (transposed (gridOf (now (a .entry)))) (now (out .entry)) ⌝ }
 {
-    let r = a[ROWS_AT] as usize;
+    let rows = a[ROWS_AT];
     let cols = a[COLS_AT];
+    let r = rows as usize;
     let c = cols as usize;
     let n = matrix::entry_count(a) as usize;
     let columns_at = r + COLUMNS_PAST;
@@ -39,7 +37,7 @@ pub fn transpose(a: &[u32], out: &mut [u32])
     count_columns(&a[columns_at..columns_end], &mut next);
     out[SHAPE_COUNT_AT] = 2;
     out[ROWS_AT] = cols;
-    out[COLS_AT] = a[ROWS_AT];
+    out[COLS_AT] = rows;
     out[START_COUNT_AT] = cols + 1;
     let starts_end = c + COUNT_PAST;
     write_starts(c, &mut next, &mut out[STARTS_AT..starts_end]);
@@ -50,7 +48,7 @@ pub fn transpose(a: &[u32], out: &mut [u32])
 // How often each column number occurs.
 fn count_columns(columns: &[u32], counts: &mut [u32])
     requires { ⌜ Countable (now columns) (now counts) ⌝ }
-    ensures { λ _. ⌜ ((j : ℕ) → j < length (now (counts .entry)) → at (now (counts .exit)) j ≡ occurrences j (now (columns .entry))) ⌝ }
+    ensures { λ _. ⌜ CountsOf (now (columns .entry)) (now (counts .exit)) ⌝ }
 {
     let mut k = 0;
     while k < columns.len() {
@@ -77,11 +75,11 @@ fn write_starts(c: usize, counts: &mut [u32], starts: &mut [u32])
     starts[j] = sum;
 }
 
-// The column numbers and the values of the transposed matrix, each after their count. At j `next` has the start of
-// column j.
+// The column numbers and the values of the transposed matrix, each after their count. `next` has the start of each
+// column of `a`.
 fn write_entries(a: &[u32], next: &mut [u32], sections: &mut [u32])
     requires { ⌜ Matrix (now a) ⌝ ∗ ⌜ Ready (transposed (gridOf (now a))) (now next) (now sections) ⌝ }
-    ensures { λ _. ⌜ now (sections .exit) ≡ counted (gridColumns (transposed (gridOf (now (a .entry))))) ++ counted (gridValues (transposed (gridOf (now (a .entry))))) ⌝ }
+    ensures { λ _. ⌜ now (sections .exit) ≡ entrySections (transposed (gridOf (now (a .entry)))) ⌝ }
 {
     let r = a[ROWS_AT] as usize;
     let count = matrix::entry_count(a);
@@ -95,20 +93,27 @@ fn write_entries(a: &[u32], next: &mut [u32], sections: &mut [u32])
     }
 }
 
-// The entries of row i go to the next free places of their columns.
+// The entries of row i of `a`, which has n in all, go to the next places of their columns. The column numbers begin
+// after their count, the first word of `sections`, and the values after theirs, word n + 1.
 fn place_row(a: &[u32], i: usize, n: usize, next: &mut [u32], sections: &mut [u32])
-    requires { ⌜ Header (now a) ⌝ ∗ ⌜ RowSpan (now a) i ⌝ ∗ ⌜ Row (cols (now a)) (rowColumns (now a) i) (rowValues (now a) i) ⌝ ∗ ⌜ Room (transposed (gridOf (now a))) n (now next) (now sections) ⌝ ∗ ⌜ Placed (transposed (gridOf (now a))) i (now next) (now sections) ⌝ }
+    requires { ⌜ Header (now a) ⌝ }
+    requires { ⌜ RowSpan (now a) i ⌝ }
+    requires { ⌜ Row (cols (now a)) (rowColumns (now a) i) (rowValues (now a) i) ⌝ }
+    requires { ⌜ Room (transposed (gridOf (now a))) n (now next) (now sections) ⌝ }
+    requires { ⌜ Placed (transposed (gridOf (now a))) i (now next) (now sections) ⌝ }
     ensures { λ _. ⌜ Placed (transposed (gridOf (now (a .entry)))) (i + 1) (now (next .exit)) (now (sections .exit)) ⌝ }
 {
     let columns = matrix::row_columns(a, i);
     let values = matrix::row_values(a, i);
     let mut k = 0;
     while k < columns.len() {
-        let j = columns[k] as usize;
+        let column = columns[k];
+        let value = values[k];
+        let j = column as usize;
         let place = next[j];
         let p = place as usize;
         sections[p + 1] = i as u32;
-        sections[p + n + 2] = values[k];
+        sections[p + n + 2] = value;
         next[j] = place + 1;
         k += 1;
     }

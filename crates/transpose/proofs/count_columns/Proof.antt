@@ -40,7 +40,7 @@ slice-read-counts c = omega (arith, small (c .before .before))
 add-counts : tie.Need-add-counts Inv-loop μ-loop
 add-counts c =
     let q = c .before .before in
-    omega (arith, counting-small (q .before .before .pre) (q .before .loop .inv) _ (small q))
+    omega (arith, counting-small (q .before .loop .inv) _ (small q))
 
 mul-counts-2 : tie.Need-mul-counts-2 Inv-loop μ-loop
 mul-counts-2 c = omega (arith, small (c .before .before))
@@ -56,13 +56,13 @@ loop-less c = omega arith
 
 loop-again : tie.Need-loop-again Inv-loop μ-loop
 loop-again c =
-    let q = c .before .before in counting-step (q .before .before .pre) (q .before .loop .inv) (q .loop-test .taken)
+    let q = c .before .before in counting-step (q .before .loop .inv) (q .loop-test .taken)
 
 same-length : tie.Need-same-length Inv-loop μ-loop
 same-length c = c .before .loop .inv .long
 
 returns : tie.Need-returns Inv-loop μ-loop
-returns c = counting-done (c .before .before .pre) (c .before .loop .inv) (c .loop-test .left)
+returns c = counting-done (c .before .loop .inv) (c .loop-test .left)
 
 pub count-columns-spec : {M : Type 1} → statement M
 count-columns-spec =

@@ -40,11 +40,16 @@ source q =
 
 -- what a turn finds
 turn : (q : tie.In-loop Inv-loop μ-loop)
-    → Turn (transposed (gridOf (now (start (q .before .before) .args .a)))) (now (q .before .before .before .row-columns .result))
+    → Turn (transposed (gridOf (now (start (q .before .before) .args .a))))
+    (now (q .before .before .before .row-columns .result)) (now (q .before .before .row-values .result))
     (q .before .loop .next) (q .before .loop .k)
 turn q =
     let r = q .before .before in
     placing-turn (source r) (start r .pre .1 .1 .1 .0) (q .before .loop .inv) (q .loop-test .taken)
+
+-- the turn, from the place where the next place has been read
+abbrev in-turn : tie.After-slice-known3 Inv-loop μ-loop → tie.In-loop Inv-loop μ-loop
+in-turn c = c .before .before .before
 
 row-columns-requires : tie.Need-row-columns-requires Inv-loop μ-loop
 row-columns-requires c κs = search needs
@@ -55,72 +60,72 @@ row-values-requires c κs = search needs
 loop-holds : tie.Need-loop-holds Inv-loop μ-loop
 loop-holds c = placing-start (source c) (start c .pre .1 .1 .1 .1)
 
-mul-j : tie.Need-mul-j Inv-loop μ-loop
-mul-j c = let t = turn c in omega arith
+mul-column : tie.Need-mul-column Inv-loop μ-loop
+mul-column c = omega arith
 
-shared-slice-read-j : tie.Need-shared-slice-read-j Inv-loop μ-loop
-shared-slice-read-j c = let t = turn (c .before) in omega arith
+shared-slice-read-column : tie.Need-shared-slice-read-column Inv-loop μ-loop
+shared-slice-read-column c = omega arith
+
+mul-value : tie.Need-mul-value Inv-loop μ-loop
+mul-value c = let t = turn (c .before) in omega arith
+
+shared-slice-read-value : tie.Need-shared-slice-read-value Inv-loop μ-loop
+shared-slice-read-value c = let t = turn (c .before .before) in omega arith
 
 cast-j : tie.Need-cast-j Inv-loop μ-loop
-cast-j c = omega (arith, c .shared-slice-known2 .given (c .before .before .loop .k))
+cast-j c = omega (arith, c .before .shared-slice-known2 .given (c .before .before .before .loop .k))
 
 mul-place : tie.Need-mul-place Inv-loop μ-loop
-mul-place c = let t = turn (c .before) in omega arith
+mul-place c = let t = turn (c .before .before) in omega arith
 
 slice-read-place : tie.Need-slice-read-place Inv-loop μ-loop
-slice-read-place c = let t = turn (c .before .before) in omega arith
+slice-read-place c = let t = turn (in-turn c) in omega arith
 
 cast-p : tie.Need-cast-p Inv-loop μ-loop
-cast-p c = let t = turn (c .before .before) in omega arith
+cast-p c = let t = turn (in-turn c) in omega arith
 
 cast-sections : tie.Need-cast-sections Inv-loop μ-loop
-cast-sections c = let t = turn (c .before .before) in omega arith
+cast-sections c = let t = turn (in-turn c) in omega arith
 
 add-sections : tie.Need-add-sections Inv-loop μ-loop
-add-sections c = let t = turn (c .before .before) in omega arith
+add-sections c = let t = turn (in-turn c) in omega arith
 
 mul-sections : tie.Need-mul-sections Inv-loop μ-loop
-mul-sections c = let t = turn (c .before .before) in omega arith
+mul-sections c = let t = turn (in-turn c) in omega arith
 
 slice-write-sections : tie.Need-slice-write-sections Inv-loop μ-loop
-slice-write-sections c = let t = turn (c .before .before) in omega arith
-
-mul-sections-2 : tie.Need-mul-sections-2 Inv-loop μ-loop
-mul-sections-2 c = let t = turn (c .before .before) in omega arith
-
-shared-slice-read-sections : tie.Need-shared-slice-read-sections Inv-loop μ-loop
-shared-slice-read-sections c = omega (arith, source (c .before .before .before .before .before) .row .even)
+slice-write-sections c = let t = turn (in-turn c) in omega arith
 
 add-sections-2 : tie.Need-add-sections-2 Inv-loop μ-loop
-add-sections-2 c = let t = turn (c .before .before .before) in omega arith
+add-sections-2 c = let t = turn (in-turn c) in omega arith
 
 add-sections-3 : tie.Need-add-sections-3 Inv-loop μ-loop
-add-sections-3 c = let t = turn (c .before .before .before) in omega arith
+add-sections-3 c = let t = turn (in-turn c) in omega arith
 
-mul-sections-3 : tie.Need-mul-sections-3 Inv-loop μ-loop
-mul-sections-3 c = let t = turn (c .before .before .before) in omega arith
+mul-sections-2 : tie.Need-mul-sections-2 Inv-loop μ-loop
+mul-sections-2 c = let t = turn (in-turn c) in omega arith
 
 slice-write-sections-2 : tie.Need-slice-write-sections-2 Inv-loop μ-loop
-slice-write-sections-2 c = let t = turn (c .before .before .before) in simp length-set (omega arith)
+slice-write-sections-2 c = let t = turn (in-turn c) in simp length-set (omega arith)
 
 add-next : tie.Need-add-next Inv-loop μ-loop
-add-next c = let t = turn (c .before .before .before) in omega arith
+add-next c = let t = turn (in-turn c) in omega arith
 
 mul-next : tie.Need-mul-next Inv-loop μ-loop
-mul-next c = let t = turn (c .before .before .before) in omega arith
+mul-next c = let t = turn (in-turn c) in omega arith
 
 slice-write-next : tie.Need-slice-write-next Inv-loop μ-loop
-slice-write-next c = let t = turn (c .before .before .before) in omega arith
+slice-write-next c = let t = turn (in-turn c) in omega arith
 
 add-k : tie.Need-add-k Inv-loop μ-loop
-add-k c = let t = turn (c .before .before .before) in omega arith
+add-k c = omega arith
 
 loop-less : tie.Need-loop-less Inv-loop μ-loop
-loop-less c = let t = turn (c .before .before .before) in omega arith
+loop-less c = omega arith
 
 loop-again : tie.Need-loop-again Inv-loop μ-loop
 loop-again c =
-    let q = c .before .before .before in
+    let q = in-turn c in
     let r = q .before .before in
     placing-step (source r) (start r .pre .1 .1 .1 .0) (q .before .loop .inv) (q .loop-test .taken)
 
@@ -142,8 +147,10 @@ place-row-spec =
     row-columns-requires
     row-values-requires
     loop-holds
-    mul-j
-    shared-slice-read-j
+    mul-column
+    shared-slice-read-column
+    mul-value
+    shared-slice-read-value
     cast-j
     mul-place
     slice-read-place
@@ -152,11 +159,9 @@ place-row-spec =
     add-sections
     mul-sections
     slice-write-sections
-    mul-sections-2
-    shared-slice-read-sections
     add-sections-2
     add-sections-3
-    mul-sections-3
+    mul-sections-2
     slice-write-sections-2
     add-next
     mul-next

@@ -1,33 +1,24 @@
 -- `transpose` writes the transposed grid: the header, the row starts and the other sections, one behind the other.
 use native.Mathlib.Omega.{arith}
-use mathlib.Core.Path.{_≡_, sym, ap, _∙_}
 use Prim.Native.Nat.{ℕ, _≤_}
+use mathlib.Core.Path.{_≡_, _∙_}
 use mathlib.Core.List.{List}
 use denote.Ref.{now}
 use lib.ListN.{length, length-set}
 use Rattle.matrix.specs.Layout.{rows, cols, entries, sizeOf}
 use Rattle.matrix.specs.Facts.{Matrix}
+use Rattle.transpose.proofs.Passes.{columns-countable, counts-summable, starts-written, starts-ready}
 use Rattle.transpose.proofs.Written.{
-  columns-countable,
-  counts-summable,
-  starts-written,
-  starts-ready,
-  starts-room,
   started,
+  starts-room,
   started-length,
   sections-room,
-  transposed-fits,
+  size-fits,
   transposed-written,
 }
 use borrow.Author.Needs.{needs}
 use Rattle.transpose.proofs.transpose.Statement.{statement}
 use Rattle.transpose.proofs.transpose.Tie as tie
-use Rattle.transpose.proofs.transpose.Reads as reads
-use Rattle.transpose.proofs.transpose.Lts as lts
-use Rattle.matrix.proofs.entry_count.Reads as entry-count-reads
-use Rattle.transpose.proofs.count_columns.Reads as count-columns-reads
-use Rattle.transpose.proofs.write_entries.Reads as write-entries-reads
-use Rattle.transpose.proofs.write_starts.Reads as write-starts-reads
 
 -- the function's entry, from the place where the columns have been counted
 abbrev start : tie.After-count-columns → tie.Start
@@ -50,11 +41,11 @@ count-is : (q : tie.After-count-columns) → count q ≡ entries (input q)
 count-is q = q .before .before .before .entry-count .ensures
 
 fits : (q : tie.After-count-columns) → sizeOf (cols (input q)) (count q) ≤ length (buffer q)
-fits q = transposed-fits (valid q) (count-is q) (buffer q) (start q .pre .1)
+fits q = size-fits (valid q) (count-is q) (buffer q) (start q .pre .1)
 
 -- the place where the columns have been counted, and the starts, from the place where these are written
 abbrev counts-at : tie.After-write-starts → tie.After-count-columns
-counts-at w = w .before .before .before .before .before
+counts-at w = w .before .before .before .before
 
 abbrev starts : tie.After-write-starts → List ℕ
 starts w = w .write-starts .last .1 .1 .0
@@ -65,14 +56,14 @@ started-long : (w : tie.After-write-starts)
     ≡ length (buffer (counts-at w))
 started-long w = started-length _ _ (buffer (counts-at w)) (starts w) (w .write-starts .kept .1 .1 .0)
 
-shared-slice-read-r : tie.Need-shared-slice-read-r
-shared-slice-read-r c = search needs
-
-cast-r : tie.Need-cast-r
-cast-r c = search needs
+shared-slice-read-rows : tie.Need-shared-slice-read-rows
+shared-slice-read-rows c = search needs
 
 shared-slice-read-cols : tie.Need-shared-slice-read-cols
 shared-slice-read-cols c = search needs
+
+cast-r : tie.Need-cast-r
+cast-r c = search needs
 
 cast-c : tie.Need-cast-c
 cast-c c = search needs
@@ -118,9 +109,6 @@ slice-write-out c = search needs
 slice-write-out-2 : tie.Need-slice-write-out-2
 slice-write-out-2 c = simp length-set (omega arith)
 
-shared-slice-read-out : tie.Need-shared-slice-read-out
-shared-slice-read-out c = search needs
-
 slice-write-out-3 : tie.Need-slice-write-out-3
 slice-write-out-3 c = simp length-set (omega arith)
 
@@ -143,12 +131,12 @@ part-write-starts-start : tie.Need-part-write-starts-start
 part-write-starts-start c = search needs
 
 part-write-starts-end : tie.Need-part-write-starts-end
-part-write-starts-end c = simp length-set (omega (arith, fits (c .before .before .before)))
+part-write-starts-end c = simp length-set (omega (arith, fits (c .before .before)))
 
 write-starts-requires : tie.Need-write-starts-requires
 write-starts-requires c κs =
-    let q = c .before .before .before .before in
-    counts-summable (valid q) (count-is q) _ (q .count-columns .kept .1 .0) (q .count-columns .ensures) _
+    let q = c .before .before .before in
+    counts-summable (valid q) (count-is q) (q .count-columns .ensures) (q .count-columns .kept .1 .0)
     (starts-room _ _ (buffer q) (omega (arith, fits q)))
 
 add-end : tie.Need-add-end
@@ -179,15 +167,18 @@ part-write-entries-end c =
 write-entries-requires : tie.Need-write-entries-requires
 write-entries-requires c κs =
     let w = c .before .before .before .before .before in
-    let q = counts-at w in (
+    let q = counts-at w in
+    let next-long = w .write-starts .kept .1 .0 ∙ q .count-columns .kept .1 .0 in
+    let room = sections-room _ _ (buffer q) (starts w) (w .write-starts .kept .1 .1 .0) (count q) (fits q) in (
       valid q,
-      starts-ready (valid q) (count-is q) _ (q .count-columns .kept .1 .0) (q .count-columns .ensures)
-          (w .write-starts .ensures) (w .write-starts .kept .1 .0 ∙ q .count-columns .kept .1 .0)
-          (sections-room _ _ (buffer q) (starts w) (w .write-starts .kept .1 .1 .0) (count q) (fits q)),
+      starts-ready (valid q) (count-is q) (q .count-columns .ensures) (q .count-columns .kept .1 .0)
+          (w .write-starts .ensures) next-long room,
     )
 
 same-length : tie.Need-same-length
-same-length c = c .before .out2 .given .1 ∙ started-long (c .before .before .before .before .before .before .before .before .before)
+same-length c =
+    let v = c .before .before .before in
+    c .before .out2 .given .1 ∙ started-long (v .before .before .before .before .before .before)
 
 returns : tie.Need-returns
 returns c =
@@ -195,8 +186,8 @@ returns c =
     let w = v .before .before .before .before .before .before in
     let q = counts-at w in
     let room = starts-room (cols (input q)) (rows (input q)) (buffer q) (omega (arith, fits q)) in
-    transposed-written (valid q) (count-is q) (buffer q) (start q .pre .1) (starts w) _
-    (starts-written (valid q) (count-is q) _ (q .count-columns .kept .1 .0) (q .count-columns .ensures)
+    transposed-written (valid q) (count-is q) (buffer q) (start q .pre .1)
+    (starts-written (valid q) (count-is q) (q .count-columns .ensures) (q .count-columns .kept .1 .0)
     (w .write-starts .ensures) (w .write-starts .kept .1 .1 .0 ∙ room))
     (v .write-entries .ensures)
 
@@ -204,9 +195,9 @@ pub transpose-spec : {M : Type 1} → statement M
 transpose-spec =
     tie.close
     (tie.spec
-    shared-slice-read-r
-    cast-r
+    shared-slice-read-rows
     shared-slice-read-cols
+    cast-r
     cast-c
     entry-count-requires
     cast-n
@@ -221,7 +212,6 @@ transpose-spec =
     count-columns-requires
     slice-write-out
     slice-write-out-2
-    shared-slice-read-out
     slice-write-out-3
     add-out
     slice-write-out-4

@@ -6,16 +6,11 @@ use denote.Ref.{now}
 use lib.ListN.{length-set}
 use Rattle.grid.specs.Entries.{entryCount}
 use Rattle.matrix.specs.Layout.{rows, gridOf}
-use Rattle.matrix.proofs.Facts.{row-span}
+use Rattle.matrix.proofs.Facts.{row-span, matrix-made}
+use Rattle.encoding.proofs.Canonical.{valid-row}
 use Rattle.operations.specs.GridOperations.{transposed}
-use Rattle.transpose.proofs.Sections.{
-  transposed-entries,
-  RowsPlaced,
-  placed-none,
-  placed-next,
-  row-of,
-  placed-all,
-}
+use Rattle.transpose.proofs.Transposed.{transposed-entries}
+use Rattle.transpose.proofs.Sections.{RowsPlaced, placed-none, placed-next, placed-all}
 use borrow.Author.Needs.{needs}
 use Rattle.transpose.proofs.write_entries.Statement.{statement}
 use Rattle.transpose.proofs.write_entries.Tie as tie
@@ -69,7 +64,7 @@ place-row-requires c κs =
     let h = q .before .loop .inv in
     let m = start (q .before .before) .pre .0 in
     let l = q .loop-test .taken in
-    (m .header, (row-span _ (m .starts) _ l, (row-of m l, (h .room, h .placed))))
+    (m .header, (row-span _ (m .starts) _ l, (valid-row _ (matrix-made _ m) _ l, (h .room, h .placed))))
 
 add-i : tie.Need-add-i Inv-loop μ-loop
 add-i c = search needs
