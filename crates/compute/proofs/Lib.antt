@@ -1,4 +1,0 @@
-pub mod WriteRow
-pub mod Sources
-pub mod Results
-pub mod FinalRow
