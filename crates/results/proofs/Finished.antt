@@ -25,8 +25,7 @@ use Rattle.matrix.specs.Layout.{
 }
 use Rattle.encoding.specs.Encode.{entriesBefore, gridSize, writtenOver}
 use Rattle.encoding.proofs.Assembled.{Assembled, assembled}
-use Rattle.results.specs.Staging.{stagedAt, ResultBounds, headed, finished}
-use Rattle.results.proofs.Staged.{Staged}
+use Rattle.results.specs.Staging.{stagedAt, ResultBounds, headed, finished, Staged}
 
 -- the words of the head
 record Head (r c : ℕ) (s : List ℕ) : Type 0 where

@@ -23,20 +23,13 @@ use Rattle.grid.specs.Grid.{Grid}
 use Rattle.grid.specs.Entries.{column, value, gather, flatten}
 use Rattle.matrix.specs.Layout.{startsAt, columnsAt, start, maxMatrixWords}
 use Rattle.encoding.specs.Encode.{entriesBefore}
-use Rattle.results.specs.Staging.{stagedAt, RowBounds, stagedRow}
+use Rattle.results.specs.Staging.{stagedAt, RowBounds, stagedRow, Staged}
 
 -- a part without the word that was set
 pub part-set-other : (a e i v : ℕ) (s : List ℕ) → e ≤ length s → ((k : ℕ) → a ≤ k → k < e → k ≡ i → ⊥)
     → part a e (set s i v) ≡ part a e s
 part-set-other a e i v s h f =
     part-same a e (set s i v) s (simp length-set h) h (λ k l m. getD-set-other s i k v 0 (f k l m))
-
--- i rows of the grid g are staged, with n entries
-pub record Staged (g : Grid) (i n : ℕ) (w : List ℕ) : Type 0 where
-  pub count : n ≡ entriesBefore g i
-  pub starts : (k : ℕ) → k < i → start w k ≡ entriesBefore g k
-  pub columns : part (columnsAt (g .rows)) (columnsAt (g .rows) + n) w ≡ flatten column (g .cols) (g .cell) i
-  pub values : part stagedAt (stagedAt + n) w ≡ flatten value (g .cols) (g .cell) i
 
 pub staged-none : (g : Grid) (w : List ℕ) → Staged g 0 0 w
 unfolding flatten

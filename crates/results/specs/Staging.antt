@@ -6,7 +6,11 @@ use mathlib.Core.List.{List}
 use lib.ListN.{length, set}
 use Rattle.limits.specs.Limits.{maxRows, maxCols, maxEntries}
 use Rattle.words.specs.Words.{part, overwrite}
+use Rattle.grid.specs.Grid.{Grid}
+use Rattle.grid.specs.Entries.{column, value, flatten}
+use Rattle.encoding.specs.Encode.{entriesBefore}
 use Rattle.matrix.specs.Layout.{
+  start,
   shapeCountAt,
   rowsAt,
   colsAt,
@@ -34,6 +38,13 @@ pub record RowBounds (r i n : ℕ) (cs vs w : List ℕ) : Type 0 where
 abbrev pub stagedRow : ℕ → ℕ → ℕ → List ℕ → List ℕ → List ℕ → List ℕ
 stagedRow r i n cs vs w =
     overwrite (stagedAt + n) vs (overwrite (columnsAt r + n) cs (set w (i + startsAt) n))
+
+-- i rows of the grid g are staged, with n entries
+pub record Staged (g : Grid) (i n : ℕ) (w : List ℕ) : Type 0 where
+  pub count : n ≡ entriesBefore g i
+  pub starts : (k : ℕ) → k < i → start w k ≡ entriesBefore g k
+  pub columns : part (columnsAt (g .rows)) (columnsAt (g .rows) + n) w ≡ flatten column (g .cols) (g .cell) i
+  pub values : part stagedAt (stagedAt + n) w ≡ flatten value (g .cols) (g .cell) i
 
 -- n entries in r rows and c columns
 pub record ResultBounds (r c n : ℕ) (w : List ℕ) : Type 0 where

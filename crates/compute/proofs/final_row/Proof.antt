@@ -1,0 +1,160 @@
+-- `final_row` is a row of the final C: the row of T, written back.
+use native.Mathlib.Omega.{arith}
+use Prim.Native.Nat.{_≤_}
+use mathlib.Core.Path.{_≡_}
+use mathlib.Core.Bool.{true}
+use denote.Ref.{now}
+use lib.ListN.{length, length-take}
+use Rattle.rows.proofs.Holds.{holds-most}
+use Rattle.operations.specs.Calls.{transposeFirst, transposeSecond, hasSecond}
+use Rattle.compute.specs.Computing.{secondRegion, Source}
+use Rattle.compute.proofs.Sources.{first-read, second-read}
+use Rattle.compute.proofs.FinalRow.{row-inputs, row-buffers, old-row, final-row}
+use borrow.Author.Needs.{needs}
+use Rattle.compute.proofs.final_row.Statement.{statement}
+use Rattle.compute.proofs.final_row.Tie as tie
+
+-- the inputs as they are read
+abbrev start : tie.After-choose2 → tie.Start
+start q = q .before .before .before .before .before .before .before .before .before .before .before .before .before .before .before
+
+first-source : (q : tie.After-choose2)
+    → Source (transposeFirst (start q .args .call)) (now (start q .args .a)) (now (q .before .before .choose .result))
+first-source q = first-read _ _ _ _ _ (q .before .before .choose .ensures) (start q .pre .1 .1 .0 .0) (start q .pre .1 .0 .first)
+
+second-held : (q : tie.After-choose2) → hasSecond (start q .args .call .operation) ≡ true
+    → Source (transposeSecond (start q .args .call)) (now (start q .args .b)) (now (q .choose2 .result))
+second-held q h =
+    let a = start q .args in
+    let p = start q .pre in
+    second-read (a .call) (a .second) (now (a .b)) (secondRegion (now (a .work))) _ (q .choose2 .ensures) (p .1 .1 .0 .1)
+    (p .1 .0 .second) h
+
+sub-choose : tie.Need-sub-choose
+sub-choose c = search needs
+
+part-choose-start : tie.Need-part-choose-start
+part-choose-start c = search needs
+
+part-choose-end : tie.Need-part-choose-end
+part-choose-end c = search needs
+
+choose-requires : tie.Need-choose-requires
+choose-requires c κs = search needs
+
+sub-choose-2 : tie.Need-sub-choose-2
+sub-choose-2 c = search needs
+
+part-choose-start-2 : tie.Need-part-choose-start-2
+part-choose-start-2 c = search needs
+
+part-choose-end-2 : tie.Need-part-choose-end-2
+part-choose-end-2 c = search needs
+
+choose-requires-2 : tie.Need-choose-requires-2
+choose-requires-2 c κs = search needs
+
+result-row-requires : tie.Need-result-row-requires
+result-row-requires c κs =
+    let q = c .before .before in
+    let p = start q .pre in (
+      row-inputs _ _ _ _ _ _ _ _ _ (p .0) (first-source q) (second-held q) _ (p .1 .1 .0 .0) _ (p .1 .1 .1 .1 .0),
+      row-buffers _ _ _ _ _ _ _ _ _ (p .0) (first-source q) (second-held q) _ (p .1 .1 .0 .0) _ _ _ _ (p .1 .1 .1 .1 .1),
+    )
+
+write-back-of-requires : tie.Need-write-back-of-requires
+write-back-of-requires c κs = search needs
+
+slice-reshare-prefix-write-row : tie.Need-slice-reshare-prefix-write-row
+slice-reshare-prefix-write-row c =
+    let s = c .before .before .before .before .before in
+    let q = s .before .before .before in
+    let p = start q .pre in
+    let b = row-buffers _ _ _ _ _ _ _ _ _ (p .0) (first-source q) (second-held q) _ (p .1 .1 .0 .0) _ _ _ _ (p .1 .1 .1 .1 .1) in
+    let h = holds-most (s .result-row .ensures) in
+    omega arith
+
+slice-aggregate-write-row : tie.Need-slice-aggregate-write-row
+slice-aggregate-write-row c =
+    let s = c .before .before .before .before .before .before in
+    let q = s .before .before .before in
+    let p = start q .pre in
+    let b = row-buffers _ _ _ _ _ _ _ _ _ (p .0) (first-source q) (second-held q) _ (p .1 .1 .0 .0) _ _ _ _ (p .1 .1 .1 .1 .1) in
+    let h = holds-most (s .result-row .ensures) in
+    simp length-take (omega arith)
+
+slice-reshare-prefix-write-row-2 : tie.Need-slice-reshare-prefix-write-row-2
+slice-reshare-prefix-write-row-2 c =
+    let s = c .before .before .before .before .before .before in
+    let q = s .before .before .before in
+    let p = start q .pre in
+    let b = row-buffers _ _ _ _ _ _ _ _ _ (p .0) (first-source q) (second-held q) _ (p .1 .1 .0 .0) _ _ _ _ (p .1 .1 .1 .1 .1) in
+    let h = holds-most (s .result-row .ensures) in
+    omega arith
+
+slice-aggregate-write-row-2 : tie.Need-slice-aggregate-write-row-2
+slice-aggregate-write-row-2 c =
+    let s = c .before .before .before .before .before .before .before in
+    let q = s .before .before .before in
+    let p = start q .pre in
+    let b = row-buffers _ _ _ _ _ _ _ _ _ (p .0) (first-source q) (second-held q) _ (p .1 .1 .0 .0) _ _ _ _ (p .1 .1 .1 .1 .1) in
+    let h = holds-most (s .result-row .ensures) in
+    simp length-take (omega arith)
+
+write-row-requires : tie.Need-write-row-requires
+write-row-requires c κs =
+    let s = c .before .before .before .before .before .before .before .before .before in
+    let q = s .before .before .before in
+    let p = start q .pre in
+    let k = p .0 .inputs .output .header .col-range .most in
+    let b = p .1 .1 .1 .1 .1 in (
+      old-row _ _ _ _ _ _ _ _ _ (p .0) (first-source q) (second-held q) _ (p .1 .1 .0 .0) _ _ _ _ (p .1 .1 .1 .1 .0)
+          (s .result-row .ensures) _ (c .before .before .before .before .write-back-of .ensures),
+      (omega arith, omega arith),
+    )
+
+same-length : tie.Need-same-length
+same-length c = search needs
+
+same-length-2 : tie.Need-same-length-2
+same-length-2 c = search needs
+
+same-length-3 : tie.Need-same-length-3
+same-length-3 c = search needs
+
+same-length-4 : tie.Need-same-length-4
+same-length-4 c = search needs
+
+returns : tie.Need-returns
+returns c =
+    let w = c .before .before .before .before in
+    let s = w .before .before .before .before .before .before .before .before .before .before in
+    let q = s .before .before .before in
+    let p = start q .pre in
+    final-row _ _ _ _ _ _ _ _ _ (p .0) (first-source q) (second-held q) _ (p .1 .1 .0 .0) _ _ _ _ (p .1 .1 .1 .1 .0)
+    (s .result-row .ensures) _ (w .before .before .before .before .before .write-back-of .ensures) _ _ _ (w .write-row .ensures)
+
+pub final-row-spec : {M : Type 1} → statement M
+final-row-spec =
+    tie.close
+    (tie.spec
+    sub-choose
+    part-choose-start
+    part-choose-end
+    choose-requires
+    sub-choose-2
+    part-choose-start-2
+    part-choose-end-2
+    choose-requires-2
+    result-row-requires
+    write-back-of-requires
+    slice-reshare-prefix-write-row
+    slice-aggregate-write-row
+    slice-reshare-prefix-write-row-2
+    slice-aggregate-write-row-2
+    write-row-requires
+    same-length
+    same-length-2
+    same-length-3
+    same-length-4
+    returns)

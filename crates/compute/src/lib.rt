@@ -1,0 +1,338 @@
+// Working out the final C of a call whose inputs are valid and agree. Inputs, mask and old C are only read; the result
+// is left at the front of the workspace. The workspace is three regions of the largest matrix each: the result, the
+// first input transposed, the second input transposed.
+use limits::MAX_ENTRIES;
+use limits::ROW_PLACES;
+use matrix::layout::MAX_MATRIX_WORDS;
+use merge::Combine;
+use operations::Call;
+use operations::WriteBack;
+ghost use mathlib.Core.Path.{_≡_};
+ghost use mathlib.Core.Bool.{true, cond};
+ghost use mathlib.Core.List.{[]};
+ghost use Prim.Native.Nat.{_≤_, _<_};
+ghost use lib.ListN.{length};
+ghost use Rattle.rows.specs.Row.{Row, Holds, lookup};
+ghost use Rattle.matrix.specs.Layout.{rows, cols, rowColumns, rowValues, cellOf, gridOf, maxMatrixWords, workspaceWords};
+ghost use Rattle.matrix.specs.Facts.{Matrix};
+ghost use Rattle.encoding.specs.Encode.{writtenOver};
+ghost use Rattle.operations.specs.GridOperations.{transposed};
+ghost use Rattle.operations.specs.WriteBacks.{writeBack};
+ghost use Rattle.operations.specs.Calls.{transposeFirst, writeBackOf};
+ghost use Rattle.requests.specs.Refusal.{lentFinal};
+ghost use Rattle.requests.specs.Inputs.{Ready};
+ghost use Rattle.compute.specs.Computing.{MaskRow, OldRow, secondFlag, Sources, RowBuffers, Progress, Advanced, Computed};
+
+const FIRST_AT: usize = MAX_MATRIX_WORDS;
+
+const SECOND_AT: usize = 2 * MAX_MATRIX_WORDS;
+
+const REGIONS_END: usize = 3 * MAX_MATRIX_WORDS;
+
+// Done with the number of entries, or more entries than a matrix may have.
+pub enum Outcome {
+    Done(usize),
+    Full,
+}
+
+// The final C at the front of the workspace.
+pub fn compute<'a>(
+    call: Call,
+    a: &'a [u32],
+    b: &'a [u32],
+    mask: &[u32],
+    c: &[u32],
+    is: &[u32],
+    js: &[u32],
+    work: &mut [u32],
+) -> Outcome
+    requires { ⌜ Ready call (now a) (now b) (now mask) (now c) (now is) (now js) ⌝ ∗ ⌜ workspaceWords ≤ length (now work) ⌝ }
+    ensures { λ r. ⌜ Computed r (lentFinal call (now (a .entry)) (now (b .entry)) (now (mask .entry)) (now (c .entry)) (now (is .entry)) (now (js .entry))) (now (work .exit)) ⌝ }
+{
+    let first = requests::transpose_first(call);
+    orient(first, a, &mut work[FIRST_AT..SECOND_AT]);
+    let second = second_flag(call);
+    orient(second, b, &mut work[SECOND_AT..REGIONS_END]);
+    compute_rows(call, first, second, a, b, mask, c, is, js, work)
+}
+
+// Whether there is a second input and it is transposed.
+fn second_flag(call: Call) -> bool
+    ensures { λ r. ⌜ r ≡ secondFlag call ⌝ }
+{
+    let operation = call.operation;
+    if !requests::has_second(operation) {
+        return false;
+    }
+    requests::transpose_second(call)
+}
+
+// The transpose of a matrix, where it is asked for.
+fn orient(flag: bool, a: &[u32], out: &mut [u32])
+    requires { ⌜ (flag ≡ true → Matrix (now a)) ⌝ ∗ ⌜ maxMatrixWords ≤ length (now out) ⌝ }
+    ensures { λ _. ⌜ now (out .exit) ≡ cond flag (writtenOver (transposed (gridOf (now (a .entry)))) (now (out .entry))) (now (out .entry)) ⌝ }
+{
+    if flag {
+        transpose::transpose(a, out);
+    }
+}
+
+// One of two slices.
+fn choose<'a>(flag: bool, x: &'a [u32], y: &'a [u32]) -> &'a [u32]
+    ensures { λ r. ⌜ now r ≡ cond flag (now (x .entry)) (now (y .entry)) ⌝ }
+{
+    if flag { x } else { y }
+}
+
+// How the call writes back.
+fn write_back_of(call: Call) -> WriteBack
+    ensures { λ r. ⌜ r ≡ writeBackOf call ⌝ }
+{
+    let flags = call.flags;
+    let accumulator = call.accumulator;
+    WriteBack {
+        replace: requests::flag_set(1, flags),
+        complement: requests::flag_set(2, flags),
+        structural: requests::flag_set(4, flags),
+        has_mask: call.has_mask,
+        accumulator: accumulator,
+    }
+}
+
+// The columns and the values of the mask's row i, or none where there is no mask.
+fn mask_columns(masked: bool, mask: &[u32], i: usize) -> &[u32]
+    requires { ⌜ (masked ≡ true → MaskRow (now mask) i) ⌝ }
+    ensures { λ r. ⌜ now r ≡ cond masked (rowColumns (now (mask .entry)) i) [] ⌝ }
+{
+    if !masked {
+        return &mask[0..0];
+    }
+    matrix::row_columns(mask, i)
+}
+
+fn mask_values(masked: bool, mask: &[u32], i: usize) -> &[u32]
+    requires { ⌜ (masked ≡ true → MaskRow (now mask) i) ⌝ }
+    ensures { λ r. ⌜ now r ≡ cond masked (rowValues (now (mask .entry)) i) [] ⌝ }
+{
+    if !masked {
+        return &mask[0..0];
+    }
+    matrix::row_values(mask, i)
+}
+
+// Row i of the final C, from old C, the mask and the row of T.
+fn write_row(
+    w: WriteBack,
+    mask: &[u32],
+    c: &[u32],
+    tc: &[u32],
+    tv: &[u32],
+    i: usize,
+    oc: &mut [u32],
+    ov: &mut [u32],
+) -> usize
+    requires { ⌜ OldRow w (now mask) (now c) (now tc) (now tv) i ⌝ }
+    requires { ⌜ (cols (now c) ≤ length (now oc)) × (cols (now c) ≤ length (now ov)) ⌝ }
+    ensures { λ r. ⌜ Holds (cols (now (c .entry)))
+        (λ j. writeBack w (cellOf (now (mask .entry)) i j) (cellOf (now (c .entry)) i j) (lookup (now (tc .entry)) (now (tv .entry)) j))
+        r (now (oc .exit)) (now (ov .exit)) ⌝ }
+{
+    let has_mask = w.has_mask;
+    merge::merge_row(
+        Combine::Write(w),
+        matrix::col_count(c),
+        mask_columns(has_mask, mask, i),
+        mask_values(has_mask, mask, i),
+        matrix::row_columns(c, i),
+        matrix::row_values(c, i),
+        tc,
+        tv,
+        oc,
+        ov,
+    )
+}
+
+// Row i of the final C: the row of T, written back.
+fn final_row<'a>(
+    call: Call,
+    first: bool,
+    second: bool,
+    a: &'a [u32],
+    b: &'a [u32],
+    mask: &[u32],
+    c: &[u32],
+    is: &[u32],
+    js: &[u32],
+    work: &'a [u32],
+    i: usize,
+    tc: &mut [u32],
+    tv: &mut [u32],
+    oc: &mut [u32],
+    ov: &mut [u32],
+) -> usize
+    requires { ⌜ Ready call (now a) (now b) (now mask) (now c) (now is) (now js) ⌝ ∗ ⌜ Sources call (now a) (now b) (now work) ⌝ }
+    requires { ⌜ (first ≡ transposeFirst call) × (second ≡ secondFlag call) ⌝ ∗ ⌜ workspaceWords ≤ length (now work) ⌝ }
+    requires { ⌜ i < rows (now c) ⌝ ∗ ⌜ RowBuffers (now tc) (now tv) (now oc) (now ov) ⌝ }
+    ensures { λ r. ⌜ Holds (cols (now (c .entry)))
+        (lentFinal call (now (a .entry)) (now (b .entry)) (now (mask .entry)) (now (c .entry)) (now (is .entry)) (now (js .entry)) .cell i)
+        r (now (oc .exit)) (now (ov .exit)) ⌝ }
+{
+    let x = choose(first, &work[FIRST_AT..SECOND_AT], a);
+    let y = choose(second, &work[SECOND_AT..REGIONS_END], b);
+    let operation = call.operation;
+    let t = result_rows::result_row(operation, first, x, y, is, js, i, tc, tv);
+    write_row(write_back_of(call), mask, c, &tc[..t], &tv[..t], i, oc, ov)
+}
+
+// One more row: it is staged, unless there are then too many entries. The number of entries so far.
+fn advance<'a>(
+    call: Call,
+    first: bool,
+    second: bool,
+    a: &'a [u32],
+    b: &'a [u32],
+    mask: &[u32],
+    c: &[u32],
+    is: &[u32],
+    js: &[u32],
+    work: &mut [u32],
+    total: usize,
+    i: usize,
+    n: usize,
+    tc: &mut [u32],
+    tv: &mut [u32],
+    oc: &mut [u32],
+    ov: &mut [u32],
+) -> usize
+    requires { ⌜ Progress call (now a) (now b) (now mask) (now c) (now is) (now js) first second (now work) (now tc) (now tv) (now oc) (now ov) total n i ⌝ ∗ ⌜ i < total ⌝ }
+    ensures { λ r. ⌜ Advanced call (now (a .entry)) (now (b .entry)) (now (mask .entry)) (now (c .entry)) (now (is .entry)) (now (js .entry)) first second (now (work .exit)) (now (tc .exit)) (now (tv .exit)) (now (oc .exit)) (now (ov .exit)) total r i ⌝ }
+{
+    let m = final_row(
+        call,
+        first,
+        second,
+        a,
+        b,
+        mask,
+        c,
+        is,
+        js,
+        &work[..],
+        i,
+        tc,
+        tv,
+        oc,
+        ov,
+    );
+    let next = n + m;
+    if (MAX_ENTRIES as usize) < next {
+        return next;
+    }
+    results::stage_row(
+        &mut work[..MAX_MATRIX_WORDS],
+        total,
+        i,
+        n,
+        &oc[..m],
+        &ov[..m],
+    );
+    next
+}
+
+// All rows, one after the other.
+fn all_rows<'a>(
+    call: Call,
+    first: bool,
+    second: bool,
+    a: &'a [u32],
+    b: &'a [u32],
+    mask: &[u32],
+    c: &[u32],
+    is: &[u32],
+    js: &[u32],
+    work: &mut [u32],
+    tc: &mut [u32],
+    tv: &mut [u32],
+    oc: &mut [u32],
+    ov: &mut [u32],
+) -> Outcome
+    requires { ⌜ Ready call (now a) (now b) (now mask) (now c) (now is) (now js) ⌝ ∗ ⌜ Sources call (now a) (now b) (now work) ⌝ }
+    requires { ⌜ (first ≡ transposeFirst call) × (second ≡ secondFlag call) ⌝ ∗ ⌜ workspaceWords ≤ length (now work) ⌝ }
+    requires { ⌜ RowBuffers (now tc) (now tv) (now oc) (now ov) ⌝ }
+    ensures { λ r. ⌜ Computed r (lentFinal call (now (a .entry)) (now (b .entry)) (now (mask .entry)) (now (c .entry)) (now (is .entry)) (now (js .entry))) (now (work .exit)) ⌝ }
+{
+    let total = matrix::row_count(c) as usize;
+    let mut n: usize = 0;
+    let mut i: usize = 0;
+    while i < total {
+        n = advance(
+            call,
+            first,
+            second,
+            a,
+            b,
+            mask,
+            c,
+            is,
+            js,
+            work,
+            total,
+            i,
+            n,
+            tc,
+            tv,
+            oc,
+            ov,
+        );
+        if (MAX_ENTRIES as usize) < n {
+            return Outcome::Full;
+        }
+        i += 1;
+    }
+    results::finish(
+        &mut work[..MAX_MATRIX_WORDS],
+        total,
+        matrix::col_count(c) as usize,
+        n,
+    );
+    Outcome::Done(n)
+}
+
+// All rows, with the buffers of a row on the stack.
+fn compute_rows<'a>(
+    call: Call,
+    first: bool,
+    second: bool,
+    a: &'a [u32],
+    b: &'a [u32],
+    mask: &[u32],
+    c: &[u32],
+    is: &[u32],
+    js: &[u32],
+    work: &mut [u32],
+) -> Outcome
+    requires { ⌜ Ready call (now a) (now b) (now mask) (now c) (now is) (now js) ⌝ ∗ ⌜ Sources call (now a) (now b) (now work) ⌝ }
+    requires { ⌜ (first ≡ transposeFirst call) × (second ≡ secondFlag call) ⌝ ∗ ⌜ workspaceWords ≤ length (now work) ⌝ }
+    ensures { λ r. ⌜ Computed r (lentFinal call (now (a .entry)) (now (b .entry)) (now (mask .entry)) (now (c .entry)) (now (is .entry)) (now (js .entry))) (now (work .exit)) ⌝ }
+{
+    let mut tc = [0u32; ROW_PLACES];
+    let mut tv = [0u32; ROW_PLACES];
+    let mut oc = [0u32; ROW_PLACES];
+    let mut ov = [0u32; ROW_PLACES];
+    all_rows(
+        call,
+        first,
+        second,
+        a,
+        b,
+        mask,
+        c,
+        is,
+        js,
+        work,
+        &mut tc,
+        &mut tv,
+        &mut oc,
+        &mut ov,
+    )
+}
