@@ -1,0 +1,90 @@
+-- The cases of an attempt, as the code reaches them.
+use Prim.Native.Nat.{ℕ, _+_, _≤_, _<_}
+use native.Mathlib.Omega.{arith}
+use native.Mathlib.Decide.{decLe}
+use native.Mathlib.Nat.{zero-add}
+use mathlib.Core.Path.{_≡_, refl, sym, ap, _∙_}
+use mathlib.Core.List.{List, _++_}
+use mathlib.Core.Bool.{cond}
+use lib.ListN.{length, take, drop, length-take}
+use lib.Dec.{eqb}
+use borrow.Author.Tests.{eq-eqb, ne-eqb, le-leb, lt-leb, lt-ltb, le-ltb}
+use Rattle.limits.specs.Limits.{maxEntries}
+use Rattle.answers.specs.declared.Answer.{Answer}
+use Rattle.answers.specs.Refusals.{accepted, refused, tooManyEntries, insufficientSpace}
+use Rattle.words.specs.Words.{overwrite}
+use Rattle.grid.specs.Grid.{Grid}
+use Rattle.grid.specs.Entries.{entryCount}
+use Rattle.matrix.specs.Layout.{rows, sizeOf}
+use Rattle.encoding.specs.Encode.{encode, gridSize, writtenOver}
+use Rattle.encoding.proofs.Canonical.{encode-length}
+use Rattle.operations.specs.declared.Call.{Call}
+use Rattle.requests.specs.Refusal.{inputRefusal, lentRefusal, lentFinal}
+use Rattle.compute.proofs.Progress.{final-rows}
+use Rattle.calls.specs.Completion.{Attempted, Committed}
+
+-- the writing of a grid over the front of words
+over-front : (g : Grid) (c : List ℕ) → overwrite 0 (encode g) c ≡ writtenOver g c
+unfolding overwrite
+over-front g c =
+    ap (λ (k : ℕ). encode g ++ drop k c) (zero-add (length (encode g)) ∙ encode-length g)
+
+module _ (call : Call) (a b m c is js : List ℕ) (n : ℕ) (e : n ≡ entryCount (lentFinal call a b m c is js)) where
+  -- the rows of the final C are those of old C, so its size is known from its entries
+  size-of : sizeOf (rows c) n ≡ gridSize (lentFinal call a b m c is js)
+  size-of =
+      ap (λ (x : ℕ). sizeOf x n) (sym (final-rows call a b m c is js))
+      ∙ ap (sizeOf (lentFinal call a b m c is js .rows)) e
+
+  -- and words that hold its writing are as long
+  pub size-fits : (w : List ℕ) → take (gridSize (lentFinal call a b m c is js)) w ≡ encode (lentFinal call a b m c is js)
+      → sizeOf (rows c) n ≤ length w
+  size-fits w t =
+      let l = encode-length (lentFinal call a b m c is js) in
+      let k = sym (length-take (gridSize (lentFinal call a b m c is js)) w) ∙ ap length t in
+      let s = size-of in omega arith
+
+module _ (call : Call) (a b m c is js : List ℕ) (work : ℕ) where
+  abbrev g : Grid
+  g = lentFinal call a b m c is js
+
+  -- refused before it is worked out
+  pub attempted-input : (code : ℕ) → code ≡ inputRefusal call a b m c is js work → (code ≡ 0 → ⊥)
+      → Attempted call a b m c is js work (refused code) c
+  unfolding lentRefusal
+  attempted-input code e h =
+      let f = ne-eqb code 0 h in record { answer-is = rw (← e, f, f); words-are = rw f }
+
+  module _ (z : inputRefusal call a b m c is js work ≡ 0) where
+    -- too many entries
+    pub attempted-full : maxEntries < entryCount g → Attempted call a b m c is js work (refused tooManyEntries) c
+    unfolding lentRefusal
+    attempted-full h = record { answer-is = rw (z, lt-ltb _ _ h); words-are = refl }
+
+    -- the final C is committed
+    pub attempted-done : (n : ℕ) (w : List ℕ) (answer : Answer) (c′ : List ℕ) → n ≡ entryCount g → n ≤ maxEntries
+        → take (gridSize g) w ≡ encode g → Committed c w n answer c′ → Attempted call a b m c is js work answer c′
+    unfolding lentRefusal
+    attempted-done n w answer c′ e l t k = go (decLe (gridSize g) (length c))
+      where
+        size : sizeOf (rows c) n ≡ gridSize g
+        size = size-of call a b m c is js n e
+
+        few : entryCount g ≤ maxEntries
+        few = omega arith
+
+        go : Dec (gridSize g ≤ length c) → Attempted call a b m c is js work answer c′
+        go (yes f) =
+            let q : answer ≡ accepted n = k .answer-is ∙ rw (size, le-leb _ _ f) in
+            record {
+              answer-is = q ∙ rw (z, le-ltb _ _ few, le-ltb _ _ f, e);
+              words-are = k .words-are ∙ ap (λ (x : List ℕ). cond (eqb (answer .code) 0) x c)
+                  (ap (λ (x : ℕ). overwrite 0 (take x w) c) size ∙ ap (λ (x : List ℕ). overwrite 0 x c) t ∙ over-front g c);
+            }
+        go (no f) =
+            let o : length c < gridSize g = omega arith in
+            let q : answer ≡ refused insufficientSpace = k .answer-is ∙ rw (size, lt-leb _ _ o) in
+            record {
+              answer-is = q ∙ rw (z, le-ltb _ _ few, lt-ltb _ _ o);
+              words-are = k .words-are ∙ rw q;
+            }

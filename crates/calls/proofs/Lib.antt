@@ -1,0 +1,2 @@
+pub mod ReadyOf
+pub mod Attempts

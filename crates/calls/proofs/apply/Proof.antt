@@ -1,0 +1,67 @@
+-- `apply` runs its decoded call.
+use borrow.Author.Needs.{needs}
+use Rattle.calls.proofs.apply.Statement.{statement}
+use Rattle.calls.proofs.apply.Tie as tie
+
+apply-call-requires : tie.Need-apply-call-requires
+apply-call-requires c κs = search needs
+
+sub-run : tie.Need-sub-run
+sub-run c = search needs
+
+part-run-start : tie.Need-part-run-start
+part-run-start c = search needs
+
+part-run-end : tie.Need-part-run-end
+part-run-end c = search needs
+
+sub-run-2 : tie.Need-sub-run-2
+sub-run-2 c = search needs
+
+part-run-start-2 : tie.Need-part-run-start-2
+part-run-start-2 c = search needs
+
+part-run-end-2 : tie.Need-part-run-end-2
+part-run-end-2 c = search needs
+
+sub-run-3 : tie.Need-sub-run-3
+sub-run-3 c = search needs
+
+part-run-start-3 : tie.Need-part-run-start-3
+part-run-start-3 c = search needs
+
+part-run-end-3 : tie.Need-part-run-end-3
+part-run-end-3 c = search needs
+
+run-requires : tie.Need-run-requires
+run-requires c κs = search needs
+
+same-length : tie.Need-same-length
+same-length c = search needs
+
+same-length-2 : tie.Need-same-length-2
+same-length-2 c = search needs
+
+returns : tie.Need-returns
+returns c =
+    let r = c .before .before .before .before in
+    rw (r .before .before .before .before .before .before .apply-call .ensures) at (r .run .ensures)
+
+pub apply-spec : {M : Type 1} → statement M
+apply-spec =
+    tie.close
+    (tie.spec
+    apply-call-requires
+    sub-run
+    part-run-start
+    part-run-end
+    sub-run-2
+    part-run-start-2
+    part-run-end-2
+    sub-run-3
+    part-run-start-3
+    part-run-end-3
+    run-requires
+    same-length
+    same-length-2
+    returns)
