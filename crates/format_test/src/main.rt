@@ -17,6 +17,7 @@ fn strip() {
     heading(b"strip");
     prefixes(&words, &[16, 14, 13, 0]);
     reads(&words, &[0, 0, 0, 1, 0, 2, 0, 3, 0, 4, 1, 0]);
+    reads(&words[..13], &[0, 0, 9, 9]);
     damage(
         &mut words,
         &[

@@ -1,5 +1,5 @@
 -- What the tests of Valid.antt say, as facts on numbers: what functions on valid words require. Each record is proved to
--- hold exactly where its test does (proofs/Facts.antt).
+-- hold exactly where its test does (proofs/Facts.antt); RowSpan, which has none, follows from Starts.
 use Prim.Native.Nat.{ℕ, _+_, _≤_, _<_}
 use mathlib.Core.Path.{_≡_}
 use mathlib.Core.List.{List}

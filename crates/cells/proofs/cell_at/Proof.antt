@@ -6,15 +6,12 @@ use borrow.Author.Needs.{needs}
 use Rattle.cells.proofs.cell_at.Statement.{statement}
 use Rattle.cells.proofs.cell_at.Tie as tie
 
--- src/lib.rt:42:21
 row-columns-requires : tie.Need-row-columns-requires
 row-columns-requires c κs = search needs
 
--- src/lib.rt:42:52
 row-values-requires : tie.Need-row-values-requires
 row-values-requires c κs = search needs
 
--- src/lib.rt:42:5
 find-cell-requires : tie.Need-find-cell-requires
 find-cell-requires c κs =
     let p = c .before .before .before .pre in (
@@ -22,7 +19,6 @@ find-cell-requires c κs =
       rw (c .before .row-columns .ensures .words, c .row-values .ensures .words) (row-even _ _ (p .0) (p .1 .0)),
     )
 
--- src/lib.rt:38:1
 returns : tie.Need-returns
 unfolding cellOf
 returns c =

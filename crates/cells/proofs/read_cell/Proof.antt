@@ -14,15 +14,12 @@ use borrow.Author.Needs.{needs}
 use Rattle.cells.proofs.read_cell.Statement.{statement}
 use Rattle.cells.proofs.read_cell.Tie as tie
 
--- src/lib.rt:22:9
 is-valid-requires : tie.Need-is-valid-requires
 is-valid-requires c κs = search needs
 
--- src/lib.rt:23:9
 refused-requires : tie.Need-refused-requires
 refused-requires c κs = search needs
 
--- src/lib.rt:23:9
 -- past the first test the words are valid
 held : (c : tie.Else1) → valid (now (c .before .before .before .args .words)) ≡ true
 held c = said-yes (c .before .is-valid .ensures) (c .if1 .left)
@@ -34,33 +31,26 @@ returns : tie.Need-returns
 returns c =
     c .refused .ensures ∙ read-invalid _ _ _ (said-no (c .before .before .is-valid .ensures) (c .before .if1 .taken))
 
--- src/lib.rt:25:8
 shared-slice-read-if2 : tie.Need-shared-slice-read-if2
 shared-slice-read-if2 c = let m = facts (c .before) in omega arith
 
--- src/lib.rt:26:9
 refused-requires-2 : tie.Need-refused-requires-2
 refused-requires-2 c κs = search needs
 
--- src/lib.rt:26:9
 returns-2 : tie.Need-returns-2
 returns-2 c = c .refused2 .ensures ∙ read-past-rows _ _ _ (held (c .before .before .before)) (c .before .if2 .taken)
 
--- src/lib.rt:28:8
 shared-slice-read-if3 : tie.Need-shared-slice-read-if3
 shared-slice-read-if3 c = let m = facts (c .before .before .before) in omega arith
 
--- src/lib.rt:29:9
 refused-requires-3 : tie.Need-refused-requires-3
 refused-requires-3 c κs = search needs
 
--- src/lib.rt:29:9
 returns-3 : tie.Need-returns-3
 returns-3 c =
     let q = c .before .before .before in
     c .refused3 .ensures ∙ read-past-cols _ _ _ (held (q .before .before)) (q .if2 .left) (c .before .if3 .taken)
 
--- src/lib.rt:33:15
 cell-at-requires : tie.Need-cell-at-requires
 cell-at-requires c κs =
     let q = c .before .before in
@@ -69,7 +59,6 @@ cell-at-requires c κs =
       (row-span _ (m .starts) _ (q .if2 .left), rising-rises _ _ _ (m .rising _ (q .if2 .left))),
     )
 
--- src/lib.rt:19:1
 found-requires : tie.Need-found-requires
 found-requires c κs = search needs
 

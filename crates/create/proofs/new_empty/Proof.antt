@@ -11,11 +11,9 @@ use borrow.Author.Needs.{needs}
 use Rattle.create.proofs.new_empty.Statement.{statement}
 use Rattle.create.proofs.new_empty.Tie as tie
 
--- src/lib.rt:21:9
 in-range-requires : tie.Need-in-range-requires
 in-range-requires c κs = search needs
 
--- src/lib.rt:22:9
 -- past the first two tests the shape is in range
 rows-held : (c : tie.Else1) → inRange maxRows (c .before .before .before .args .rows) ≡ true
 rows-held c = said-yes (c .before .in-range .ensures) (c .if1 .left)
@@ -26,35 +24,28 @@ cols-held c = said-yes (c .before .in-range2 .ensures) (c .if2 .left)
 returns : tie.Need-returns
 returns c = rows-refused _ _ _ (said-no (c .before .in-range .ensures) (c .if1 .taken))
 
--- src/lib.rt:27:9
 in-range-requires-2 : tie.Need-in-range-requires-2
 in-range-requires-2 c κs = search needs
 
--- src/lib.rt:28:9
 returns-2 : tie.Need-returns-2
 returns-2 c = cols-refused _ _ _ (rows-held (c .before .before)) (said-no (c .before .in-range2 .ensures) (c .if2 .taken))
 
--- src/lib.rt:33:23
 add-if3 : tie.Need-add-if3
 add-if3 c = search needs
 
--- src/lib.rt:34:9
 returns-3 : tie.Need-returns-3
 returns-3 c =
     let q = c .before in
     space-refused _ _ _ (rows-held (q .before .before)) (cols-held q) (omega arith)
 
--- src/lib.rt:39:5
 write-empty-requires : tie.Need-write-empty-requires
 write-empty-requires c κs =
     let r = range-facts _ _ (rows-held (c .before .before .before .before)) in
     omega arith
 
--- src/lib.rt:18:1
 same-length : tie.Need-same-length
 same-length c = search needs
 
--- src/lib.rt:18:1
 returns-4 : tie.Need-returns-4
 returns-4 c =
     let q = c .before .before .before .before .before in

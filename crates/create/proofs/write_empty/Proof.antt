@@ -11,47 +11,36 @@ use borrow.Author.Needs.{needs}
 use Rattle.create.proofs.write_empty.Statement.{statement}
 use Rattle.create.proofs.write_empty.Tie as tie
 
--- src/lib.rt:48:16
 add-size : tie.Need-add-size
 add-size c = search needs
 
--- src/lib.rt:49:18
 slice-relend-prefix-clear : tie.Need-slice-relend-prefix-clear
 slice-relend-prefix-clear c = search needs
 
--- src/lib.rt:49:18
 slice-aggregate-clear : tie.Need-slice-aggregate-clear
 slice-aggregate-clear c = simp length-take (omega arith)
 
--- src/lib.rt:49:5
 clear-requires : tie.Need-clear-requires
 clear-requires c κs = search needs
 
--- src/lib.rt:50:5
 slice-write-buffer : tie.Need-slice-write-buffer
 slice-write-buffer c = search needs
 
--- src/lib.rt:51:5
 slice-write-buffer-2 : tie.Need-slice-write-buffer-2
 slice-write-buffer-2 c = simp length-set (omega arith)
 
--- src/lib.rt:52:5
 slice-write-buffer-3 : tie.Need-slice-write-buffer-3
 slice-write-buffer-3 c = simp length-set (omega arith)
 
--- src/lib.rt:53:30
 add-buffer : tie.Need-add-buffer
 add-buffer c = search needs
 
--- src/lib.rt:53:5
 slice-write-buffer-4 : tie.Need-slice-write-buffer-4
 slice-write-buffer-4 c = simp length-set (omega arith)
 
--- src/lib.rt:44:1
 same-length : tie.Need-same-length
 same-length c = search needs
 
--- src/lib.rt:44:1
 returns : tie.Need-returns
 returns c =
     let a = c .before .before .before .before .before .args in

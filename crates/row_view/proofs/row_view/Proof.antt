@@ -25,23 +25,18 @@ use Rattle.matrix.proofs.row_columns.Reads as row-columns-reads
 use Rattle.row_view.proofs.row_section.Reads as row-section-reads
 use Rattle.row_view.proofs.row_viewable.Reads as row-viewable-reads
 
--- src/lib.rt:20:9
 row-viewable-requires : tie.Need-row-viewable-requires
 row-viewable-requires c κs = search needs
 
--- src/lib.rt:21:16
 sub-result : tie.Need-sub-result
 sub-result c = search needs
 
--- src/lib.rt:21:16
 part-result-start : tie.Need-part-result-start
 part-result-start c = search needs
 
--- src/lib.rt:21:16
 part-result-end : tie.Need-part-result-end
 part-result-end c = search needs
 
--- src/lib.rt:21:9
 -- past the first test the row can be shown
 told : (c : tie.Else1) → viewable (now (c .before .before .before .before .args .first))
     (now (c .before .before .before .before .args .second)) (c .before .before .before .before .args .i) ≡ true
@@ -55,17 +50,14 @@ returns : tie.Need-returns
 returns c = shown-nothing _ _ _ _ _ (said-no (c .before .before .row-viewable .ensures) (c .before .if1 .taken))
     (record { memory = refl; offset = search needs; words = refl })
 
--- src/lib.rt:24:9
 row-columns-requires : tie.Need-row-columns-requires
 row-columns-requires c κs = (matrix-facts _ (held c .first) .header, span-first _ _ _ (held c))
 
--- src/lib.rt:26:9
 row-section-requires : tie.Need-row-section-requires
 row-section-requires c κs =
     let h = held (c .before .before) in
     (matrix-facts _ (h .second) .header, span-second _ _ _ h)
 
--- src/lib.rt:26:9
 returns-2 : tie.Need-returns-2
 returns-2 c =
     let q = c .before .before in
@@ -73,13 +65,11 @@ returns-2 c =
     (row-empty _ _ _ (held (q .before)) _ (q .row-columns .ensures .words) (c .before .if2 .taken))
     (c .row-section .ensures)
 
--- src/lib.rt:28:5
 row-section-requires-2 : tie.Need-row-section-requires-2
 row-section-requires-2 c κs =
     let h = held (c .before .before) in
     (matrix-facts _ (h .first) .header, span-first _ _ _ h)
 
--- src/lib.rt:17:1
 returns-3 : tie.Need-returns-3
 returns-3 c =
     let q = c .before .before in
