@@ -1,2 +1,1 @@
-pub mod ReadyOf
 pub mod Attempts

@@ -4,18 +4,10 @@
 use answers::Answer;
 use answers::INSUFFICIENT_SPACE;
 use answers::TOO_MANY_ENTRIES;
+use call_codes::Options;
 use compute::Outcome;
 use matrix::layout::FIXED_WORDS;
-use operations::Accumulator;
 use operations::Call;
-use operations::Operation;
-use operator_codes::ApplyCode;
-use operator_codes::BinaryCode;
-use operator_codes::MonoidCode;
-use operators::ApplyOp;
-use operators::BinaryOp;
-use operators::Monoid;
-use operators::UnaryOp;
 ghost use mathlib.Core.Path.{_≡_};
 ghost use mathlib.Core.List.{[]};
 ghost use Prim.Native.Nat.{_≤_};
@@ -23,20 +15,8 @@ ghost use lib.ListN.{length};
 ghost use Rattle.limits.specs.Limits.{maxEntries};
 ghost use Rattle.matrix.specs.Layout.{rows, sizeOf};
 ghost use Rattle.matrix.specs.Facts.{Header};
-ghost use Rattle.words.specs.Tests.{_and_};
-ghost use Rattle.operator_codes.specs.Codes.{binaryNumbered, monoidNumbered, applyNumbered};
-ghost use Rattle.calls.specs.Decoding.{binaryKnown, binaryOf, monoidKnown, monoidOf, applyKnown, applyOf};
-ghost use Rattle.calls.specs.Decoding.{accumulatorKnown, accumulatorOf, callOf, productCall, mxmCall, vxmCall};
-ghost use Rattle.calls.specs.Decoding.{ewiseMultCall, ewiseAddCall, applyCall, extractCall};
+ghost use Rattle.call_codes.specs.Decoding.{mxmCall, vxmCall, ewiseMultCall, ewiseAddCall, applyCall, extractCall};
 ghost use Rattle.calls.specs.Completion.{Attempted, Completed, Committed};
-
-// What a call says beside its inputs: the flags, whether there is a mask, whether there is an accumulator and its number.
-pub struct Options {
-    pub flags: u32,
-    pub has_mask: bool,
-    pub has_accumulator: bool,
-    pub accumulator: u32,
-}
 
 // "Product": C gets A times B, by a monoid and an operator.
 pub fn mxm<'a>(
@@ -52,7 +32,7 @@ pub fn mxm<'a>(
     ensures { λ r. ⌜ Completed (mxmCall options monoid op) (now (a .entry)) (now (b .entry)) (now (mask .entry)) (now (c .entry)) [] [] (now (work .entry)) r (now (c .exit)) (now (work .exit)) ⌝ }
 {
     run(
-        mxm_call(options, monoid, op),
+        call_codes::mxm_call(options, monoid, op),
         a,
         b,
         mask,
@@ -77,7 +57,7 @@ pub fn vxm<'a>(
     ensures { λ r. ⌜ Completed (vxmCall options monoid op) (now (u .entry)) (now (a .entry)) (now (mask .entry)) (now (c .entry)) [] [] (now (work .entry)) r (now (c .exit)) (now (work .exit)) ⌝ }
 {
     run(
-        vxm_call(options, monoid, op),
+        call_codes::vxm_call(options, monoid, op),
         u,
         a,
         mask,
@@ -101,7 +81,7 @@ pub fn ewise_mult<'a>(
     ensures { λ r. ⌜ Completed (ewiseMultCall options op) (now (a .entry)) (now (b .entry)) (now (mask .entry)) (now (c .entry)) [] [] (now (work .entry)) r (now (c .exit)) (now (work .exit)) ⌝ }
 {
     run(
-        ewise_mult_call(options, op),
+        call_codes::ewise_mult_call(options, op),
         a,
         b,
         mask,
@@ -125,7 +105,7 @@ pub fn ewise_add<'a>(
     ensures { λ r. ⌜ Completed (ewiseAddCall options op) (now (a .entry)) (now (b .entry)) (now (mask .entry)) (now (c .entry)) [] [] (now (work .entry)) r (now (c .exit)) (now (work .exit)) ⌝ }
 {
     run(
-        ewise_add_call(options, op),
+        call_codes::ewise_add_call(options, op),
         a,
         b,
         mask,
@@ -150,7 +130,7 @@ pub fn apply(
     ensures { λ r. ⌜ Completed (applyCall options kind op scalar) (now (a .entry)) [] (now (mask .entry)) (now (c .entry)) [] [] (now (work .entry)) r (now (c .exit)) (now (work .exit)) ⌝ }
 {
     run(
-        apply_call(options, kind, op, scalar),
+        call_codes::apply_call(options, kind, op, scalar),
         a,
         &a[0..0],
         mask,
@@ -173,7 +153,16 @@ pub fn extract(
 ) -> Answer
     ensures { λ r. ⌜ Completed (extractCall options) (now (a .entry)) [] (now (mask .entry)) (now (c .entry)) (now (is .entry)) (now (js .entry)) (now (work .entry)) r (now (c .exit)) (now (work .exit)) ⌝ }
 {
-    run(extract_call(options), a, &a[0..0], mask, is, js, c, work)
+    run(
+        call_codes::extract_call(options),
+        a,
+        &a[0..0],
+        mask,
+        is,
+        js,
+        c,
+        work,
+    )
 }
 
 // Any of the six: the attempt, and then the workspace is cleared.
@@ -241,164 +230,4 @@ fn commit(c: &mut [u32], work: &[u32], n: usize) -> Answer
         code: 0,
         entries: n as u32,
     }
-}
-
-// The calls' numbers, decoded.
-fn accumulator_known(options: Options) -> bool
-    ensures { λ r. ⌜ r ≡ accumulatorKnown options ⌝ }
-{
-    let has_accumulator = options.has_accumulator;
-    if !has_accumulator {
-        return true;
-    }
-    binary_known(options.accumulator)
-}
-
-fn accumulator_of(options: Options) -> Accumulator
-    ensures { λ r. ⌜ r ≡ accumulatorOf options ⌝ }
-{
-    let has_accumulator = options.has_accumulator;
-    if !has_accumulator {
-        return Accumulator::Absent;
-    }
-    Accumulator::Present(binary_of(options.accumulator))
-}
-
-fn binary_known(number: u32) -> bool
-    ensures { λ r. ⌜ r ≡ binaryKnown (binaryNumbered number) ⌝ }
-{
-    match operator_codes::binary_code(number) {
-        BinaryCode::Known(_) => true,
-        BinaryCode::Unknown => false,
-    }
-}
-
-fn binary_of(number: u32) -> BinaryOp
-    ensures { λ r. ⌜ r ≡ binaryOf (binaryNumbered number) ⌝ }
-{
-    match operator_codes::binary_code(number) {
-        BinaryCode::Known(op) => op,
-        BinaryCode::Unknown => BinaryOp::First,
-    }
-}
-
-fn monoid_known(number: u32) -> bool
-    ensures { λ r. ⌜ r ≡ monoidKnown (monoidNumbered number) ⌝ }
-{
-    match operator_codes::monoid_code(number) {
-        MonoidCode::Known(_) => true,
-        MonoidCode::Unknown => false,
-    }
-}
-
-fn monoid_of(number: u32) -> Monoid
-    ensures { λ r. ⌜ r ≡ monoidOf (monoidNumbered number) ⌝ }
-{
-    match operator_codes::monoid_code(number) {
-        MonoidCode::Known(m) => m,
-        MonoidCode::Unknown => Monoid::Plus,
-    }
-}
-
-fn apply_known(kind: u32, op: u32, scalar: u32) -> bool
-    ensures { λ r. ⌜ r ≡ applyKnown (applyNumbered kind op scalar) ⌝ }
-{
-    match operator_codes::apply_code(kind, op, scalar) {
-        ApplyCode::Known(_) => true,
-        ApplyCode::Unknown => false,
-    }
-}
-
-fn apply_of(kind: u32, op: u32, scalar: u32) -> ApplyOp
-    ensures { λ r. ⌜ r ≡ applyOf (applyNumbered kind op scalar) ⌝ }
-{
-    match operator_codes::apply_code(kind, op, scalar) {
-        ApplyCode::Known(x) => x,
-        ApplyCode::Unknown => ApplyOp::Unary(UnaryOp::Identity),
-    }
-}
-
-fn both(x: bool, y: bool) -> bool
-    ensures { λ r. ⌜ r ≡ (x and y) ⌝ }
-{
-    if !x {
-        return false;
-    }
-    y
-}
-
-fn call_of(options: Options, known: bool, operation: Operation, vector: bool) -> Call
-    ensures { λ r. ⌜ r ≡ callOf options known operation vector ⌝ }
-{
-    Call {
-        flags: options.flags,
-        known: both(known, accumulator_known(options)),
-        operation: operation,
-        vector_first: vector,
-        has_mask: options.has_mask,
-        accumulator: accumulator_of(options),
-    }
-}
-
-fn product_call(vector: bool, options: Options, monoid: u32, op: u32) -> Call
-    ensures { λ r. ⌜ r ≡ productCall vector options monoid op ⌝ }
-{
-    let known = both(monoid_known(monoid), binary_known(op));
-    call_of(
-        options,
-        known,
-        Operation::Mxm(monoid_of(monoid), binary_of(op)),
-        vector,
-    )
-}
-
-fn mxm_call(options: Options, monoid: u32, op: u32) -> Call
-    ensures { λ r. ⌜ r ≡ mxmCall options monoid op ⌝ }
-{
-    product_call(false, options, monoid, op)
-}
-
-fn vxm_call(options: Options, monoid: u32, op: u32) -> Call
-    ensures { λ r. ⌜ r ≡ vxmCall options monoid op ⌝ }
-{
-    product_call(true, options, monoid, op)
-}
-
-fn ewise_mult_call(options: Options, op: u32) -> Call
-    ensures { λ r. ⌜ r ≡ ewiseMultCall options op ⌝ }
-{
-    call_of(
-        options,
-        binary_known(op),
-        Operation::EwiseMult(binary_of(op)),
-        false,
-    )
-}
-
-fn ewise_add_call(options: Options, op: u32) -> Call
-    ensures { λ r. ⌜ r ≡ ewiseAddCall options op ⌝ }
-{
-    call_of(
-        options,
-        binary_known(op),
-        Operation::EwiseAdd(binary_of(op)),
-        false,
-    )
-}
-
-fn apply_call(options: Options, kind: u32, op: u32, scalar: u32) -> Call
-    ensures { λ r. ⌜ r ≡ applyCall options kind op scalar ⌝ }
-{
-    call_of(
-        options,
-        apply_known(kind, op, scalar),
-        Operation::Apply(apply_of(kind, op, scalar)),
-        false,
-    )
-}
-
-fn extract_call(options: Options) -> Call
-    ensures { λ r. ⌜ r ≡ extractCall options ⌝ }
-{
-    call_of(options, true, Operation::Extract, false)
 }

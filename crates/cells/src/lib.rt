@@ -46,7 +46,8 @@ pub fn cell_at(words: &[u32], i: usize, j: u32) -> Cell
     )
 }
 
-fn found(cell: Cell) -> CellAnswer
+// What a cell answers.
+pub fn found(cell: Cell) -> CellAnswer
     ensures { λ r. ⌜ r ≡ foundAnswer cell ⌝ }
 {
     match cell {
@@ -63,7 +64,8 @@ fn found(cell: Cell) -> CellAnswer
     }
 }
 
-fn refused(code: u32) -> CellAnswer
+// A refusal, with no value.
+pub fn refused(code: u32) -> CellAnswer
     ensures { λ r. ⌜ r ≡ refusedRead code ⌝ }
 {
     CellAnswer {

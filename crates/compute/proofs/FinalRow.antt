@@ -34,7 +34,7 @@ use Rattle.requests.specs.Refusal.{lentFinal}
 use Rattle.requests.specs.Inputs.{Ready}
 use Rattle.result_rows.specs.RowInputs.{RowInputs, Buffers}
 use Rattle.compute.specs.Computing.{MaskRow, OldRow, Source, RowBuffers}
-use Rattle.compute.proofs.Results.{agree-same, lists-same, rows-same, cols-same, cell-same}
+use Rattle.operations.proofs.Results.{agree-same, lists-same, rows-same, cols-same, cell-same}
 
 -- what `shapesAgree` says
 record Shapes (call : Call) (a b m c : Grid) (is js : List ℕ) : Type 0 where

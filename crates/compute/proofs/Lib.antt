@@ -1,5 +1,4 @@
 pub mod WriteRow
 pub mod Sources
-pub mod Results
 pub mod FinalRow
 pub mod Progress

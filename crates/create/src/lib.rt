@@ -51,7 +51,7 @@ pub fn new_empty(buffer: &mut [u32], rows: u32, cols: u32) -> Answer
 }
 
 // The words of the empty matrix; what lies behind them stays.
-fn write_empty(buffer: &mut [u32], rows: u32, cols: u32)
+pub fn write_empty(buffer: &mut [u32], rows: u32, cols: u32)
     requires { ⌜ (rows ≤ maxRows) × (sizeOf rows 0 ≤ length (now buffer)) ⌝ }
     ensures { λ _. ⌜ now (buffer .exit) ≡ encode (emptyGrid rows cols) ++ drop (sizeOf rows 0) (now (buffer .entry)) ⌝ }
 {

@@ -25,7 +25,7 @@ use Rattle.encoding.proofs.Encoded.{
 use Rattle.encoding.proofs.Decoded.{valid-starts, valid-columns, valid-values, valid-sections}
 -- the size of a writing and its N; the rows and the N of valid words
 pub use Rattle.encoding.proofs.Encoded.{encode-length, encode-entries}
-pub use Rattle.encoding.proofs.Decoded.{valid-row, valid-row-columns, valid-row-values, valid-entries}
+pub use Rattle.encoding.proofs.Decoded.{valid-row, valid-row-columns, valid-row-values, valid-before, valid-entries}
 
 -- the writing of a grid within the limits is a valid matrix, whatever words stand behind it
 pub encode-valid : (g : Grid) (t : List ℕ) → Within g → valid (encode g ++ t) ≡ true

@@ -89,7 +89,7 @@ module _ (s : List ℕ) (v : valid s ≡ true) where
   start-top (suc k) l = rw (← (add-one k)) (span k l .top)
 
   -- a row start counts the entries before it
-  valid-before : (k : ℕ) → k ≤ rows s → entriesBefore (gridOf s) k ≡ start s k
+  pub valid-before : (k : ℕ) → k ≤ rows s → entriesBefore (gridOf s) k ≡ start s k
   valid-before k l =
       let b = columnsAt (rows s) in
       ap length (flatten-part column b valid-row-columns k l)

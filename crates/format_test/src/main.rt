@@ -14,7 +14,7 @@ fn main() {
 // Document 01's strip, whole, with two spare words; then damage, a word at a time, and a careless sum's wrapping.
 fn strip() {
     let mut words: [u32; 16] = [2, 1, 4, 2, 0, 3, 3, 0, 1, 3, 3, 10, 20, 40, 7, 8];
-    heading(b"strip");
+    test_support::heading(b"strip");
     prefixes(&words, &[16, 14, 13, 0]);
     reads(&words, &[0, 0, 0, 1, 0, 2, 0, 3, 0, 4, 1, 0]);
     reads(&words[..13], &[0, 0, 9, 9]);
@@ -78,8 +78,8 @@ fn strip() {
 // A 2 by 3 matrix: 1 at (0, 2), a stored zero at (1, 0), -5 at (1, 2).
 fn two_rows() {
     let mut words: [u32; 15] = [2, 2, 3, 3, 0, 1, 3, 3, 2, 0, 2, 3, 1, 0, 4294967291];
-    heading(b"two rows");
-    print_word(b"-5 is stored as", twos_complement::from_signed(-5));
+    test_support::heading(b"two rows");
+    test_support::print_word(b"-5 is stored as", twos_complement::from_signed(-5));
     prefixes(&words, &[15, 14]);
     reads(&words, &[0, 0, 0, 1, 0, 2, 1, 0, 1, 1, 1, 2]);
     // starts that begin above 0, fall, end below and above N, and leave rows whose columns do not rise
@@ -108,18 +108,18 @@ fn two_rows() {
 fn largest() {
     let mut space = [0u32; 4700];
     let words: &mut [u32] = &mut space;
-    heading(b"512 by 512 with 2048 entries");
-    build(words, 512, 512, 2048, 4);
+    test_support::heading(b"512 by 512 with 2048 entries");
+    test_support::build(words, 512, 512, 2048, 4);
     prefixes(words, &[4700, 4615, 4614]);
     reads(words, &[511, 3, 511, 4, 512, 0, 0, 512]);
-    heading(b"513 by 512");
-    build(words, 513, 512, 2048, 4);
+    test_support::heading(b"513 by 512");
+    test_support::build(words, 513, 512, 2048, 4);
     prefixes(words, &[4700]);
-    heading(b"512 by 513");
-    build(words, 512, 513, 2048, 4);
+    test_support::heading(b"512 by 513");
+    test_support::build(words, 512, 513, 2048, 4);
     prefixes(words, &[4700]);
-    heading(b"2049 entries");
-    build(words, 512, 512, 2049, 5);
+    test_support::heading(b"2049 entries");
+    test_support::build(words, 512, 512, 2049, 5);
     prefixes(words, &[4700]);
 }
 
@@ -127,7 +127,7 @@ fn largest() {
 fn empty() {
     let mut space = [9u32; 520];
     let buffer: &mut [u32] = &mut space;
-    heading(b"empty");
+    test_support::heading(b"empty");
     creates(buffer, &[520, 512, 512]);
     prefixes(buffer, &[520, 519, 518]);
     reads(buffer, &[511, 511, 512, 511]);
@@ -157,25 +157,25 @@ fn empty() {
         ],
     );
     let words = &buffer[..];
-    show(b"the first words", &words[..12]);
-    show(b"the last words", &words[516..]);
+    test_support::show(b"the first words", &words[..12]);
+    test_support::show(b"the last words", &words[516..]);
 }
 
 fn row_views() {
     let first: [u32; 11] = [2, 2, 3, 3, 0, 0, 1, 1, 1, 1, 70];
     let second: [u32; 15] = [2, 2, 3, 3, 0, 1, 3, 3, 2, 0, 2, 3, 1, 0, 4294967291];
     let wide: [u32; 9] = [2, 2, 4, 3, 0, 0, 0, 0, 0];
-    heading(b"row views: first, then second");
+    test_support::heading(b"row views: first, then second");
     views(&first, &second);
-    heading(b"second, then first");
+    test_support::heading(b"second, then first");
     views(&second, &first);
-    heading(b"first twice");
+    test_support::heading(b"first twice");
     views(&first, &first);
-    heading(b"other shapes");
+    test_support::heading(b"other shapes");
     views(&second, &wide);
-    heading(b"the first damaged");
+    test_support::heading(b"the first damaged");
     views(&first[..10], &second);
-    heading(b"the second damaged");
+    test_support::heading(b"the second damaged");
     views(&first, &second[..14]);
 }
 
@@ -192,8 +192,8 @@ fn check_first(words: &[u32], n: u32) {
     let end = n as usize;
     if end <= words.len() {
         let answer = matrix::check(&words[..end]);
-        print_number(n);
-        print_pair(b" words: ", answer.code, answer.entries);
+        test_support::print_number(n);
+        test_support::print_pair(b" words: ", answer.code, answer.entries);
     }
 }
 
@@ -201,7 +201,11 @@ fn check_first(words: &[u32], n: u32) {
 fn damage(words: &mut [u32], cases: &[u32]) {
     let mut k = 0;
     while k < cases.len() {
-        check_with(words, word(cases, k), word(cases, k + 1));
+        check_with(
+            words,
+            test_support::word(cases, k),
+            test_support::word(cases, k + 1),
+        );
         k += 2;
     }
 }
@@ -221,7 +225,11 @@ fn check_with(words: &mut [u32], place: u32, word: u32) {
 fn reads(words: &[u32], cases: &[u32]) {
     let mut k = 0;
     while k < cases.len() {
-        read(words, word(cases, k), word(cases, k + 1));
+        read(
+            words,
+            test_support::word(cases, k),
+            test_support::word(cases, k + 1),
+        );
         k += 2;
     }
 }
@@ -237,9 +245,9 @@ fn creates(buffer: &mut [u32], cases: &[u32]) {
     while k < cases.len() {
         create_first(
             buffer,
-            word(cases, k),
-            word(cases, k + 1),
-            word(cases, k + 2),
+            test_support::word(cases, k),
+            test_support::word(cases, k + 1),
+            test_support::word(cases, k + 2),
         );
         k += 3;
     }
@@ -257,12 +265,12 @@ fn create_first(buffer: &mut [u32], n: u32, r: u32, c: u32) {
 fn views<'a>(first: &'a [u32], second: &'a [u32]) {
     let mut i: u32 = 0;
     while i < 3 {
-        print_number(i);
-        show(
+        test_support::print_number(i);
+        test_support::show(
             b" columns",
             row_view::row_view(first, second, i, Section::Columns),
         );
-        show(
+        test_support::show(
             b"  values",
             row_view::row_view(first, second, i, Section::Values),
         );
@@ -270,124 +278,33 @@ fn views<'a>(first: &'a [u32], second: &'a [u32]) {
     }
 }
 
-// The word at k, or 0 past the end.
-fn word(words: &[u32], k: usize) -> u32 {
-    if k < words.len() { words[k] } else { 0 }
-}
-
-// A matrix with n entries, four to a row; the last row has those from 2,044 on.
-fn build(words: &mut [u32], r: u32, c: u32, n: u32, last_row: usize) {
-    build_shape(words, r, c);
-    let rows = r as usize;
-    let entries = n as usize;
-    put(words, past(rows, 4), n);
-    put(words, past(rows, 5), n);
-    build_columns(words, past(rows, 6), entries, last_row);
-    put(words, past(past(rows, 6), entries), n);
-    put_run(words, past(past(rows, 7), entries), entries, 1, 4294967295);
-}
-
-fn build_columns(words: &mut [u32], at: usize, entries: usize, last_row: usize) {
-    put_run(words, at, entries, 1, 3);
-    put_run(words, past(at, 2044), last_row, 1, 4294967295);
-}
-
-fn build_shape(words: &mut [u32], r: u32, c: u32) {
-    put(words, 0, 2);
-    put(words, 1, r);
-    put(words, 2, c);
-    put(words, 3, std::num::wrapping_add_u32(r, 1));
-    put_run(words, 4, r as usize, 4, 4294967295);
-}
-
-fn past(a: usize, b: usize) -> usize {
-    std::num::wrapping_add_usize(a, b)
-}
-
-// n words from `at` on: 0, step, 2 * step and so on, starting again after `last`.
-fn put_run(words: &mut [u32], at: usize, n: usize, step: u32, last: u32) {
-    let mut word: u32 = 0;
-    let mut k = 0;
-    while k < n {
-        put(words, past(at, k), word);
-        if word == last {
-            word = 0;
-        } else {
-            word = std::num::wrapping_add_u32(word, step);
-        }
-        k += 1;
-    }
-}
-
-fn put(words: &mut [u32], at: usize, word: u32) {
-    if at < words.len() {
-        words[at] = word;
-    }
-}
-
-fn show(label: &[u8], part: &[u32]) {
-    io::write_all(STDOUT_FILENO, label);
-    io::write_all(STDOUT_FILENO, b":");
-    let mut k = 0;
-    while k < part.len() {
-        io::write_all(STDOUT_FILENO, b" ");
-        print_number(part[k]);
-        k += 1;
-    }
-    io::write_all(STDOUT_FILENO, b"\n");
-}
-
 fn print_cell(i: u32, j: u32, code: u32, present: bool, value: u32) {
     io::write_all(STDOUT_FILENO, b"cell ");
-    print_number(i);
+    test_support::print_number(i);
     io::write_all(STDOUT_FILENO, b" ");
-    print_number(j);
+    test_support::print_number(j);
     io::write_all(STDOUT_FILENO, b": ");
-    print_number(code);
+    test_support::print_number(code);
     if present {
-        print_word(b" present", value);
+        test_support::print_word(b" present", value);
     } else {
-        heading(b" absent");
+        test_support::heading(b" absent");
     }
 }
 
 fn print_change(at: u32, word: u32, code: u32, entries: u32) {
     io::write_all(STDOUT_FILENO, b"word ");
-    print_number(at);
+    test_support::print_number(at);
     io::write_all(STDOUT_FILENO, b" is ");
-    print_number(word);
-    print_pair(b": ", code, entries);
+    test_support::print_number(word);
+    test_support::print_pair(b": ", code, entries);
 }
 
 fn print_created(n: u32, r: u32, c: u32, code: u32, entries: u32) {
-    print_number(r);
+    test_support::print_number(r);
     io::write_all(STDOUT_FILENO, b" by ");
-    print_number(c);
+    test_support::print_number(c);
     io::write_all(STDOUT_FILENO, b" in ");
-    print_number(n);
-    print_pair(b" words: ", code, entries);
-}
-
-fn print_pair(label: &[u8], code: u32, entries: u32) {
-    io::write_all(STDOUT_FILENO, label);
-    print_number(code);
-    io::write_all(STDOUT_FILENO, b" ");
-    print_number(entries);
-    io::write_all(STDOUT_FILENO, b"\n");
-}
-
-fn print_word(label: &[u8], word: u32) {
-    io::write_all(STDOUT_FILENO, label);
-    io::write_all(STDOUT_FILENO, b": ");
-    print_number(word);
-    io::write_all(STDOUT_FILENO, b"\n");
-}
-
-fn print_number(n: u32) {
-    io::print_decimal(STDOUT_FILENO, n as u64);
-}
-
-fn heading(text: &[u8]) {
-    io::write_all(STDOUT_FILENO, text);
-    io::write_all(STDOUT_FILENO, b"\n");
+    test_support::print_number(n);
+    test_support::print_pair(b" words: ", code, entries);
 }

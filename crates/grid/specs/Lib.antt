@@ -1,2 +1,3 @@
 pub mod Grid
 pub mod Entries
+pub mod Update

@@ -1,5 +1,5 @@
--- The limits of a matrix, as document 01 gives them ("How a sheet is written"). No other definition
--- states these numbers; src/ has the same ones for the code.
+-- The limits of document 01: of a matrix, of an index list, of the flags and of a store. No other definition states these
+-- numbers; src/ has the same ones for the code.
 use Prim.Native.Nat.{ℕ}
 
 -- "R and C are 1 to 512"
@@ -16,3 +16,15 @@ maxEntries = 2048
 -- "an index list shorter than 1 or longer than 512"
 abbrev pub maxList : ℕ
 maxList = 512
+
+-- "flags above 31"
+abbrev pub maxFlags : ℕ
+maxFlags = 31
+
+-- "Eight places, 0 to 7."
+abbrev pub slotCount : ℕ
+slotCount = 8
+
+-- "The length is 8 to 16,384 words.": each slot has at least its count
+abbrev pub maxStoreWords : ℕ
+maxStoreWords = 16384

@@ -1,4 +1,5 @@
-// The limits of a matrix (document 01: a sheet). The specification states the same numbers under the same names.
+// The limits of a matrix, an index list, the flags and a store (document 01: a sheet, a shelf). specs/Limits.antt states
+// the same numbers.
 
 // Rows R and columns C are 1 to these.
 pub const MAX_ROWS: u32 = 512;
@@ -13,3 +14,12 @@ pub const MAX_LIST: usize = 512;
 
 // The places of a row, as the length of the local arrays that hold one.
 pub const ROW_PLACES: usize = MAX_COLS as usize;
+
+// The flags add up to at most this.
+pub const MAX_FLAGS: u32 = 31;
+
+// A store has this many slots, and at least one word for each: its count.
+pub const SLOTS: usize = 8;
+
+// The words of a store are at most this many.
+pub const MAX_STORE_WORDS: usize = 16384;

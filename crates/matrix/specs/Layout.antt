@@ -1,6 +1,7 @@
 -- Where the words of a matrix stand (document 01, "How a sheet is written"): four sections "in fixed order, each after its
 -- count": the shape, the row starts, the column numbers, the values. Each place is given from the one before it.
 use Prim.Native.Nat.{ℕ, _+_, _*_}
+use mathlib.Core.Path.{_≡_, refl}
 use mathlib.Core.List.{List}
 use Rattle.limits.specs.Limits.{maxRows, maxEntries}
 use Rattle.words.specs.Words.{at, part}
@@ -49,6 +50,12 @@ maxMatrixWords = sizeOf maxRows maxEntries
 
 abbrev pub workspaceWords : ℕ
 workspaceWords = 3 * maxMatrixWords
+
+largest-matrix : maxMatrixWords ≡ 4615
+largest-matrix = refl
+
+three-largest : workspaceWords ≡ 13845
+three-largest = refl
 
 -- the count of the shape, rows R, columns C, the count of the row starts
 abbrev pub shapeCount : List ℕ → ℕ

@@ -1,6 +1,7 @@
 -- A call of one of the six operations on plain grids: its flags, the shapes and indexes it asks for, and the final C
 -- (document 01, "Operators", "The six operations", "When the clerk turns a call away").
 use Prim.Native.Nat.{ℕ, _/_, _%_}
+use mathlib.Core.Path.{_≡_, refl}
 use mathlib.Core.List.{List}
 use mathlib.Core.Bool.{Bool, true, false, cond}
 use lib.ListN.{length}
@@ -87,3 +88,10 @@ shapesAgree call a b m c is js =
     and inputsAgree (call .operation) (oriented (transposeFirst call) a) (oriented (transposeSecond call) b)
     and sameShape (callResult call a b is js) c
     and cond (call .«has_mask») (sameShape m c) true
+
+-- 24 is 8 and 16
+flag-set : flagSet 8 24 ≡ true
+flag-set = refl
+
+flag-not-set : flagSet 4 24 ≡ false
+flag-not-set = refl

@@ -1,6 +1,5 @@
 -- What the operations do with the cells at one position (document 01, "The six operations").
 use Prim.Native.Nat.{ℕ, zero, suc}
-use mathlib.Core.Bool.{Bool, true, false, cond}
 use Rattle.grid.specs.declared.Cell.{Cell}
 use Rattle.grid.specs.declared.Cell.the-variants.{Absent, Present}
 use Rattle.operators.specs.declared.ApplyOp.{ApplyOp}

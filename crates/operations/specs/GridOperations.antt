@@ -1,9 +1,9 @@
 -- T for each operation on plain grids (document 01, "The six operations"): "T is worked out first, in every place (i, j)".
 use Prim.Native.Nat.{ℕ}
 use mathlib.Core.List.{List}
-use mathlib.Core.Bool.{Bool, true, false, cond}
-use lib.ListN.{length, getD}
-use Rattle.grid.specs.declared.Cell.{Cell}
+use mathlib.Core.Bool.{Bool, true, false}
+use lib.ListN.{length}
+use Rattle.words.specs.Words.{at}
 use Rattle.grid.specs.Grid.{Grid}
 use Rattle.operators.specs.declared.ApplyOp.{ApplyOp}
 use Rattle.operators.specs.declared.BinaryOp.{BinaryOp}
@@ -56,7 +56,7 @@ applyGrid op flag a = record {
 
 -- "T(i,j) = A(I[i], J[j])"
 abbrev pub extractGrid : List ℕ → List ℕ → Grid → Grid
-extractGrid is js a = record { rows = length is; cols = length js; cell = λ i j. a .cell (getD is i 0) (getD js j 0) }
+extractGrid is js a = record { rows = length is; cols = length js; cell = λ i j. a .cell (at is i) (at js j) }
 
 -- T of any of them: the transpose flag of the first input, both inputs as their flags ask, and the index lists
 abbrev pub resultGrid : Operation → Bool → Grid → Grid → List ℕ → List ℕ → Grid

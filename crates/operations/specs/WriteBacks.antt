@@ -1,5 +1,4 @@
 -- The write-back (document 01, "The six operations": "Write-back: ..").
-use Prim.Native.Nat.{ℕ}
 use mathlib.Core.Bool.{Bool, true, false, cond, not}
 use lib.Dec.{eqb}
 use Rattle.grid.specs.declared.Cell.{Cell}

@@ -90,7 +90,8 @@ indexUnaryApply s (index.Known op) = apply.Known (IndexUnary op s)
 indexUnaryApply s index.Unknown = apply.Unknown
 
 -- "Apply: unary; binary with the scalar first; binary with the scalar second; index-unary". The document gives the
--- kinds no numbers: they are 0 to 3 in this order. An operator's number is read in its kind.
+-- kinds no numbers: they are 0 to 3 in this order. An operator's number is read in its kind, and a kind above 3 has no
+-- operator.
 abbrev pub applyTable : ℕ → ℕ → List ApplyCode
 applyTable number s =
     unaryApply (unaryNumbered number)

@@ -123,3 +123,8 @@ diagonal-below = refl
 diagonal-wraps : signed (indexUnaryWord DiagIndex 2 0 2147483648) ≡ pos 2147483646
 unfolding indexUnaryWord signed word
 diagonal-wraps = refl
+
+-- the scalar is added to j-i: 0 - 2 + 5 is 3
+diagonal-scalar : indexUnaryWord DiagIndex 2 0 5 ≡ 3
+unfolding indexUnaryWord signed word
+diagonal-scalar = refl

@@ -1,2 +1,3 @@
+pub mod Cases
 pub mod Shapes
 pub mod Refusals

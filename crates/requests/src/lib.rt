@@ -8,6 +8,7 @@ use answers::INVALID_SECOND;
 use answers::INVALID_SHAPE;
 use answers::UNKNOWN_OPERATOR;
 use answers::WORKSPACE_TOO_SHORT;
+use limits::MAX_FLAGS;
 use limits::MAX_LIST;
 use matrix::layout::COLS_AT;
 use matrix::layout::ROWS_AT;
@@ -24,7 +25,8 @@ ghost use Rattle.matrix.specs.Valid.{valid};
 ghost use Rattle.matrix.specs.Facts.{Matrix};
 ghost use Rattle.operations.specs.Calls.{flagSet, transposeFirst, transposeSecond, hasSecond, listValid, indexesValid, shapesAgree};
 ghost use Rattle.operations.specs.GridOperations.{oriented};
-ghost use Rattle.requests.specs.Refusal.{inputRefusal};
+ghost use Rattle.requests.specs.Cases.{numbersRefusal, agreementRefusal};
+ghost use Rattle.requests.specs.Refusal.{matricesRefusal, inputRefusal};
 ghost use Rattle.requests.specs.Inputs.{Valid};
 ghost use Rattle.requests.specs.Shapes.{shapeOf, productAgrees, allSame, resultAgrees, maskAgrees};
 
@@ -41,14 +43,36 @@ pub fn input_refusal(
 ) -> u32
     ensures { λ r. ⌜ r ≡ inputRefusal call (now (a .entry)) (now (b .entry)) (now (mask .entry)) (now (c .entry)) (now (is .entry)) (now (js .entry)) work ⌝ }
 {
+    let number = numbers_refusal(call);
+    if number != 0 {
+        return number;
+    }
+    let invalid = matrices_refusal(call, a, b, mask, c);
+    if invalid != 0 {
+        return invalid;
+    }
+    agreement_refusal(call, a, b, mask, c, is, js, work)
+}
+
+// 1 and 2: the flags and the operators.
+pub fn numbers_refusal(call: Call) -> u32
+    ensures { λ r. ⌜ r ≡ numbersRefusal call ⌝ }
+{
     let flags = call.flags;
-    if 31 < flags {
+    if MAX_FLAGS < flags {
         return FLAGS_OUT_OF_RANGE;
     }
     let known = call.known;
     if !known {
         return UNKNOWN_OPERATOR;
     }
+    0
+}
+
+// 3 to 6: the matrices that the call has.
+fn matrices_refusal(call: Call, a: &[u32], b: &[u32], mask: &[u32], c: &[u32]) -> u32
+    ensures { λ r. ⌜ r ≡ matricesRefusal call (now (a .entry)) (now (b .entry)) (now (mask .entry)) (now (c .entry)) ⌝ }
+{
     if !matrix::is_valid(a) {
         return INVALID_FIRST;
     }
@@ -61,6 +85,23 @@ pub fn input_refusal(
     if !matrix::is_valid(c) {
         return INVALID_OUTPUT;
     }
+    0
+}
+
+// 7 to 9: the index lists, the shapes and the workspace.
+pub fn agreement_refusal(
+    call: Call,
+    a: &[u32],
+    b: &[u32],
+    mask: &[u32],
+    c: &[u32],
+    is: &[u32],
+    js: &[u32],
+    work: usize,
+) -> u32
+    requires { ⌜ Valid call (now a) (now b) (now mask) (now c) ⌝ }
+    ensures { λ r. ⌜ r ≡ agreementRefusal call (gridOf (now (a .entry))) (gridOf (now (b .entry))) (gridOf (now (mask .entry))) (gridOf (now (c .entry))) (now (is .entry)) (now (js .entry)) work ⌝ }
+{
     if !indexes_valid(call, a, is, js) {
         return INDEX_OUT_OF_BOUNDS;
     }

@@ -143,7 +143,7 @@ module _ {n : ℕ} {cols vals : List ℕ} (w : Row n cols vals) (emit : ℕ → 
       rw (lookup-missing cols vals (w .even) (w .rises) q p s f, append-nil, ← m) h
 
   -- the first q columns gather the items before the position of column q
-  gathered : (q : ℕ) → gather emit q (lookup cols vals) ≡ take (position q cols) items
+  pub gathered : (q : ℕ) → gather emit q (lookup cols vals) ≡ take (position q cols) items
   unfolding gather
   gathered zero = rw (← (position-zero cols))
   gathered (suc q) = go (decLt (position q cols) (length cols)) (ℕ-discrete (at cols (position q cols)) q) (gathered q)

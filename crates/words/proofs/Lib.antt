@@ -1,3 +1,4 @@
 pub mod Tests
 pub mod Parts
 pub mod Overwrite
+pub mod Upwards

@@ -38,3 +38,15 @@ pub fn move_down(words: &mut [u32], from: usize, to: usize, n: usize)
         k += 1;
     }
 }
+
+// n words are moved up, from `from` on to `to` on.
+pub fn move_up(words: &mut [u32], from: usize, to: usize, n: usize)
+    requires { ⌜ (from ≤ to) × (to + n ≤ length (now words)) ⌝ }
+    ensures { λ _. ⌜ now (words .exit) ≡ overwrite to (part from (from + n) (now (words .entry))) (now (words .entry)) ⌝ }
+{
+    let mut k = n;
+    while 0 < k {
+        k -= 1;
+        words[to + k] = words[from + k];
+    }
+}

@@ -3,7 +3,7 @@ use mathlib.Core.Path.{_≡_, sym, _∙_}
 use denote.Ref.{now}
 use lib.ListN.{length}
 use Rattle.requests.specs.Refusal.{inputRefusal}
-use Rattle.calls.proofs.ReadyOf.{ready-of}
+use Rattle.requests.proofs.Refusals.{ready-of}
 use Rattle.calls.proofs.Attempts.{attempted-input, attempted-full, attempted-done, size-fits}
 use borrow.Author.Needs.{needs}
 use Rattle.calls.proofs.attempt.Statement.{statement}

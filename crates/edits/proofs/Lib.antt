@@ -1,0 +1,10 @@
+pub mod Mapping
+pub mod Around
+pub mod Located
+pub mod Found
+pub mod Place
+pub mod Change
+pub mod Moves
+pub mod Insertion
+pub mod Removal
+pub mod Replacement

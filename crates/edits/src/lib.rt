@@ -1,0 +1,130 @@
+// One entry of a valid matrix, found and changed in place.
+use matrix::layout::COLUMNS_PAST;
+use matrix::layout::COUNT_AGAIN_PAST;
+use matrix::layout::COUNT_PAST;
+use matrix::layout::ROWS_AT;
+use matrix::layout::STARTS_AT;
+use matrix::layout::VALUES_PAST;
+ghost use mathlib.Core.Path.{_≡_};
+ghost use Prim.Native.Nat.{_<_};
+ghost use Rattle.limits.specs.Limits.{maxEntries};
+ghost use Rattle.grid.specs.declared.Cell.the-variants.{Absent, Present};
+ghost use Rattle.grid.specs.Update.{withCell};
+ghost use Rattle.matrix.specs.Layout.{rows, gridOf};
+ghost use Rattle.matrix.specs.Facts.{Matrix};
+ghost use Rattle.encoding.specs.Encode.{writtenOver};
+ghost use Rattle.edits.specs.declared.EntryAt.the-variants as entry;
+ghost use Rattle.edits.specs.Entry.{entryAt};
+ghost use Rattle.edits.specs.Changes.{InMatrix, HasSpace, PutBounds, entryPut, TakeBounds, entryTaken};
+ghost use Rattle.edits.specs.Changes.{raised, lowered, Mapped, Bounded};
+
+// A position among the N entries: that of a present cell's entry, or where the entry of an absent cell would be put to
+// keep the order.
+pub enum EntryAt {
+    Present(usize),
+    Absent(usize),
+}
+
+// Where the entry of row i and column j is, or would be put.
+pub fn find_entry(words: &[u32], i: usize, j: u32) -> EntryAt
+    requires { ⌜ Matrix (now words) ⌝ ∗ ⌜ i < rows (now words) ⌝ }
+    ensures { λ r. ⌜ r ≡ entryAt (gridOf (now (words .entry))) i j ⌝ }
+{
+    let columns = matrix::row_columns(words, i);
+    let k = rows::find_column(columns, j);
+    let p = words[i + STARTS_AT] as usize + k;
+    if columns.len() <= k {
+        return EntryAt::Absent(p);
+    }
+    if columns[k] != j {
+        return EntryAt::Absent(p);
+    }
+    EntryAt::Present(p)
+}
+
+// The entry of row i and column j, at position p, takes the value v.
+pub fn replace_value(words: &mut [u32], i: usize, j: u32, p: usize, v: u32)
+    requires { ⌜ InMatrix (now words) i j ⌝ ∗ ⌜ entryAt (gridOf (now words)) i j ≡ entry.Present p ⌝ }
+    ensures { λ _. ⌜ now (words .exit) ≡ writtenOver (withCell (gridOf (now (words .entry))) i j (Present v)) (now (words .entry)) ⌝ }
+{
+    let r = words[ROWS_AT] as usize;
+    let n = words[r + COUNT_PAST] as usize;
+    words[r + n + VALUES_PAST + p] = v;
+}
+
+// Row i and column j, which has no entry, gets one with the value v, at position p. Each word is moved at most once.
+pub fn insert_entry(words: &mut [u32], i: usize, j: u32, p: usize, v: u32)
+    requires { ⌜ InMatrix (now words) i j ⌝ ∗ ⌜ entryAt (gridOf (now words)) i j ≡ entry.Absent p ⌝ ∗ ⌜ HasSpace (now words) ⌝ }
+    ensures { λ _. ⌜ now (words .exit) ≡ writtenOver (withCell (gridOf (now (words .entry))) i j (Present v)) (now (words .entry)) ⌝ }
+{
+    let r = words[ROWS_AT] as usize;
+    let n = words[r + COUNT_PAST] as usize;
+    raise_words(words, i + 1 + STARTS_AT, r + 1 + STARTS_AT);
+    put_entry(words, r, n, p, j, v);
+}
+
+// Row i and column j loses its entry, at position p. Each word is moved at most once.
+pub fn remove_entry(words: &mut [u32], i: usize, j: u32, p: usize)
+    requires { ⌜ InMatrix (now words) i j ⌝ ∗ ⌜ entryAt (gridOf (now words)) i j ≡ entry.Present p ⌝ }
+    ensures { λ _. ⌜ now (words .exit) ≡ writtenOver (withCell (gridOf (now (words .entry))) i j Absent) (now (words .entry)) ⌝ }
+{
+    let r = words[ROWS_AT] as usize;
+    let n = words[r + COUNT_PAST] as usize;
+    lower_words(words, i + 1 + STARTS_AT, r + 1 + STARTS_AT);
+    take_entry(words, r, n, p);
+}
+
+// In a matrix of r rows and n entries, room is made at position p, and the entry and the two counts are written. The
+// row starts are left.
+fn put_entry(words: &mut [u32], r: usize, n: usize, p: usize, j: u32, v: u32)
+    requires { ⌜ PutBounds r n p (now words) ⌝ }
+    ensures { λ _. ⌜ now (words .exit) ≡ entryPut r n p j v (now (words .entry)) ⌝ }
+{
+    let column_at = r + COLUMNS_PAST + p;
+    let value_at = r + n + VALUES_PAST + p;
+    words::move_up(words, value_at, value_at + 2, n - p);
+    words::move_up(words, column_at, column_at + 1, n + 1);
+    words[column_at] = j;
+    words[value_at + 1] = v;
+    let more = n + 1;
+    words[r + COUNT_PAST] = more as u32;
+    words[r + more + COUNT_AGAIN_PAST] = more as u32;
+}
+
+// In a matrix of r rows and n entries, entry p is taken out, and the two counts are written. The row starts are left.
+fn take_entry(words: &mut [u32], r: usize, n: usize, p: usize)
+    requires { ⌜ TakeBounds r n p (now words) ⌝ }
+    ensures { λ _. ⌜ now (words .exit) ≡ entryTaken r n p (now (words .entry)) ⌝ }
+{
+    let column_at = r + COLUMNS_PAST + p;
+    let value_at = r + n + VALUES_PAST + p;
+    words::move_down(words, column_at + 1, column_at, n);
+    words::move_down(words, value_at + 1, value_at - 1, n - p - 1);
+    let fewer = n - 1;
+    words[r + COUNT_PAST] = fewer as u32;
+    words[r + fewer + COUNT_AGAIN_PAST] = fewer as u32;
+}
+
+// One more in each word from `from` up to, and not including, `to`.
+fn raise_words(words: &mut [u32], from: usize, to: usize)
+    requires { ⌜ Bounded 0 maxEntries from to (now words) ⌝ }
+    ensures { λ _. ⌜ Mapped raised from to (now (words .entry)) (now (words .exit)) ⌝ }
+{
+    let mut k = from;
+    while k < to {
+        words[k] = words[k] + 1;
+        k += 1;
+    }
+}
+
+// One less in each word from `from` up to, and not including, `to`.
+fn lower_words(words: &mut [u32], from: usize, to: usize)
+    requires { ⌜ Bounded 1 maxEntries from to (now words) ⌝ }
+    ensures { λ _. ⌜ Mapped lowered from to (now (words .entry)) (now (words .exit)) ⌝ }
+{
+    let mut k = from;
+    while k < to {
+        words[k] = words[k] - 1;
+        k += 1;
+    }
+}

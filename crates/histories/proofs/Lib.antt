@@ -1,0 +1,9 @@
+pub mod Alike
+pub mod Steps
+pub mod Bounds
+pub mod Stored
+pub mod Told
+pub mod Kept
+pub mod Possible
+pub mod Claim
+pub mod Promise

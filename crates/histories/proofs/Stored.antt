@@ -1,0 +1,97 @@
+-- The writing of a model: a store, whose model agrees with it.
+use Prim.Native.Nat.{ℕ, zero, suc, _+_, _≤_, _<_}
+use native.Mathlib.Omega.{arith}
+use mathlib.Core.Path.{_≡_, refl, sym, ap, _∙_}
+use mathlib.Core.Bool.{Bool, true, false, cond}
+use mathlib.Core.List.{List, [], _∷_, _++_, append-nil, map}
+use lib.ListN.{length, getD, replicate, length-map, length-replicate, List·getD-map}
+use lib.Dec.{eqb}
+use borrow.Author.Tests.{ne-eqb}
+use Rattle.limits.specs.Limits.{slotCount, maxStoreWords}
+use Rattle.grid.specs.Grid.{Grid, Same}
+use Rattle.grid.specs.Entries.{entryCount}
+use Rattle.matrix.specs.Layout.{gridOf, entries, size, sizeOf}
+use Rattle.matrix.specs.Valid.{valid}
+use Rattle.matrix.proofs.Facts.{matrix-facts}
+use Rattle.encoding.specs.Encode.{encode, Within}
+use Rattle.encoding.proofs.Canonical.{encode-length, encode-entries, encode-valid, encode-same}
+use Rattle.encoding.proofs.Encoded.{encode-rows}
+use Rattle.slots.specs.Sections.{Slots, written, writing, slotsOf}
+use Rattle.slots.specs.Valid.{contentsValid, storeValid}
+use Rattle.slots.proofs.Facts.{empty-valid, held-made}
+use Rattle.slots.proofs.Written.{written-length}
+use Rattle.slots.proofs.ReadBack.{writing-slots, writing-length, writing-valid}
+use Rattle.slots.proofs.Stored.{fresh-writing}
+use Rattle.model.specs.Model.{Slot, vacant, holding, Model, fresh, slotOf, contents, allContents, modelWriting, wordsNeeded}
+use Rattle.model.specs.Stores.{slotHeld, modelOf}
+use Rattle.model.proofs.Held.{sizes-total}
+use Rattle.histories.proofs.Alike.{Alike, AlikeSlots}
+use Rattle.histories.proofs.Bounds.{WithinSlot, Fitting}
+
+-- the size of a writing, as its words say it
+encode-size : (g : Grid) → size (encode g) ≡ length (encode g)
+encode-size g =
+    ap size (sym (append-nil (encode g)))
+    ∙ ap (λ (r : ℕ). sizeOf r (entries (encode g ++ []))) (encode-rows g []) ∙ ap (sizeOf (g .rows)) (encode-entries g [])
+    ∙ sym (encode-length g)
+
+-- contents of a slot
+slot-valid : (x : Slot) → WithinSlot x → contentsValid (contents x) ≡ true
+slot-valid vacant w = empty-valid [] refl
+slot-valid (holding g) w =
+    held-made (encode g) (record {
+      matrix = matrix-facts (encode g) (ap valid (sym (append-nil (encode g))) ∙ encode-valid g [] w);
+      whole = encode-size g;
+    })
+
+-- what they hold agrees with the slot
+slot-alike : (x : Slot) → AlikeSlots (slotHeld (contents x)) x
+slot-alike vacant = tt
+slot-alike (holding g) =
+    let l = encode-length g in
+    let e = ne-eqb (length (encode g)) 0 (λ z. omega arith) in
+    rw e (rw (append-nil (encode g)) at (encode-same g []))
+
+all-alike : (m : Model) → Alike (map slotHeld (allContents m)) m
+all-alike [] = tt
+all-alike (x ∷ m) = (slot-alike x, all-alike m)
+
+-- a store of n words that is the writing of m
+pub record Written (n : ℕ) (m : Model) (s : List ℕ) : Type 0 where
+  pub valid : storeValid s ≡ true
+  pub long : length s ≡ n
+  pub alike : Alike (modelOf s) m
+
+pub written-model : (n : ℕ) (m : Model) → slotCount ≤ n → n ≤ maxStoreWords → Fitting n m
+    → Written n m (modelWriting n m)
+unfolding modelWriting modelOf
+written-model n m a b f =
+    let w = allContents m in
+    let c : length w ≡ slotCount = length-map m contents ∙ f .slots in
+    let l = written-length w in
+    let t = sizes-total m in
+    let r = f .room in
+    let fits : length (written w) ≤ n = omega arith in
+    record {
+      valid = writing-valid n w c fits a b
+          (λ k i. ap contentsValid (List·getD-map contents m k vacant) ∙ slot-valid (slotOf m k) (f .within k));
+      long = writing-length n w c fits;
+      alike = rw (writing-slots n w c) (all-alike m);
+    }
+
+-- the fresh store
+fresh-within : (n k : ℕ) → WithinSlot (slotOf (replicate n vacant) k)
+fresh-within zero k = tt
+fresh-within (suc n) zero = tt
+fresh-within (suc n) (suc k) = fresh-within n k
+
+pub fresh-fits : (n : ℕ) → slotCount ≤ n → Fitting n fresh
+fresh-fits n a = record {
+  slots = length-replicate {A = Slot} slotCount vacant;
+  within = fresh-within slotCount;
+  room = a;
+}
+
+pub fresh-written : (n : ℕ) → slotCount ≤ n → replicate n 0 ≡ modelWriting n fresh
+unfolding modelWriting
+fresh-written n a = sym (fresh-writing n a)

@@ -1,0 +1,112 @@
+-- Demand 3: every list of calls on a store, started on all zeros, goes as the model goes.
+--
+-- What a function does is taken from its own contract, by name: `Reads.Learnt` of a function is what a caller learns when
+-- it returns. A step of a list is a call of one of the functions, on the words that the step before left.
+use Prim.Native.Nat.{ℕ, _≤_}
+use mathlib.Core.Path.{_≡_}
+use mathlib.Core.List.{List, [], _∷_}
+use lib.ListN.{length, replicate}
+use contract.Lifetimes.{Lfts}
+use denote.Ref.{RefT}
+use Rattle.limits.specs.Limits.{slotCount, maxStoreWords}
+use Rattle.answers.specs.declared.Answer.{Answer}
+use Rattle.cells.specs.declared.CellAnswer.{CellAnswer}
+use Rattle.call_codes.specs.declared.Options.{Options}
+use Rattle.model.specs.Model.{Model, fresh, modelWriting}
+use Rattle.model.specs.Calls.{
+  mxm,
+  vxm,
+  ewiseMult,
+  ewiseAdd,
+  apply,
+  extract,
+  StoreCall,
+  newEmpty,
+  dropSlot,
+  setCell,
+  clearCell,
+  readCell,
+  operation,
+  Reply,
+  wrote,
+  found,
+}
+use Rattle.model.specs.Histories.{replies, modelAfter}
+use Rattle.store_cells.proofs.new_empty.Reads as new-empty-reads
+use Rattle.store_cells.proofs.drop_slot.Reads as drop-slot-reads
+use Rattle.store_cells.proofs.set_cell.Reads as set-cell-reads
+use Rattle.store_cells.proofs.clear_cell.Reads as clear-cell-reads
+use Rattle.store_cells.proofs.read_cell.Reads as read-cell-reads
+use Rattle.store_calls.proofs.mxm.Reads as mxm-reads
+use Rattle.store_calls.proofs.vxm.Reads as vxm-reads
+use Rattle.store_calls.proofs.ewise_mult.Reads as ewise-mult-reads
+use Rattle.store_calls.proofs.ewise_add.Reads as ewise-add-reads
+use Rattle.store_calls.proofs.apply.Reads as apply-reads
+use Rattle.store_calls.proofs.extract.Reads as extract-reads
+
+-- a lent slice: where it is, and the words that it holds. It is at the same address when the call returns.
+pub record Address : Type 0 where
+  pub pointer : ℕ × ℕ
+  pub name : ℕ
+
+abbrev pub lent : Address → List ℕ → RefT (List ℕ)
+lent p s = record { ptr = p .pointer; name = p .name; now = s }
+
+-- One call on the words s: its reply and the words s′ after it are what the contract of its function tells a caller. Index
+-- lists, and the words that a read is lent, are borrowed by `&` and stay. "Each call brings index lists and a work buffer of its own where it has them, with any words in them."
+pub data Step : List ℕ → StoreCall → Reply → List ℕ → Type 0 where
+  new-empty-step : {s s′ : List ℕ} {k r c : ℕ} {answer : Answer} (p : Address) (κs : Lfts 1)
+      → new-empty-reads.Learnt κs (lent p s, (k, (r, (c, tt)))) answer (lent p s′, (k, (r, (c, tt))))
+      → Step s (newEmpty k r c) (wrote answer) s′
+  drop-slot-step : {s s′ : List ℕ} {k : ℕ} {answer : Answer} (p : Address) (κs : Lfts 1)
+      → drop-slot-reads.Learnt κs (lent p s, (k, tt)) answer (lent p s′, (k, tt))
+      → Step s (dropSlot k) (wrote answer) s′
+  set-cell-step : {s s′ : List ℕ} {k i j v : ℕ} {answer : Answer} (p : Address) (κs : Lfts 1)
+      → set-cell-reads.Learnt κs (lent p s, (k, (i, (j, (v, tt))))) answer (lent p s′, (k, (i, (j, (v, tt)))))
+      → Step s (setCell k i j v) (wrote answer) s′
+  clear-cell-step : {s s′ : List ℕ} {k i j : ℕ} {answer : Answer} (p : Address) (κs : Lfts 1)
+      → clear-cell-reads.Learnt κs (lent p s, (k, (i, (j, tt)))) answer (lent p s′, (k, (i, (j, tt))))
+      → Step s (clearCell k i j) (wrote answer) s′
+  read-cell-step : {s : List ℕ} {k i j : ℕ} {answer : CellAnswer} (p : Address) (κs : Lfts 1)
+      → read-cell-reads.Learnt κs (lent p s, (k, (i, (j, tt)))) answer (lent p s, (k, (i, (j, tt))))
+      → Step s (readCell k i j) (found answer) s
+  mxm-step : {s s′ : List ℕ} (w w′ : List ℕ) {o : Options} {monoid op a b m c : ℕ} {answer : Answer} (p q : Address) (κs : Lfts 2)
+      → mxm-reads.Learnt κs (lent p s, (o, (monoid, (op, (a, (b, (m, (c, (lent q w, tt))))))))) answer
+      (lent p s′, (o, (monoid, (op, (a, (b, (m, (c, (lent q w′, tt)))))))))
+      → Step s (operation (mxm o monoid op a b m c (length w))) (wrote answer) s′
+  vxm-step : {s s′ : List ℕ} (w w′ : List ℕ) {o : Options} {monoid op u a m c : ℕ} {answer : Answer} (p q : Address) (κs : Lfts 2)
+      → vxm-reads.Learnt κs (lent p s, (o, (monoid, (op, (u, (a, (m, (c, (lent q w, tt))))))))) answer
+      (lent p s′, (o, (monoid, (op, (u, (a, (m, (c, (lent q w′, tt)))))))))
+      → Step s (operation (vxm o monoid op u a m c (length w))) (wrote answer) s′
+  ewise-mult-step : {s s′ : List ℕ} (w w′ : List ℕ) {o : Options} {op a b m c : ℕ} {answer : Answer} (p q : Address) (κs : Lfts 2)
+      → ewise-mult-reads.Learnt κs (lent p s, (o, (op, (a, (b, (m, (c, (lent q w, tt)))))))) answer
+      (lent p s′, (o, (op, (a, (b, (m, (c, (lent q w′, tt))))))))
+      → Step s (operation (ewiseMult o op a b m c (length w))) (wrote answer) s′
+  ewise-add-step : {s s′ : List ℕ} (w w′ : List ℕ) {o : Options} {op a b m c : ℕ} {answer : Answer} (p q : Address) (κs : Lfts 2)
+      → ewise-add-reads.Learnt κs (lent p s, (o, (op, (a, (b, (m, (c, (lent q w, tt)))))))) answer
+      (lent p s′, (o, (op, (a, (b, (m, (c, (lent q w′, tt))))))))
+      → Step s (operation (ewiseAdd o op a b m c (length w))) (wrote answer) s′
+  apply-step : {s s′ : List ℕ} (w w′ : List ℕ) {o : Options} {kind op scalar a m c : ℕ} {answer : Answer} (p q : Address) (κs : Lfts 2)
+      → apply-reads.Learnt κs (lent p s, (o, (kind, (op, (scalar, (a, (m, (c, (lent q w, tt))))))))) answer
+      (lent p s′, (o, (kind, (op, (scalar, (a, (m, (c, (lent q w′, tt)))))))))
+      → Step s (operation (apply o kind op scalar a m c (length w))) (wrote answer) s′
+  extract-step : {s s′ : List ℕ} (w w′ : List ℕ) {o : Options} {a m c : ℕ} {is js : List ℕ} {answer : Answer} (p q x y : Address) (κs : Lfts 4)
+      → extract-reads.Learnt κs (lent p s, (o, (a, (lent x is, (lent y js, (m, (c, (lent q w, tt)))))))) answer
+      (lent p s′, (o, (a, (lent x is, (lent y js, (m, (c, (lent q w′, tt))))))))
+      → Step s (operation (extract o a is js m c (length w))) (wrote answer) s′
+
+-- a list of calls, each on the words that the one before left
+pub data Runs : List ℕ → List StoreCall → List Reply → List ℕ → Type 0 where
+  end : {s : List ℕ} → Runs s [] [] s
+  call : {s s′ s″ : List ℕ} {c : StoreCall} {cs : List StoreCall} {r : Reply} {rs : List Reply}
+      → Step s c r s′ → Runs s′ cs rs s″ → Runs s (c ∷ cs) (r ∷ rs) s″
+
+-- every answer is the model's, and the words are the one writing of its grids
+pub record Follows (n : ℕ) (m : Model) (cs : List StoreCall) (rs : List Reply) (s : List ℕ) : Type 0 where
+  pub answers : rs ≡ replies n m cs
+  pub words : s ≡ modelWriting n (modelAfter n m cs)
+
+-- the claim: for every length and every list of calls, refused ones among them, started on all zeros
+abbrev pub Claim : Type 0
+Claim = (n : ℕ) → slotCount ≤ n → n ≤ maxStoreWords
+    → (cs : List StoreCall) (rs : List Reply) (s : List ℕ) → Runs (replicate n 0) cs rs s → Follows n fresh cs rs s

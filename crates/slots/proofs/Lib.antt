@@ -1,0 +1,10 @@
+pub mod Written
+pub mod Sections
+pub mod Facts
+pub mod Checks
+pub mod ReadBack
+pub mod Slot
+pub mod RoomMade
+pub mod Resized
+pub mod Placed
+pub mod Stored

@@ -1,0 +1,112 @@
+-- `evaluate`: what is found on the words of four slots, as the model says it of their grids.
+use Prim.Native.Nat.{ℕ, _+_, _≤_, _<_}
+use native.Mathlib.Omega.{arith}
+use mathlib.Core.Path.{_≡_, refl, sym, ap, subst, _∙_}
+use mathlib.Core.List.{List}
+use lib.ListN.{length, take}
+use borrow.Author.Tests.{eqb-false, lt-ltb}
+use Rattle.limits.specs.Limits.{maxEntries}
+use Rattle.answers.specs.Refusals.{tooManyEntries}
+use Rattle.grid.specs.Grid.{Grid}
+use Rattle.grid.specs.Entries.{entryCount}
+use Rattle.matrix.specs.Layout.{gridOf}
+use Rattle.matrix.specs.Facts.{Matrix}
+use Rattle.encoding.specs.Encode.{encode, gridSize}
+use Rattle.operations.specs.declared.Call.{Call}
+use Rattle.operations.specs.Calls.{callFinal}
+use Rattle.requests.specs.Cases.{lowest, agreementCases, agreementRefusal}
+use Rattle.requests.specs.Refusal.{lentFinal}
+use Rattle.requests.specs.Inputs.{Valid}
+use Rattle.slots.specs.Sections.{slotAt}
+use Rattle.slots.specs.Facts.{Held}
+use Rattle.model.specs.declared.Roles.{Roles}
+use Rattle.model.specs.Model.{gridAt}
+use Rattle.model.specs.Calls.{Operate}
+use Rattle.model.specs.Steps.{operated}
+use Rattle.model.specs.Stores.{modelOf}
+use Rattle.model.proofs.Held.{grid-model}
+use Rattle.store_calls.specs.Attempts.{Holding, agreement, RefusedBy, DoneBy}
+use Rattle.store_calls.proofs.Refusals.{agreement-first, agreement-none}
+
+-- a matrix has words
+pub not-empty : (x : List ℕ) → Held x → length x ≡ 0 → ⊥
+not-empty x h e = let w = h .whole in omega arith
+
+-- the words of each role, as they are lent
+pub record Lent (s : List ℕ) (r : Roles) (a b m c : List ℕ) : Type 0 where
+  pub first : a ≡ slotAt s (r .first)
+  pub second : b ≡ slotAt s (r .second)
+  pub mask : m ≡ slotAt s (r .mask)
+  pub output : c ≡ slotAt s (r .output)
+
+-- they are valid matrices
+pub all-valid : (call : Call) (s : List ℕ) (r : Roles) (a b m c : List ℕ) → Holding s r → Lent s r a b m c
+    → Valid call a b m c
+all-valid call s r a b m c h e = record {
+  first = subst Matrix (sym (e .first)) (h .first .matrix);
+  second = λ t. subst Matrix (sym (e .second)) (h .second .matrix);
+  mask = λ t. subst Matrix (sym (e .mask)) (h .mask .matrix);
+  output = subst Matrix (sym (e .output)) (h .output .matrix);
+}
+
+-- their grids are the model's
+grid-by : (s x : List ℕ) (k : ℕ) → Held (slotAt s k) → x ≡ slotAt s k → gridAt (modelOf s) k ≡ gridOf x
+grid-by s x k h e = grid-model s k (not-empty _ h) ∙ ap gridOf (sym e)
+
+module _ (s : List ℕ) (o : Operate) (a b m c : List ℕ) (h : Holding s (o .roles)) (e : Lent s (o .roles) a b m c) where
+  -- what is said of four grids is the same of both
+  by-words : {A : Type 0} (f : Grid → Grid → Grid → Grid → A)
+      → f (gridAt (modelOf s) (o .roles .first)) (gridAt (modelOf s) (o .roles .second))
+      (gridAt (modelOf s) (o .roles .mask)) (gridAt (modelOf s) (o .roles .output))
+      ≡ f (gridOf a) (gridOf b) (gridOf m) (gridOf c)
+  by-words {A} f =
+      let p = grid-by s a (o .roles .first) (h .first) (e .first) in
+      let q = grid-by s b (o .roles .second) (h .second) (e .second) in
+      let r = grid-by s m (o .roles .mask) (h .mask) (e .mask) in
+      let t = grid-by s c (o .roles .output) (h .output) (e .output) in
+      ap (λ (x : Grid). f x (gridAt (modelOf s) (o .roles .second)) (gridAt (modelOf s) (o .roles .mask))
+      (gridAt (modelOf s) (o .roles .output))) p
+      ∙ ap (λ (x : Grid). f (gridOf a) x (gridAt (modelOf s) (o .roles .mask)) (gridAt (modelOf s) (o .roles .output))) q
+      ∙ ap (λ (x : Grid). f (gridOf a) (gridOf b) x (gridAt (modelOf s) (o .roles .output))) r
+      ∙ ap (λ (x : Grid). f (gridOf a) (gridOf b) (gridOf m) x) t
+
+  -- the final C, and the lowest of 7 to 9, by the words
+  abbrev final : Grid
+  final = lentFinal (o .call) a b m c (o .is) (o .js)
+
+  abbrev lowestOf : ℕ
+  lowestOf = agreementRefusal (o .call) (gridOf a) (gridOf b) (gridOf m) (gridOf c) (o .is) (o .js) (o .work)
+
+  final-is : operated (modelOf s) o ≡ final
+  final-is = by-words (λ a b m c. callFinal (o .call) a b m c (o .is) (o .js))
+
+  agreement-is : agreement (modelOf s) o ≡ lowestOf
+  unfolding agreementRefusal
+  agreement-is = by-words (λ a b m c. lowest (agreementCases (o .call) a b m c (o .is) (o .js) (o .work)))
+
+  -- refused by 7 to 9
+  pub evaluated-refused : (code : ℕ) → code ≡ lowestOf → (code ≡ 0 → ⊥) → RefusedBy code (modelOf s) o
+  evaluated-refused code q n = record {
+    some = n;
+    lowest-is = λ i. agreement-first (modelOf s) o i code (q ∙ sym agreement-is) n;
+  }
+
+  module _ (z : lowestOf ≡ 0) where
+    -- too many entries
+    pub evaluated-full : maxEntries < entryCount final → RefusedBy tooManyEntries (modelOf s) o
+    evaluated-full l =
+        let f : maxEntries < entryCount (operated (modelOf s) o) = rw final-is l in
+        record {
+          some = eqb-false tooManyEntries 0 refl;
+          lowest-is = λ i. sym (agreement-none (modelOf s) o i (agreement-is ∙ z) ∙ rw (lt-ltb _ _ f));
+        }
+
+    -- the final C is at the front of the workspace
+    pub evaluated-done : (n : ℕ) (w : List ℕ) → n ≡ entryCount final → n ≤ maxEntries
+        → take (gridSize final) w ≡ encode final → DoneBy n (modelOf s) o w
+    evaluated-done n w q f t = record {
+      agrees = agreement-is ∙ z;
+      count = q ∙ ap entryCount (sym final-is);
+      few = f;
+      written = ap (λ (g : Grid). take (gridSize g) w) final-is ∙ t ∙ ap encode (sym final-is);
+    }

@@ -1,0 +1,5 @@
+pub mod Roles
+pub mod Refusals
+pub mod Evaluations
+pub mod Commits
+pub mod Operations

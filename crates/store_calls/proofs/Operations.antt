@@ -1,0 +1,182 @@
+-- An operation on any words, from what its code has found: no store, a refusal, or the final C in its slot.
+use Prim.Native.Nat.{ℕ, _+_, _-_, _≤_, _<_}
+use native.Mathlib.Omega.{arith}
+use native.Mathlib.Decide.{decLe}
+use mathlib.Core.Path.{_≡_, refl, sym, ap, subst, _∙_}
+use mathlib.Core.Bool.{Bool, true, false, cond}
+use mathlib.Core.List.{List}
+use lib.ListN.{length, take, set, length-take}
+use borrow.Author.Tests.{eqb-false, ne-eqb, le-leb, lt-leb, lt-ltb, le-ltb}
+use Rattle.limits.specs.Limits.{slotCount, maxEntries}
+use Rattle.answers.specs.declared.Answer.{Answer}
+use Rattle.answers.specs.Refusals.{accepted, refused, unlessRefused, insufficientSpace, invalidStore}
+use Rattle.words.proofs.Tests.{refuted}
+use Rattle.grid.specs.Grid.{Grid}
+use Rattle.grid.specs.Entries.{entryCount}
+use Rattle.matrix.specs.Layout.{rows, sizeOf}
+use Rattle.encoding.specs.Encode.{encode, gridSize}
+use Rattle.encoding.proofs.Canonical.{encode-length}
+use Rattle.operations.specs.declared.Call.{Call}
+use Rattle.operations.specs.Calls.{callFinal}
+use Rattle.requests.specs.Cases.{lowest}
+use Rattle.slots.specs.Sections.{writing, endFrom, slotsOf, slotAt, countAt}
+use Rattle.slots.specs.Valid.{storeValid}
+use Rattle.slots.specs.Facts.{Store}
+use Rattle.slots.proofs.Facts.{store-facts}
+use Rattle.slots.proofs.Sections.{end-least}
+use Rattle.model.specs.Model.{Model, holding, gridAt, wordsNeeded, modelWriting}
+use Rattle.model.specs.declared.Roles.{Roles}
+use Rattle.model.specs.Calls.{rolesOf, Operate, OperationCall, operateOf, operation, wrote}
+use Rattle.model.specs.Steps.{operated, afterOperation, operationRefusal}
+use Rattle.model.specs.Stores.{modelOf, Performed}
+use Rattle.model.specs.Placing.{Operated}
+use Rattle.model.proofs.Held.{model-written, slot-written, grid-model, needed-model}
+use Rattle.model.proofs.Performed.{performed-operation}
+use Rattle.store_calls.specs.Attempts.{asked, rolesRefusal, Holding, RefusedBy, DoneBy, Committed}
+use Rattle.store_calls.proofs.Refusals.{outputPart, roles-none, agreement-none}
+use Rattle.store_calls.proofs.Evaluations.{not-empty}
+
+-- ---- what `check` has found
+
+pub no-store : (s : List ℕ) (end : ℕ) → end ≡ cond (storeValid s) (endFrom slotCount s) 0 → end ≡ 0
+    → storeValid s ≡ false
+no-store s end e z =
+    refuted _ (λ t.
+    let l = end-least slotCount s in
+    let q : end ≡ endFrom slotCount s = e ∙ rw t in
+    omega arith)
+
+pub record Found (s : List ℕ) (end : ℕ) : Type 0 where
+  pub valid : storeValid s ≡ true
+  pub store : Store s
+  pub ends : end ≡ endFrom slotCount s
+
+pub store-found : (s : List ℕ) (end : ℕ) → end ≡ cond (storeValid s) (endFrom slotCount s) 0 → (end ≡ 0 → ⊥)
+    → Found s end
+store-found s end e n = go (storeValid s) refl
+  where
+    go : (b : Bool) → storeValid s ≡ b → Found s end
+    go true t = record { valid = t; store = store-facts s t; ends = e ∙ rw t }
+    go false t = absurd (n (e ∙ rw t))
+
+-- ---- the operation
+
+module _ (s : List ℕ) (o : Operate) where
+  abbrev m : Model
+  m = modelOf s
+
+  abbrev g : Grid
+  g = operated m o
+
+  abbrev k : ℕ
+  k = o .roles .output
+
+  -- the same answer by another name
+  pub operated-by : (answer a : Answer) (s′ : List ℕ) → answer ≡ a → Operated s o a s′ → Operated s o answer s′
+  operated-by answer a s′ e r = record { answer-is = e ∙ r .answer-is; words-are = r .words-are }
+
+  -- the words are no store
+  pub operated-no-store : storeValid s ≡ false → Operated s o (refused invalidStore) s
+  operated-no-store h = record { answer-is = rw h; words-are = rw h }
+
+  module _ (h : storeValid s ≡ true) where
+    -- refused
+    pub operated-refused : (code : ℕ) → code ≡ operationRefusal (length s) m o → (code ≡ 0 → ⊥)
+        → Operated s o (refused code) s
+    operated-refused code e n =
+        let f = ne-eqb code 0 n in
+        let w = sym (model-written s (store-facts s h)) in
+        record { answer-is = rw (h, ← e, f); words-are = w ∙ rw (h, ← e, f) }
+
+    -- the final C is in its slot
+    operated-accepted : (n : ℕ) (s′ : List ℕ) → operationRefusal (length s) m o ≡ 0 → n ≡ entryCount g
+        → s′ ≡ modelWriting (length s) (afterOperation m o) → Operated s o (accepted n) s′
+    operated-accepted n s′ z e w = record { answer-is = ap accepted e ∙ rw (h, z); words-are = w ∙ rw (h, z) }
+
+    module _ (z : rolesRefusal m (o .call) (o .roles) ≡ 0) where
+      -- refused by what is found when the final C is worked out
+      pub operated-evaluated : (code : ℕ) → RefusedBy code m o → Operated s o (refused code) s
+      operated-evaluated code r =
+          operated-refused code (r .lowest-is (length s) ∙ sym (roles-none m o (length s) z)) (r .some)
+
+      module _ (x : Holding s (o .roles)) (n : ℕ) (w : List ℕ) (d : DoneBy n m o w) where
+        -- the rows of the final C are those of old C, so its size is known from its entries
+        size-of : sizeOf (rows (slotAt s k)) n ≡ gridSize g
+        unfolding callFinal
+        size-of =
+            ap (λ (c : Grid). sizeOf (c .rows) n) (sym (grid-model s k (not-empty _ (x .output))))
+            ∙ ap (sizeOf (gridAt m k .rows)) (d .count)
+
+        -- and words that hold its writing are as long
+        pub size-fits : sizeOf (rows (slotAt s k)) n ≤ length w
+        size-fits =
+            let l = encode-length g in
+            let t = sym (length-take (gridSize g) w) ∙ ap length (d .written) in
+            let i = size-of in omega arith
+
+        -- the room that is needed
+        needed : wordsNeeded (afterOperation m o) ≡ endFrom slotCount s - countAt s k + sizeOf (rows (slotAt s k)) n
+        needed =
+            needed-model s k (holding g) (store-facts s h) (x .slots .output)
+            ∙ ap (λ (i : ℕ). endFrom slotCount s - countAt s k + i) (encode-length g ∙ sym size-of)
+
+        few : entryCount g ≤ maxEntries
+        few = let c = d .count in let l = d .few in omega arith
+
+        -- 10 does not apply, so 11 decides
+        output-is : operationRefusal (length s) m o ≡ lowest (outputPart m o (length s))
+        output-is = roles-none m o (length s) z ∙ agreement-none m o (length s) (d .agrees)
+
+        -- what is copied is the writing of the final C
+        copied : writing (length s) (set (slotsOf s) k (take (sizeOf (rows (slotAt s k)) n) w))
+            ≡ modelWriting (length s) (afterOperation m o)
+        copied =
+            ap (λ (i : ℕ). writing (length s) (set (slotsOf s) k (take i w))) size-of
+            ∙ ap (λ (y : List ℕ). writing (length s) (set (slotsOf s) k y)) (d .written)
+            ∙ slot-written s k (holding g) (store-facts s h)
+
+        -- the final C is committed
+        pub operated-done : (answer : Answer) (s′ : List ℕ) → Committed s k w n answer s′ → Operated s o answer s′
+        operated-done answer s′ c =
+            go (decLe (endFrom slotCount s - countAt s k + sizeOf (rows (slotAt s k)) n) (length s))
+          where
+            words-by : (a : Answer) → answer ≡ a
+                → s′ ≡ unlessRefused a s (writing (length s) (set (slotsOf s) k (take (sizeOf (rows (slotAt s k)) n) w)))
+            words-by a q =
+                c .words-are
+                ∙ ap (λ (a : Answer). unlessRefused a s (writing (length s)
+                (set (slotsOf s) k (take (sizeOf (rows (slotAt s k)) n) w)))) q
+
+            go : Dec (endFrom slotCount s - countAt s k + sizeOf (rows (slotAt s k)) n ≤ length s)
+                → Operated s o answer s′
+            go (yes f) =
+                let q : answer ≡ accepted n = c .answer-is ∙ rw (le-leb _ _ f) in
+                let r = operated-accepted n s′
+                (output-is ∙ rw (le-ltb _ _ few, needed, le-ltb _ _ f)) (d .count) (words-by (accepted n) q ∙ copied) in
+                record { answer-is = q ∙ r .answer-is; words-are = r .words-are }
+            go (no f) =
+                let i : length s < endFrom slotCount s - countAt s k + sizeOf (rows (slotAt s k)) n = omega arith in
+                let q : answer ≡ refused insufficientSpace = c .answer-is ∙ rw (lt-leb _ _ i) in
+                let r = operated-refused insufficientSpace
+                (sym (output-is ∙ rw (le-ltb _ _ few, needed, lt-ltb _ _ i))) (eqb-false insufficientSpace 0 refl) in
+                record {
+                  answer-is = q ∙ r .answer-is;
+                  words-are = words-by (refused insufficientSpace) q ∙ r .words-are;
+                }
+
+-- ---- the six calls
+
+-- a call is run with its numbers and its roles decoded
+pub performed-run : (s : List ℕ) (x : OperationCall) (call : Call) (roles : Roles) (a b m c : ℕ) (answer : Answer)
+    (s′ : List ℕ) → call ≡ operateOf x .call → roles ≡ rolesOf call a b m c
+    → rolesOf (operateOf x .call) a b m c ≡ operateOf x .roles
+    → Operated s (asked call roles (operateOf x .is) (operateOf x .js) (operateOf x .work)) answer s′
+    → Performed s (operation x) (wrote answer) s′
+performed-run s x call roles a b m c answer s′ e f g o =
+    performed-operation s x answer s′ (subst (λ (y : Operate). Operated s y answer s′) decoded o)
+  where
+    decoded : asked call roles (operateOf x .is) (operateOf x .js) (operateOf x .work) ≡ operateOf x
+    decoded =
+        ap (λ (r : Roles). asked call r (operateOf x .is) (operateOf x .js) (operateOf x .work))
+        (f ∙ ap (λ (y : Call). rolesOf y a b m c) e ∙ g)
+        ∙ ap (λ (y : Call). asked y (operateOf x .roles) (operateOf x .is) (operateOf x .js) (operateOf x .work)) e

@@ -1,0 +1,123 @@
+-- `evaluate` lends the words of the slots to the tests and to the working part.
+use mathlib.Core.Path.{_≡_, sym, _∙_}
+use mathlib.Core.List.{List}
+use Prim.Native.Nat.{ℕ}
+use denote.Ref.{now}
+use lib.ListN.{length}
+use Rattle.model.specs.Calls.{Operate}
+use Rattle.requests.proofs.Refusals.{Checked, checked-of}
+use Rattle.store_calls.specs.Attempts.{asked}
+use Rattle.store_calls.proofs.Evaluations.{Lent, all-valid, evaluated-refused, evaluated-full, evaluated-done}
+use borrow.Author.Needs.{needs}
+use Rattle.store_calls.proofs.evaluate.Statement.{statement}
+use Rattle.store_calls.proofs.evaluate.Tie as tie
+
+-- the start, and what is asked there
+abbrev start : tie.After-contents4 → tie.Start
+start q = q .before .before .before .before .before .before .before .before
+
+abbrev operation : tie.Start → Operate
+operation p = asked (p .args .call) (p .args .roles) (now (p .args .is)) (now (p .args .js)) (length (now (p .args .work)))
+
+-- the words of the roles
+abbrev first : tie.After-contents4 → List ℕ
+first q = now (q .before .before .before .contents .result)
+
+abbrev second : tie.After-contents4 → List ℕ
+second q = now (q .before .before .contents2 .result)
+
+abbrev mask : tie.After-contents4 → List ℕ
+mask q = now (q .before .contents3 .result)
+
+abbrev output : tie.After-contents4 → List ℕ
+output q = now (q .contents4 .result)
+
+lent : (q : tie.After-contents4)
+    → Lent (now (start q .args .store)) (start q .args .roles) (first q) (second q) (mask q) (output q)
+lent q = record {
+  first = q .before .before .before .contents .ensures .words;
+  second = q .before .before .contents2 .ensures .words;
+  mask = q .before .contents3 .ensures .words;
+  output = q .contents4 .ensures .words;
+}
+
+-- past the test they are ready to be worked on
+checked : (q : tie.Else1) → let p = q .before .before in
+    Checked (start p .args .call) (first p) (second p) (mask p) (output p) (now (start p .args .is)) (now (start p .args .js))
+    (length (now (start p .args .work)))
+checked q =
+    let p = q .before .before in
+    let x = start p in
+    checked-of (x .args .call) (first p) (second p) (mask p) (output p) (now (x .args .is)) (now (x .args .js)) _
+    (all-valid _ _ _ _ _ _ _ (x .pre .1) (lent p)) (sym (q .before .agreement-refusal .ensures) ∙ q .if1 .left)
+
+contents-requires : tie.Need-contents-requires
+contents-requires c κs = search needs
+
+contents-requires-2 : tie.Need-contents-requires-2
+contents-requires-2 c κs = search needs
+
+contents-requires-3 : tie.Need-contents-requires-3
+contents-requires-3 c κs = search needs
+
+contents-requires-4 : tie.Need-contents-requires-4
+contents-requires-4 c κs = search needs
+
+agreement-refusal-requires : tie.Need-agreement-refusal-requires
+agreement-refusal-requires c κs = all-valid _ _ _ _ _ _ _ (start c .pre .1) (lent c)
+
+returns : tie.Need-returns
+returns c =
+    let p = c .before .before in
+    evaluated-refused _ (operation (start p)) _ _ _ _ (start p .pre .1) (lent p) _ (c .before .agreement-refusal .ensures)
+    (c .if1 .taken)
+
+compute-requires : tie.Need-compute-requires
+compute-requires c κs = let h = checked (c .before) in (h .ready, h .workspace)
+
+enum-told : tie.Need-enum-told
+enum-told c = search needs
+
+enum-known-n : tie.Need-enum-known-n
+enum-known-n c = search needs
+
+same-length : tie.Need-same-length
+same-length c = search needs
+
+returns-2 : tie.Need-returns-2
+returns-2 c =
+    let o = c .before .before .before .before in
+    let q = o .before .before in
+    let p = q .before .before in
+    evaluated-full _ (operation (start p)) _ _ _ _ (start p .pre .1) (lent p)
+    (sym (q .before .agreement-refusal .ensures) ∙ q .if1 .left) (rw (c .enum-told .given .1) at (o .compute .ensures))
+
+same-length-2 : tie.Need-same-length-2
+same-length-2 c = search needs
+
+returns-3 : tie.Need-returns-3
+returns-3 c =
+    let o = c .before .before .before .before .before in
+    let q = o .before .before in
+    let p = q .before .before in
+    let f = rw (c .before .n .given .1) at (o .compute .ensures) in
+    evaluated-done _ (operation (start p)) _ _ _ _ (start p .pre .1) (lent p)
+    (sym (q .before .agreement-refusal .ensures) ∙ q .if1 .left) _ _ (f .0) (f .1) (f .2)
+
+pub evaluate-spec : {M : Type 1} → statement M
+evaluate-spec =
+    tie.close
+    (tie.spec
+    contents-requires
+    contents-requires-2
+    contents-requires-3
+    contents-requires-4
+    agreement-refusal-requires
+    returns
+    compute-requires
+    enum-told
+    enum-known-n
+    same-length
+    returns-2
+    same-length-2
+    returns-3)

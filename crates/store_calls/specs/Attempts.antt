@@ -1,0 +1,91 @@
+-- The parts of an operation on a store: what each function requires and leaves.
+use Prim.Native.Nat.{ℕ, _+_, _-_, _≤_, _<_}
+use mathlib.Core.Path.{_≡_}
+use mathlib.Core.Bool.{cond}
+use mathlib.Core.List.{List, _++_}
+use lib.ListN.{length, take, set}
+use lib.Dec.{leb}
+use Rattle.limits.specs.Limits.{slotCount, maxEntries}
+use Rattle.answers.specs.declared.Answer.{Answer}
+use Rattle.answers.specs.Refusals.{accepted, refused, unlessRefused, insufficientSpace}
+use Rattle.grid.specs.Entries.{entryCount}
+use Rattle.matrix.specs.Layout.{rows, sizeOf}
+use Rattle.encoding.specs.Encode.{encode, gridSize}
+use Rattle.operations.specs.declared.Call.{Call}
+use Rattle.requests.specs.Cases.{lowest, numberCases, agreementCases, outputCases}
+use Rattle.slots.specs.Sections.{writing, endFrom, slotsOf, slotAt, countAt}
+use Rattle.slots.specs.Facts.{Held, Store}
+use Rattle.model.specs.declared.Roles.{Roles}
+use Rattle.model.specs.Model.{Model, gridAt, wordsNeeded}
+use Rattle.model.specs.Calls.{Operate}
+use Rattle.model.specs.Steps.{noSlot, noGrid, roleCases, operated, afterOperation}
+use Rattle.store_calls.specs.declared.Evaluated.{Evaluated}
+use Rattle.store_calls.specs.declared.Evaluated.the-variants as evaluated
+
+-- an operation, its numbers and slots decoded
+abbrev pub asked : Call → Roles → List ℕ → List ℕ → ℕ → Operate
+asked call roles is js work = record { call = call; roles = roles; is = is; js = js; work = work }
+
+-- 12 for slots past the last, 1 and 2, 13
+unfoldable pub rolesRefusal : Model → Call → Roles → ℕ
+rolesRefusal m call r = lowest (roleCases noSlot r ++ (numberCases call ++ roleCases (noGrid m) r))
+
+-- every slot that is named is one
+pub record InStore (r : Roles) : Type 0 where
+  pub first : r .first < slotCount
+  pub second : r .second < slotCount
+  pub mask : r .mask < slotCount
+  pub output : r .output < slotCount
+
+-- and holds a matrix
+pub record Holding (s : List ℕ) (r : Roles) : Type 0 where
+  pub slots : InStore r
+  pub first : Held (slotAt s (r .first))
+  pub second : Held (slotAt s (r .second))
+  pub mask : Held (slotAt s (r .mask))
+  pub output : Held (slotAt s (r .output))
+
+-- 7 to 9 of an operation
+abbrev pub agreement : Model → Operate → ℕ
+agreement m o = lowest (
+    agreementCases (o .call) (gridAt m (o .roles .first)) (gridAt m (o .roles .second)) (gridAt m (o .roles .mask))
+    (gridAt m (o .roles .output)) (o .is) (o .js) (o .work))
+
+-- a refusal by 7 to 9, or by 10
+pub record RefusedBy (code : ℕ) (m : Model) (o : Operate) : Type 0 where
+  pub some : code ≡ 0 → ⊥
+  pub lowest-is : (n : ℕ) → code ≡ lowest (
+      agreementCases (o .call) (gridAt m (o .roles .first)) (gridAt m (o .roles .second)) (gridAt m (o .roles .mask))
+      (gridAt m (o .roles .output)) (o .is) (o .js) (o .work)
+      ++ outputCases (operated m o) (wordsNeeded (afterOperation m o)) n)
+
+-- none of 7 to 10 applies, and the writing of the final C is at the front of the workspace
+pub record DoneBy (n : ℕ) (m : Model) (o : Operate) (w : List ℕ) : Type 0 where
+  pub agrees : agreement m o ≡ 0
+  pub count : n ≡ entryCount (operated m o)
+  pub few : n ≤ maxEntries
+  pub written : take (gridSize (operated m o)) w ≡ encode (operated m o)
+
+abbrev pub Evaluation : Evaluated → Model → Operate → List ℕ → Type 0
+Evaluation (evaluated.Refused code) m o w = RefusedBy code m o
+Evaluation (evaluated.Done n) m o w = DoneBy n m o w
+
+-- slot k holds a matrix, and one of n entries with as many rows is at the front of w
+pub record ToCommit (s : List ℕ) (k end : ℕ) (w : List ℕ) (n : ℕ) : Type 0 where
+  pub store : Store s
+  pub slot : k < slotCount
+  pub held : Held (slotAt s k)
+  pub ends : end ≡ endFrom slotCount s
+  pub few : n ≤ maxEntries
+  pub there : sizeOf (rows (slotAt s k)) n ≤ length w
+
+-- n entries from the front of w put into slot k, if there is room
+abbrev pub commitAnswer : List ℕ → ℕ → ℕ → Answer
+commitAnswer s k n =
+    cond (leb (endFrom slotCount s - countAt s k + sizeOf (rows (slotAt s k)) n) (length s)) (accepted n)
+    (refused insufficientSpace)
+
+pub record Committed (s : List ℕ) (k : ℕ) (w : List ℕ) (n : ℕ) (answer : Answer) (s′ : List ℕ) : Type 0 where
+  pub answer-is : answer ≡ commitAnswer s k n
+  pub words-are : s′ ≡ unlessRefused answer s
+      (writing (length s) (set (slotsOf s) k (take (sizeOf (rows (slotAt s k)) n) w)))

@@ -1,0 +1,316 @@
+// The six operations on the slots of a store. Any words and any numbers may be lent; one slot may have several roles, and
+// all are read before C is written. A refused call changes no word of the store, and every call leaves the workspace all
+// zeros.
+use answers::Answer;
+use answers::EMPTY_SLOT;
+use answers::INSUFFICIENT_SPACE;
+use answers::INVALID_STORE;
+use answers::TOO_MANY_ENTRIES;
+use call_codes::Options;
+use compute::Outcome;
+use limits::SLOTS;
+use matrix::layout::FIXED_WORDS;
+use model::Roles;
+use operations::Call;
+ghost use mathlib.Core.Path.{_≡_};
+ghost use mathlib.Core.Bool.{cond};
+ghost use lib.ListN.{length, replicate};
+ghost use Rattle.answers.specs.Refusals as answers;
+ghost use Rattle.requests.specs.Cases.{lowest};
+ghost use Rattle.slots.specs.Facts.{Store};
+ghost use Rattle.model.specs.Calls.{rolesOf, mxm, vxm, ewiseMult, ewiseAdd, apply, extract, operation, wrote};
+ghost use Rattle.model.specs.Steps.{noSlot, noGrid, roleCases};
+ghost use Rattle.model.specs.Stores.{modelOf, Performed};
+ghost use Rattle.model.specs.Placing.{Operated};
+ghost use Rattle.store_calls.specs.Attempts.{asked, rolesRefusal, InStore, Holding, Evaluation, ToCommit, Committed};
+
+// "Product".
+pub fn mxm(
+    store: &mut [u32],
+    options: Options,
+    monoid: u32,
+    op: u32,
+    a: usize,
+    b: usize,
+    mask: usize,
+    c: usize,
+    work: &mut [u32],
+) -> Answer
+    ensures { λ r. ⌜ Performed (now (store .entry)) (operation (mxm options monoid op a b mask c (length (now (work .entry))))) (wrote r) (now (store .exit)) ⌝ ∗ ⌜ now (work .exit) ≡ replicate (length (now (work .entry))) 0 ⌝ }
+{
+    let call = call_codes::mxm_call(options, monoid, op);
+    let roles = roles_of(call, a, b, mask, c);
+    run(store, call, roles, &[], &[], work)
+}
+
+// "Strip times sheet".
+pub fn vxm(
+    store: &mut [u32],
+    options: Options,
+    monoid: u32,
+    op: u32,
+    u: usize,
+    a: usize,
+    mask: usize,
+    c: usize,
+    work: &mut [u32],
+) -> Answer
+    ensures { λ r. ⌜ Performed (now (store .entry)) (operation (vxm options monoid op u a mask c (length (now (work .entry))))) (wrote r) (now (store .exit)) ⌝ ∗ ⌜ now (work .exit) ≡ replicate (length (now (work .entry))) 0 ⌝ }
+{
+    let call = call_codes::vxm_call(options, monoid, op);
+    let roles = roles_of(call, u, a, mask, c);
+    run(store, call, roles, &[], &[], work)
+}
+
+// "Intersection".
+pub fn ewise_mult(
+    store: &mut [u32],
+    options: Options,
+    op: u32,
+    a: usize,
+    b: usize,
+    mask: usize,
+    c: usize,
+    work: &mut [u32],
+) -> Answer
+    ensures { λ r. ⌜ Performed (now (store .entry)) (operation (ewiseMult options op a b mask c (length (now (work .entry))))) (wrote r) (now (store .exit)) ⌝ ∗ ⌜ now (work .exit) ≡ replicate (length (now (work .entry))) 0 ⌝ }
+{
+    let call = call_codes::ewise_mult_call(options, op);
+    let roles = roles_of(call, a, b, mask, c);
+    run(store, call, roles, &[], &[], work)
+}
+
+// "Union".
+pub fn ewise_add(
+    store: &mut [u32],
+    options: Options,
+    op: u32,
+    a: usize,
+    b: usize,
+    mask: usize,
+    c: usize,
+    work: &mut [u32],
+) -> Answer
+    ensures { λ r. ⌜ Performed (now (store .entry)) (operation (ewiseAdd options op a b mask c (length (now (work .entry))))) (wrote r) (now (store .exit)) ⌝ ∗ ⌜ now (work .exit) ≡ replicate (length (now (work .entry))) 0 ⌝ }
+{
+    let call = call_codes::ewise_add_call(options, op);
+    let roles = roles_of(call, a, b, mask, c);
+    run(store, call, roles, &[], &[], work)
+}
+
+// "Apply": a kind, an operator of that kind and a scalar.
+pub fn apply(
+    store: &mut [u32],
+    options: Options,
+    kind: u32,
+    op: u32,
+    scalar: u32,
+    a: usize,
+    mask: usize,
+    c: usize,
+    work: &mut [u32],
+) -> Answer
+    ensures { λ r. ⌜ Performed (now (store .entry)) (operation (apply options kind op scalar a mask c (length (now (work .entry))))) (wrote r) (now (store .exit)) ⌝ ∗ ⌜ now (work .exit) ≡ replicate (length (now (work .entry))) 0 ⌝ }
+{
+    let call = call_codes::apply_call(options, kind, op, scalar);
+    let roles = roles_of(call, a, a, mask, c);
+    run(store, call, roles, &[], &[], work)
+}
+
+// "Extract": the listed rows and columns of A.
+pub fn extract(
+    store: &mut [u32],
+    options: Options,
+    a: usize,
+    is: &[u32],
+    js: &[u32],
+    mask: usize,
+    c: usize,
+    work: &mut [u32],
+) -> Answer
+    ensures { λ r. ⌜ Performed (now (store .entry)) (operation (extract options a (now (is .entry)) (now (js .entry)) mask c (length (now (work .entry))))) (wrote r) (now (store .exit)) ⌝ ∗ ⌜ now (work .exit) ≡ replicate (length (now (work .entry))) 0 ⌝ }
+{
+    let call = call_codes::extract_call(options);
+    let roles = roles_of(call, a, a, mask, c);
+    run(store, call, roles, is, js, work)
+}
+
+fn roles_of(call: Call, a: usize, b: usize, mask: usize, c: usize) -> Roles
+    ensures { λ r. ⌜ r ≡ rolesOf call a b mask c ⌝ }
+{
+    let operation = call.operation;
+    let has_mask = call.has_mask;
+    Roles {
+        first: a,
+        second: choose(requests::has_second(operation), b, a),
+        mask: choose(has_mask, mask, c),
+        output: c,
+    }
+}
+
+fn choose(there: bool, x: usize, y: usize) -> usize
+    ensures { λ r. ⌜ r ≡ cond there x y ⌝ }
+{
+    if there { x } else { y }
+}
+
+// Any of the six: the attempt, and then the workspace is cleared.
+fn run(
+    store: &mut [u32],
+    call: Call,
+    roles: Roles,
+    is: &[u32],
+    js: &[u32],
+    work: &mut [u32],
+) -> Answer
+    ensures { λ r. ⌜ Operated (now (store .entry)) (asked call roles (now (is .entry)) (now (js .entry)) (length (now (work .entry)))) r (now (store .exit)) ⌝ ∗ ⌜ now (work .exit) ≡ replicate (length (now (work .entry))) 0 ⌝ }
+{
+    let answer = attempt(store, call, roles, is, js, work);
+    words::clear(work);
+    answer
+}
+
+// The refusals in their order, and the final C put into its slot where none applies.
+fn attempt(
+    store: &mut [u32],
+    call: Call,
+    roles: Roles,
+    is: &[u32],
+    js: &[u32],
+    work: &mut [u32],
+) -> Answer
+    ensures { λ r. ⌜ Operated (now (store .entry)) (asked call roles (now (is .entry)) (now (js .entry)) (length (now (work .entry)))) r (now (store .exit)) ⌝ }
+{
+    let end = slots::check(&store[..]);
+    if end == 0 {
+        return refused(INVALID_STORE);
+    }
+    let code = roles_refusal(&store[..], call, roles);
+    if code != 0 {
+        return refused(code);
+    }
+    let outcome = evaluate(&store[..], call, roles, is, js, work);
+    match outcome {
+        Evaluated::Refused(x) => refused(x),
+        Evaluated::Done(n) => commit(store, roles.output, end, &work[..], n),
+    }
+}
+
+// The number of entries of the final C, which is at the front of the workspace; or a refusal.
+pub enum Evaluated {
+    Done(usize),
+    Refused(u32),
+}
+
+// 12 for slots past the last, 1 and 2, and 13 for empty slots.
+fn roles_refusal(store: &[u32], call: Call, roles: Roles) -> u32
+    requires { ⌜ Store (now store) ⌝ }
+    ensures { λ r. ⌜ r ≡ rolesRefusal (modelOf (now (store .entry))) call roles ⌝ }
+{
+    let past = slots_refusal(roles);
+    if past != 0 {
+        return past;
+    }
+    let number = requests::numbers_refusal(call);
+    if number != 0 {
+        return number;
+    }
+    vacancy_refusal(store, roles)
+}
+
+// 12: a slot past the last.
+fn slots_refusal(roles: Roles) -> u32
+    ensures { λ r. ⌜ r ≡ lowest (roleCases noSlot roles) ⌝ }
+{
+    let first = roles.first;
+    if SLOTS <= first {
+        return INVALID_STORE;
+    }
+    let second = roles.second;
+    if SLOTS <= second {
+        return INVALID_STORE;
+    }
+    let mask = roles.mask;
+    if SLOTS <= mask {
+        return INVALID_STORE;
+    }
+    let output = roles.output;
+    if SLOTS <= output {
+        return INVALID_STORE;
+    }
+    0
+}
+
+// 13: an empty slot.
+fn vacancy_refusal(store: &[u32], roles: Roles) -> u32
+    requires { ⌜ Store (now store) ⌝ ∗ ⌜ InStore roles ⌝ }
+    ensures { λ r. ⌜ r ≡ lowest (roleCases (noGrid (modelOf (now (store .entry)))) roles) ⌝ }
+{
+    if slots::contents(store, roles.first).len() == 0 {
+        return EMPTY_SLOT;
+    }
+    if slots::contents(store, roles.second).len() == 0 {
+        return EMPTY_SLOT;
+    }
+    if slots::contents(store, roles.mask).len() == 0 {
+        return EMPTY_SLOT;
+    }
+    if slots::contents(store, roles.output).len() == 0 {
+        return EMPTY_SLOT;
+    }
+    0
+}
+
+// The final C from the slots, which are only read.
+fn evaluate(
+    store: &[u32],
+    call: Call,
+    roles: Roles,
+    is: &[u32],
+    js: &[u32],
+    work: &mut [u32],
+) -> Evaluated
+    requires { ⌜ Store (now store) ⌝ ∗ ⌜ Holding (now store) roles ⌝ }
+    ensures { λ r. ⌜ Evaluation r (modelOf (now (store .entry))) (asked call roles (now (is .entry)) (now (js .entry)) (length (now (work .entry)))) (now (work .exit)) ⌝ }
+{
+    let a = slots::contents(store, roles.first);
+    let b = slots::contents(store, roles.second);
+    let mask = slots::contents(store, roles.mask);
+    let c = slots::contents(store, roles.output);
+    let code = requests::agreement_refusal(call, a, b, mask, c, is, js, work.len());
+    if code != 0 {
+        return Evaluated::Refused(code);
+    }
+    match compute::compute(call, a, b, mask, c, is, js, work) {
+        Outcome::Full => Evaluated::Refused(TOO_MANY_ENTRIES),
+        Outcome::Done(n) => Evaluated::Done(n),
+    }
+}
+
+// The matrix of n entries at the front of the workspace takes the place of a slot's, if there is room.
+fn commit(store: &mut [u32], slot: usize, end: usize, work: &[u32], n: usize) -> Answer
+    requires { ⌜ ToCommit (now store) slot end (now work) n ⌝ }
+    ensures { λ r. ⌜ Committed (now (store .entry)) slot (now (work .entry)) n r (now (store .exit)) ⌝ }
+{
+    let rows = matrix::row_count(slots::contents(&store[..], slot)) as usize;
+    let size = rows + n + n + FIXED_WORDS;
+    if !slots::fits(&store[..], slot, end, size) {
+        return refused(INSUFFICIENT_SPACE);
+    }
+    let from = slots::find(&store[..], slot) + 1;
+    slots::resize(store, slot, end, size);
+    words::copy_into(store, from, &work[..size]);
+    Answer {
+        code: 0,
+        entries: n as u32,
+    }
+}
+
+fn refused(code: u32) -> Answer
+    ensures { λ r. ⌜ r ≡ answers.refused code ⌝ }
+{
+    Answer {
+        code: code,
+        entries: 0,
+    }
+}

@@ -1,0 +1,110 @@
+-- A matrix with words behind it: the same grid. It is what a slot holds when it was resized for one entry more.
+use Prim.Native.Nat.{ℕ, _+_, _<_}
+use native.Mathlib.Omega.{arith}
+use mathlib.Core.Path.{_≡_, sym, ap, _∙_, subst}
+use mathlib.Core.Bool.{true, cond}
+use mathlib.Core.List.{List, _++_}
+use lib.ListN.{length, length-append}
+use lib.Dec.{eqb}
+use Rattle.limits.specs.Limits.{maxEntries}
+use Rattle.grid.specs.declared.Cell.{Cell}
+use Rattle.grid.specs.declared.Cell.the-variants.{Present}
+use Rattle.grid.specs.Grid.{Grid, Same}
+use Rattle.grid.specs.Entries.{column, gather, flatten}
+use Rattle.grid.specs.Update.{withCell}
+use Rattle.grid.proofs.Gather.{gather-same, flatten-same}
+use Rattle.matrix.specs.Layout.{rows, cols, entries, size, gridOf}
+use Rattle.matrix.specs.Valid.{valid}
+use Rattle.matrix.proofs.Facts.{matrix-facts, matrix-made}
+use Rattle.encoding.specs.Encode.{encode, gridSize, writtenOver}
+use Rattle.encoding.proofs.Canonical.{encode-valid, encode-same, encode-ext, encode-length, valid-within, valid-size}
+use Rattle.slots.specs.Facts.{Held}
+use Rattle.model.proofs.Held.{held-encoded}
+use Rattle.edits.specs.declared.EntryAt.the-variants as entry
+use Rattle.edits.specs.Entry.{entryAt, entryOf, entryPosition}
+use Rattle.edits.specs.Changes.{InMatrix, HasSpace}
+use Rattle.store_cells.proofs.Counts.{added-count, whole}
+
+-- one cell changed alike in two grids
+same-with : (g h : Grid) (i j : ℕ) (x : Cell) → Same g h → Same (withCell g i j x) (withCell h i j x)
+same-with g h i j x s = record {
+  rows = s .rows;
+  cols = s .cols;
+  cell = λ r c l m. ap (λ (y : Cell). cond (eqb r i) (cond (eqb c j) x y) y) (s .cell r c l m);
+}
+
+-- an entry is at one place in both
+same-entry : (g h : Grid) (i j : ℕ) → Same g h → i < h .rows → j < h .cols → entryAt g i j ≡ entryAt h i j
+unfolding entryAt
+same-entry g h i j s l m =
+    let a : length (flatten column (g .cols) (g .cell) i) ≡ length (flatten column (h .cols) (h .cell) i) =
+    ap (λ (n : ℕ). length (flatten column n (g .cell) i)) (s .cols)
+    ∙ ap length (flatten-same column (h .cols) (g .cell) (h .cell) i (λ r c p q. s .cell r c (omega arith) q)) in
+    let b : length (gather column j (g .cell i)) ≡ length (gather column j (h .cell i)) =
+    ap length (gather-same column j (g .cell i) (h .cell i) (λ c q. s .cell i c l (omega arith))) in
+    let e : entryPosition g i j ≡ entryPosition h i j = omega arith in
+    ap (λ (c : Cell). entryOf c (entryPosition g i j)) (s .cell i j l m) ∙ ap (entryOf (h .cell i j)) e
+
+module _ {x : List ℕ} {i j : ℕ} (h : Held x) (l : i < rows x) (m : j < cols x) where
+  -- x as it stands
+  pub held-in : InMatrix x i j
+  held-in = record { matrix = h .matrix; row = l; col = m }
+
+  held-valid : valid x ≡ true
+  held-valid = matrix-made x (h .matrix)
+
+  module _ (t : List ℕ) where
+    -- and with the words t behind it
+    abbrev y : List ℕ
+    y = x ++ t
+
+    grown : encode (gridOf x) ++ t ≡ y
+    grown = ap (λ (z : List ℕ). z ++ t) (held-encoded x h)
+
+    grown-valid : valid y ≡ true
+    grown-valid = sym (ap valid grown) ∙ encode-valid (gridOf x) t (valid-within x held-valid)
+
+    grown-same : Same (gridOf y) (gridOf x)
+    grown-same = subst (λ (z : List ℕ). Same (gridOf z) (gridOf x)) grown (encode-same (gridOf x) t)
+
+    pub grown-in : InMatrix y i j
+    grown-in =
+        let s = grown-same in
+        let r = s .rows in
+        let c = s .cols in
+        record { matrix = matrix-facts y grown-valid; row = omega arith; col = omega arith }
+
+    -- the entry's place
+    pub grown-entry : entryAt (gridOf y) i j ≡ entryAt (gridOf x) i j
+    grown-entry = same-entry (gridOf y) (gridOf x) i j grown-same l m
+
+    -- the size of the matrix
+    grown-size : size y ≡ length x
+    grown-size =
+        sym (valid-size y grown-valid) ∙ ap length (encode-ext (gridOf y) (gridOf x) grown-same) ∙ valid-size x held-valid
+        ∙ h .whole
+
+    module _ (two : length t ≡ 2) where
+      -- there is space for an entry more
+      pub grown-space : entries x < maxEntries → HasSpace y
+      grown-space f =
+          let s = grown-size in
+          let w = h .whole in
+          let r = grown-same .rows in
+          let n = length-append x t in
+          record { few = omega arith; space = omega arith }
+
+      -- and when it is put in, the writing fills the words
+      pub grown-written : (p v : ℕ) → entryAt (gridOf x) i j ≡ entry.Absent p
+          → writtenOver (withCell (gridOf y) i j (Present v)) y ≡ encode (withCell (gridOf x) i j (Present v))
+      grown-written p v e =
+          let g : Grid = withCell (gridOf y) i j (Present v) in
+          let g′ : Grid = withCell (gridOf x) i j (Present v) in
+          let q : encode g ≡ encode g′ = encode-ext g g′ (same-with (gridOf y) (gridOf x) i j (Present v) grown-same) in
+          let c = added-count held-in p e v in
+          let a = encode-length g in
+          let b = encode-length g′ in
+          let d = ap length q in
+          let n = length-append x t in
+          let w = h .whole in
+          whole g y (omega arith) ∙ q

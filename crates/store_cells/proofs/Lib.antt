@@ -1,0 +1,10 @@
+pub mod Checks
+pub mod Refusals
+pub mod Counts
+pub mod Rewritten
+pub mod Grown
+pub mod Outcomes
+pub mod Shapes
+pub mod Reading
+pub mod Edited
+pub mod Taken

@@ -1,0 +1,35 @@
+-- What `read_cell` answers, as the code reaches it.
+use Prim.Native.Nat.{ℕ}
+use mathlib.Core.Path.{_≡_, sym, ap, _∙_}
+use mathlib.Core.Bool.{true, false}
+use mathlib.Core.List.{List}
+use native.Mathlib.Omega.{arith}
+use borrow.Author.Tests.{eq-eqb, ne-eqb}
+use Rattle.answers.specs.Refusals.{invalidStore}
+use Rattle.matrix.specs.Layout.{cellOf}
+use Rattle.cells.specs.Read.{foundAnswer, refusedRead}
+use Rattle.slots.specs.Sections.{slotAt}
+use Rattle.slots.specs.Valid.{storeValid}
+use Rattle.model.specs.Calls.{readCell, found}
+use Rattle.model.specs.Steps.{cellRefusal, reply}
+use Rattle.model.specs.Stores.{modelOf, replyOn}
+use Rattle.model.proofs.Held.{grid-model}
+use Rattle.store_cells.specs.Slots.{CellOf}
+
+module _ (s : List ℕ) (k i j : ℕ) where
+  pub read-no-store : storeValid s ≡ false → found (refusedRead invalidStore) ≡ replyOn s (readCell k i j)
+  unfolding replyOn
+  read-no-store v = rw v
+
+  module _ (v : storeValid s ≡ true) where
+    pub read-refused : (code : ℕ) → code ≡ cellRefusal (modelOf s) k i j → (code ≡ 0 → ⊥)
+        → found (refusedRead code) ≡ replyOn s (readCell k i j)
+    unfolding replyOn reply
+    read-refused code e n = rw (v, ← e, ne-eqb _ _ n)
+
+    pub read-found : cellRefusal (modelOf s) k i j ≡ 0 → CellOf s k i j
+        → found (foundAnswer (cellOf (slotAt s k) i j)) ≡ replyOn s (readCell k i j)
+    unfolding replyOn reply
+    read-found z h =
+        let w = h .held .whole in
+        rw (v, eq-eqb _ _ z, grid-model s k (λ e. omega arith))

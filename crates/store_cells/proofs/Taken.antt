@@ -1,0 +1,94 @@
+-- A cell of a slot cleared: its words are changed in place, and then the slot gives two of them up.
+use Prim.Native.Nat.{ℕ, _+_, _-_, _≤_}
+use native.Mathlib.Omega.{arith}
+use mathlib.Core.Path.{_≡_, sym, ap, _∙_}
+use mathlib.Core.List.{List, _++_}
+use lib.ListN.{length, take, drop, length-append, length-drop}
+use lib.Seq.{take-at}
+use borrow.Rule.Slice.PartMut.{putMid}
+use Rattle.limits.specs.Limits.{slotCount}
+use Rattle.answers.specs.declared.Answer.{Answer}
+use Rattle.answers.specs.Refusals.{accepted}
+use Rattle.words.specs.Words.{part}
+use Rattle.grid.specs.declared.Cell.the-variants.{Absent}
+use Rattle.grid.specs.Grid.{Grid}
+use Rattle.grid.specs.Update.{withCell}
+use Rattle.matrix.specs.Layout.{entries, gridOf}
+use Rattle.encoding.specs.Encode.{encode, gridSize, writtenOver}
+use Rattle.encoding.proofs.Canonical.{encode-length}
+use Rattle.slots.specs.Sections.{endFrom, slotAt, countAt}
+use Rattle.slots.specs.Facts.{Fits}
+use Rattle.slots.specs.Room.{resized}
+use Rattle.edits.specs.declared.EntryAt.the-variants as entry
+use Rattle.edits.specs.Entry.{entryAt}
+use Rattle.model.proofs.Held.{held-encoded}
+use Rattle.store_cells.specs.Slots.{CellOf, slotGrid, slotWith, gridPut, Put}
+use Rattle.store_cells.proofs.Counts.{taken-count, cleared-count, cleared-same}
+use Rattle.store_cells.proofs.Rewritten.{slotPut, put-same, smaller-fits, smaller-words}
+use Rattle.store_cells.proofs.Edited.{slot-in, slot, slot-lent, slot-back}
+
+-- the entry is removed from the slot's words, which start at a: x are the words that came back
+pub record Removed (s : List ℕ) (k i j p end n a : ℕ) (x : List ℕ) : Type 0 where
+  pub cell : CellOf s k i j
+  pub present : entryAt (slotGrid s k) i j ≡ entry.Present p
+  pub ends : end ≡ endFrom slotCount s
+  pub long : n ≡ length (slotAt s k)
+  pub from : a ≡ endFrom k s + 1
+  pub words : x ≡ writtenOver (withCell (gridOf (part a (a + n) s)) i j Absent) (part a (a + n) s)
+
+module _ {s : List ℕ} {k i j p end n a : ℕ} {x : List ℕ} (r : Removed s k i j p end n a x) where
+  abbrev g : Grid
+  g = slotWith s k i j Absent
+
+  taken-size : gridSize g + 2 ≡ length (slotAt s k)
+  taken-size = let l = r .cell .held .whole in omega (arith, taken-count (slot-in (r .cell)) p (r .present))
+
+  taken-is : x ≡ writtenOver g (slotAt s k)
+  taken-is =
+      r .words
+      ∙ ap (λ (z : List ℕ). writtenOver (withCell (gridOf z) i j Absent) z) (slot-lent (r .cell) a n (r .from) (r .long))
+
+  taken-long : length x ≡ length (slotAt s k)
+  taken-long =
+      let t = taken-size in
+      ap length taken-is ∙ length-append (encode g) (drop (gridSize g) (slotAt s k))
+      ∙ omega (arith, encode-length g, length-drop (gridSize g) (slotAt s k))
+
+  -- the store with these words, and where its sections end
+  back : putMid a (a + n - a) s x ≡ slotPut s k x
+  back = slot-back (r .cell) a n x (r .from) (r .long) taken-long
+
+  room : endFrom slotCount s - countAt s k + length x ≤ length s
+  room = let o = slot (r .cell) in omega (arith, taken-long)
+
+  end-is : end ≡ endFrom slotCount s - countAt s k + length x
+  end-is = let o = slot (r .cell) in let e = r .ends in omega (arith, taken-long)
+
+  smaller : n - 2 ≤ length x
+  smaller = let l = r .long in omega (arith, taken-long)
+
+  -- two words can be given up
+  pub taken-fits : Fits (putMid a (a + n - a) s x) k end (n - 2)
+  taken-fits =
+      let h = r .cell in
+      smaller-fits (h .store .sections) (h .slot) (h .store .most) x _ back room end (n - 2) end-is smaller
+
+  -- and the rest is the writing of the grid
+  pub taken-put : resized (putMid a (a + n - a) s x) k (n - 2) ≡ gridPut s k g
+  taken-put =
+      let h = r .cell in
+      let z = taken-size in
+      let l = r .long in
+      smaller-words (h .store .sections) (h .slot) (h .store .most) x _ back room end (n - 2) end-is smaller
+      ∙ ap (λ (t : List ℕ). slotPut s k (take (n - 2) t)) taken-is
+      ∙ ap (slotPut s k) (take-at (encode g) _ (n - 2) (encode-length g ∙ omega arith))
+
+-- ---- no entry to remove: nothing changes
+pub cleared-put : {s : List ℕ} {k i j : ℕ} {answer : Answer} → CellOf s k i j → (p m : ℕ)
+    → entryAt (slotGrid s k) i j ≡ entry.Absent p → answer ≡ accepted m → m ≡ entries (slotAt s k)
+    → Put s k (slotWith s k i j Absent) answer s
+cleared-put {s} {k} {i} {j} h p m e a c = record {
+  answer-is = a ∙ ap accepted (c ∙ sym (cleared-count (slot-in h) p e));
+  words-are = put-same (h .store .sections) (h .slot)
+      ∙ ap (slotPut s k) (sym (cleared-same (slotGrid s k) i j p e ∙ held-encoded (slotAt s k) (h .held)));
+}

@@ -1,0 +1,88 @@
+-- `read_cell` answers what the model does.
+use Prim.Native.Nat.{ℕ}
+use mathlib.Core.Path.{_≡_, sym, ap, _∙_}
+use mathlib.Core.List.{List}
+use denote.Ref.{now}
+use Rattle.rows.proofs.Rising.{rising-rises}
+use Rattle.matrix.specs.Layout.{cellOf}
+use Rattle.matrix.proofs.Facts.{row-span}
+use Rattle.cells.specs.Read.{foundAnswer}
+use Rattle.model.specs.Calls.{found}
+use Rattle.store_cells.specs.Slots.{CellOf}
+use Rattle.store_cells.proofs.Checks.{unchecked, Checked, checked}
+use Rattle.store_cells.proofs.Refusals.{cell-of}
+use Rattle.store_cells.proofs.Reading.{read-no-store, read-refused, read-found}
+use borrow.Author.Needs.{needs}
+use Rattle.store_cells.proofs.read_cell.Statement.{statement}
+use Rattle.store_cells.proofs.read_cell.Tie as tie
+
+abbrev start : tie.After-check → tie.Start
+start c = c .before .before
+
+-- past the first test the words are a store, and past the second it has the cell
+store : (c : tie.Else1) → Checked (now (start (c .before) .args .store)) (c .before .check .result)
+store c = checked _ _ (c .before .check .ensures) (c .if1 .left)
+
+cell : (c : tie.Else2) →
+    let p = start (c .before .before .before) .args in CellOf (now (p .store)) (p .slot) (p .i) (p .j)
+cell c = cell-of _ _ _ _ (store (c .before .before) .store) (sym (c .before .cell-refusal .ensures) ∙ c .if2 .left)
+
+check-requires : tie.Need-check-requires
+check-requires c κs = search needs
+
+refused-requires : tie.Need-refused-requires
+refused-requires c κs = search needs
+
+returns : tie.Need-returns
+returns c =
+    ap found (c .refused .ensures)
+    ∙ read-no-store _ _ _ _ (unchecked _ _ (c .before .before .check .ensures) (c .before .if1 .taken))
+
+cell-refusal-requires : tie.Need-cell-refusal-requires
+cell-refusal-requires c κs = store c .store
+
+refused-requires-2 : tie.Need-refused-requires-2
+refused-requires-2 c κs = search needs
+
+returns-2 : tie.Need-returns-2
+returns-2 c =
+    let q = c .before .before in
+    ap found (c .refused2 .ensures)
+    ∙ read-refused _ _ _ _ (store (q .before) .valid) _ (q .cell-refusal .ensures) (c .before .if2 .taken)
+
+contents-requires : tie.Need-contents-requires
+contents-requires c κs = let h = cell c in (h .store .sections, h .slot)
+
+cell-at-requires : tie.Need-cell-at-requires
+cell-at-requires c κs =
+    let h = cell (c .before) in
+    let m = h .held .matrix in
+    rw (c .contents .ensures .words)
+    (m .header, (row-span _ (m .starts) _ (h .row), rising-rises _ _ _ (m .rising _ (h .row))))
+
+found-requires : tie.Need-found-requires
+found-requires c κs = search needs
+
+returns-3 : tie.Need-returns-3
+returns-3 c =
+    let q = c .before .before in
+    let e = q .before in
+    let p = start (e .before .before .before) .args in
+    ap found (c .found .ensures ∙ ap foundAnswer (c .before .cell-at .ensures
+    ∙ ap (λ (x : List ℕ). cellOf x (p .i) (p .j)) (q .contents .ensures .words)))
+    ∙ read-found _ _ _ _ (store (e .before .before) .valid) (sym (e .before .cell-refusal .ensures) ∙ e .if2 .left) (cell e)
+
+pub read-cell-spec : {M : Type 1} → statement M
+read-cell-spec =
+    tie.close
+    (tie.spec
+    check-requires
+    refused-requires
+    returns
+    cell-refusal-requires
+    refused-requires-2
+    returns-2
+    contents-requires
+    cell-at-requires
+    found-requires
+    returns-3)

@@ -1,0 +1,40 @@
+-- What the functions on one slot require, and what they leave.
+use Prim.Native.Nat.{ℕ, _<_}
+use mathlib.Core.Path.{_≡_}
+use mathlib.Core.List.{List}
+use lib.ListN.{length, set}
+use Rattle.limits.specs.Limits.{slotCount}
+use Rattle.answers.specs.declared.Answer.{Answer}
+use Rattle.answers.specs.Refusals.{accepted}
+use Rattle.grid.specs.declared.Cell.{Cell}
+use Rattle.grid.specs.Grid.{Grid}
+use Rattle.grid.specs.Entries.{entryCount}
+use Rattle.grid.specs.Update.{withCell}
+use Rattle.matrix.specs.Layout.{rows, cols, gridOf}
+use Rattle.encoding.specs.Encode.{encode}
+use Rattle.slots.specs.Sections.{writing, slotsOf, slotAt}
+use Rattle.slots.specs.Facts.{Held, Store}
+
+-- a store, a slot that holds a matrix, and a row and a column of it
+pub record CellOf (s : List ℕ) (k i j : ℕ) : Type 0 where
+  pub store : Store s
+  pub slot : k < slotCount
+  pub held : Held (slotAt s k)
+  pub row : i < rows (slotAt s k)
+  pub col : j < cols (slotAt s k)
+
+-- the grid of a slot, and the same with one cell changed
+abbrev pub slotGrid : List ℕ → ℕ → Grid
+slotGrid s k = gridOf (slotAt s k)
+
+abbrev pub slotWith : List ℕ → ℕ → ℕ → ℕ → Cell → Grid
+slotWith s k i j x = withCell (slotGrid s k) i j x
+
+-- the words of a store with the grid g in slot k
+abbrev pub gridPut : List ℕ → ℕ → Grid → List ℕ
+gridPut s k g = writing (length s) (set (slotsOf s) k (encode g))
+
+-- a write that is never refused: the grid g in slot k, and its entries
+pub record Put (s : List ℕ) (k : ℕ) (g : Grid) (answer : Answer) (s′ : List ℕ) : Type 0 where
+  pub answer-is : answer ≡ accepted (entryCount g)
+  pub words-are : s′ ≡ gridPut s k g
