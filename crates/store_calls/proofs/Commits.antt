@@ -17,7 +17,7 @@ use Rattle.words.proofs.Parts.{length-part}
 use Rattle.matrix.specs.Layout.{rows, sizeOf, maxMatrixWords}
 use Rattle.slots.specs.Sections.{writing, endFrom, slotsOf, slotAt, countAt}
 use Rattle.slots.specs.Facts.{Held, Store, Fits}
-use Rattle.slots.proofs.Sections.{slot-count, Section, section-at}
+use Rattle.slots.proofs.Sections.{slot-count, section-at}
 use Rattle.slots.proofs.Slot.{section-start}
 use Rattle.slots.proofs.Placed.{placed}
 use Rattle.store_calls.specs.Attempts.{Committed}
@@ -30,7 +30,8 @@ over-part a x u =
     ∙ ap (λ (z : List ℕ). take a u ++ (x ++ z)) (sym (post-is a (a + length x) u (omega arith)))
 
 -- the size of a matrix with the rows of another is within what `fits` takes
-pub size-most : (x : List ℕ) (n size : ℕ) → Held x → n ≤ maxEntries → size ≡ sizeOf (rows x) n → size ≤ maxMatrixWords + 2
+pub size-most : (x : List ℕ) (n size : ℕ) → Held x → n ≤ maxEntries → size ≡ sizeOf (rows x) n
+    → size ≤ maxMatrixWords + 2
 size-most x n size h l e = let r = h .matrix .header in omega arith
 
 module _ (s : List ℕ) (k end n size : ℕ) (h : Store s) (l : k < slotCount) (q : end ≡ endFrom slotCount s)

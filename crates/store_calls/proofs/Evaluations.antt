@@ -1,5 +1,5 @@
 -- `evaluate`: what is found on the words of four slots, as the model says it of their grids.
-use Prim.Native.Nat.{ℕ, _+_, _≤_, _<_}
+use Prim.Native.Nat.{ℕ, _≤_, _<_}
 use native.Mathlib.Omega.{arith}
 use mathlib.Core.Path.{_≡_, refl, sym, ap, subst, _∙_}
 use mathlib.Core.List.{List}
@@ -25,8 +25,8 @@ use Rattle.model.specs.Calls.{Operate}
 use Rattle.model.specs.Steps.{operated}
 use Rattle.model.specs.Stores.{modelOf}
 use Rattle.model.proofs.Held.{grid-model}
-use Rattle.store_calls.specs.Attempts.{Holding, agreement, RefusedBy, DoneBy}
-use Rattle.store_calls.proofs.Refusals.{agreement-first, agreement-none}
+use Rattle.store_calls.specs.Attempts.{Holding, agreementsOf, RefusedBy, DoneBy}
+use Rattle.store_calls.proofs.Refusals.{agreement-first, agreement-passed}
 
 -- a matrix has words
 pub not-empty : (x : List ℕ) → Held x → length x ≡ 0 → ⊥
@@ -53,8 +53,13 @@ all-valid call s r a b m c h e = record {
 grid-by : (s x : List ℕ) (k : ℕ) → Held (slotAt s k) → x ≡ slotAt s k → gridAt (modelOf s) k ≡ gridOf x
 grid-by s x k h e = grid-model s k (not-empty _ h) ∙ ap gridOf (sym e)
 
+-- four grids replaced at once
+four : {A : Type 0} (f : Grid → Grid → Grid → Grid → A) {a b c d w x y z : Grid} → a ≡ w → b ≡ x → c ≡ y → d ≡ z
+    → f a b c d ≡ f w x y z
+four f p q r t = rw (p, q, r, t)
+
 module _ (s : List ℕ) (o : Operate) (a b m c : List ℕ) (h : Holding s (o .roles)) (e : Lent s (o .roles) a b m c) where
-  -- what is said of four grids is the same of both
+  -- what is said of the model's four grids is said of these
   by-words : {A : Type 0} (f : Grid → Grid → Grid → Grid → A)
       → f (gridAt (modelOf s) (o .roles .first)) (gridAt (modelOf s) (o .roles .second))
       (gridAt (modelOf s) (o .roles .mask)) (gridAt (modelOf s) (o .roles .output))
@@ -64,11 +69,7 @@ module _ (s : List ℕ) (o : Operate) (a b m c : List ℕ) (h : Holding s (o .ro
       let q = grid-by s b (o .roles .second) (h .second) (e .second) in
       let r = grid-by s m (o .roles .mask) (h .mask) (e .mask) in
       let t = grid-by s c (o .roles .output) (h .output) (e .output) in
-      ap (λ (x : Grid). f x (gridAt (modelOf s) (o .roles .second)) (gridAt (modelOf s) (o .roles .mask))
-      (gridAt (modelOf s) (o .roles .output))) p
-      ∙ ap (λ (x : Grid). f (gridOf a) x (gridAt (modelOf s) (o .roles .mask)) (gridAt (modelOf s) (o .roles .output))) q
-      ∙ ap (λ (x : Grid). f (gridOf a) (gridOf b) x (gridAt (modelOf s) (o .roles .output))) r
-      ∙ ap (λ (x : Grid). f (gridOf a) (gridOf b) (gridOf m) x) t
+      four f p q r t
 
   -- the final C, and the lowest of 7 to 9, by the words
   abbrev final : Grid
@@ -80,7 +81,7 @@ module _ (s : List ℕ) (o : Operate) (a b m c : List ℕ) (h : Holding s (o .ro
   final-is : operated (modelOf s) o ≡ final
   final-is = by-words (λ a b m c. callFinal (o .call) a b m c (o .is) (o .js))
 
-  agreement-is : agreement (modelOf s) o ≡ lowestOf
+  agreement-is : lowest (agreementsOf (modelOf s) o) ≡ lowestOf
   unfolding agreementRefusal
   agreement-is = by-words (λ a b m c. lowest (agreementCases (o .call) a b m c (o .is) (o .js) (o .work)))
 
@@ -98,7 +99,7 @@ module _ (s : List ℕ) (o : Operate) (a b m c : List ℕ) (h : Holding s (o .ro
         let f : maxEntries < entryCount (operated (modelOf s) o) = rw final-is l in
         record {
           some = eqb-false tooManyEntries 0 refl;
-          lowest-is = λ i. sym (agreement-none (modelOf s) o i (agreement-is ∙ z) ∙ rw (lt-ltb _ _ f));
+          lowest-is = λ i. sym (agreement-passed (modelOf s) o i (agreement-is ∙ z) ∙ rw (lt-ltb _ _ f));
         }
 
     -- the final C is at the front of the workspace

@@ -9,12 +9,12 @@ use lib.ListN.{length, take, set, length-take}
 use borrow.Author.Tests.{eqb-false, ne-eqb, le-leb, lt-leb, lt-ltb, le-ltb}
 use Rattle.limits.specs.Limits.{slotCount, maxEntries}
 use Rattle.answers.specs.declared.Answer.{Answer}
-use Rattle.answers.specs.Refusals.{accepted, refused, unlessRefused, insufficientSpace, invalidStore}
+use Rattle.answers.specs.Refusals.{accepted, refused, insufficientSpace, invalidStore}
 use Rattle.words.proofs.Tests.{refuted}
 use Rattle.grid.specs.Grid.{Grid}
 use Rattle.grid.specs.Entries.{entryCount}
 use Rattle.matrix.specs.Layout.{rows, sizeOf}
-use Rattle.encoding.specs.Encode.{encode, gridSize}
+use Rattle.encoding.specs.Encode.{gridSize}
 use Rattle.encoding.proofs.Canonical.{encode-length}
 use Rattle.operations.specs.declared.Call.{Call}
 use Rattle.operations.specs.Calls.{callFinal}
@@ -32,12 +32,13 @@ use Rattle.model.specs.Stores.{modelOf, Performed}
 use Rattle.model.specs.Placing.{Operated}
 use Rattle.model.proofs.Held.{model-written, slot-written, grid-model, needed-model}
 use Rattle.model.proofs.Performed.{performed-operation}
-use Rattle.store_calls.specs.Attempts.{asked, rolesRefusal, Holding, RefusedBy, DoneBy, Committed}
-use Rattle.store_calls.proofs.Refusals.{outputPart, roles-none, agreement-none}
+use Rattle.store_calls.specs.Attempts.{asked, rolesRefusal, Holding, outputsOf, RefusedBy, DoneBy, Committed}
+use Rattle.store_calls.proofs.Refusals.{roles-passed, agreement-passed}
 use Rattle.store_calls.proofs.Evaluations.{not-empty}
 
 -- ---- what `check` has found
 
+-- the words are no store
 pub no-store : (s : List ℕ) (end : ℕ) → end ≡ cond (storeValid s) (endFrom slotCount s) 0 → end ≡ 0
     → storeValid s ≡ false
 no-store s end e z =
@@ -46,6 +47,7 @@ no-store s end e z =
     let q : end ≡ endFrom slotCount s = e ∙ rw t in
     omega arith)
 
+-- they are one
 pub record Found (s : List ℕ) (end : ℕ) : Type 0 where
   pub valid : storeValid s ≡ true
   pub store : Store s
@@ -97,39 +99,45 @@ module _ (s : List ℕ) (o : Operate) where
       -- refused by what is found when the final C is worked out
       pub operated-evaluated : (code : ℕ) → RefusedBy code m o → Operated s o (refused code) s
       operated-evaluated code r =
-          operated-refused code (r .lowest-is (length s) ∙ sym (roles-none m o (length s) z)) (r .some)
+          operated-refused code (r .lowest-is (length s) ∙ sym (roles-passed m o (length s) z)) (r .some)
 
       module _ (x : Holding s (o .roles)) (n : ℕ) (w : List ℕ) (d : DoneBy n m o w) where
+        -- the words of the final C, and those that the sections then take
+        abbrev size : ℕ
+        size = sizeOf (rows (slotAt s k)) n
+
+        abbrev taken : ℕ
+        taken = endFrom slotCount s - countAt s k + size
+
         -- the rows of the final C are those of old C, so its size is known from its entries
-        size-of : sizeOf (rows (slotAt s k)) n ≡ gridSize g
+        size-of : size ≡ gridSize g
         unfolding callFinal
         size-of =
             ap (λ (c : Grid). sizeOf (c .rows) n) (sym (grid-model s k (not-empty _ (x .output))))
             ∙ ap (sizeOf (gridAt m k .rows)) (d .count)
 
         -- and words that hold its writing are as long
-        pub size-fits : sizeOf (rows (slotAt s k)) n ≤ length w
+        pub size-fits : size ≤ length w
         size-fits =
             let l = encode-length g in
             let t = sym (length-take (gridSize g) w) ∙ ap length (d .written) in
             let i = size-of in omega arith
 
-        -- the room that is needed
-        needed : wordsNeeded (afterOperation m o) ≡ endFrom slotCount s - countAt s k + sizeOf (rows (slotAt s k)) n
+        -- the room that the model asks for
+        needed : wordsNeeded (afterOperation m o) ≡ taken
         needed =
             needed-model s k (holding g) (store-facts s h) (x .slots .output)
             ∙ ap (λ (i : ℕ). endFrom slotCount s - countAt s k + i) (encode-length g ∙ sym size-of)
 
+        -- 7 to 10 do not apply, so 11 decides
         few : entryCount g ≤ maxEntries
         few = let c = d .count in let l = d .few in omega arith
 
-        -- 10 does not apply, so 11 decides
-        output-is : operationRefusal (length s) m o ≡ lowest (outputPart m o (length s))
-        output-is = roles-none m o (length s) z ∙ agreement-none m o (length s) (d .agrees)
+        output-is : operationRefusal (length s) m o ≡ lowest (outputsOf m o (length s))
+        output-is = roles-passed m o (length s) z ∙ agreement-passed m o (length s) (d .agrees)
 
         -- what is copied is the writing of the final C
-        copied : writing (length s) (set (slotsOf s) k (take (sizeOf (rows (slotAt s k)) n) w))
-            ≡ modelWriting (length s) (afterOperation m o)
+        copied : writing (length s) (set (slotsOf s) k (take size w)) ≡ modelWriting (length s) (afterOperation m o)
         copied =
             ap (λ (i : ℕ). writing (length s) (set (slotsOf s) k (take i w))) size-of
             ∙ ap (λ (y : List ℕ). writing (length s) (set (slotsOf s) k y)) (d .written)
@@ -137,32 +145,22 @@ module _ (s : List ℕ) (o : Operate) where
 
         -- the final C is committed
         pub operated-done : (answer : Answer) (s′ : List ℕ) → Committed s k w n answer s′ → Operated s o answer s′
-        operated-done answer s′ c =
-            go (decLe (endFrom slotCount s - countAt s k + sizeOf (rows (slotAt s k)) n) (length s))
+        operated-done answer s′ c = go (decLe taken (length s))
           where
-            words-by : (a : Answer) → answer ≡ a
-                → s′ ≡ unlessRefused a s (writing (length s) (set (slotsOf s) k (take (sizeOf (rows (slotAt s k)) n) w)))
-            words-by a q =
-                c .words-are
-                ∙ ap (λ (a : Answer). unlessRefused a s (writing (length s)
-                (set (slotsOf s) k (take (sizeOf (rows (slotAt s k)) n) w)))) q
-
-            go : Dec (endFrom slotCount s - countAt s k + sizeOf (rows (slotAt s k)) n ≤ length s)
-                → Operated s o answer s′
+            go : Dec (taken ≤ length s) → Operated s o answer s′
             go (yes f) =
                 let q : answer ≡ accepted n = c .answer-is ∙ rw (le-leb _ _ f) in
-                let r = operated-accepted n s′
-                (output-is ∙ rw (le-ltb _ _ few, needed, le-ltb _ _ f)) (d .count) (words-by (accepted n) q ∙ copied) in
-                record { answer-is = q ∙ r .answer-is; words-are = r .words-are }
+                let v : s′ ≡ writing (length s) (set (slotsOf s) k (take size w)) = c .words-are ∙ rw q in
+                let r : operationRefusal (length s) m o ≡ 0 = output-is ∙ rw (le-ltb _ _ few, needed, le-ltb _ _ f) in
+                operated-by answer _ s′ q (operated-accepted n s′ r (d .count) (v ∙ copied))
             go (no f) =
-                let i : length s < endFrom slotCount s - countAt s k + sizeOf (rows (slotAt s k)) n = omega arith in
+                let i : length s < taken = omega arith in
                 let q : answer ≡ refused insufficientSpace = c .answer-is ∙ rw (lt-leb _ _ i) in
-                let r = operated-refused insufficientSpace
-                (sym (output-is ∙ rw (le-ltb _ _ few, needed, lt-ltb _ _ i))) (eqb-false insufficientSpace 0 refl) in
-                record {
-                  answer-is = q ∙ r .answer-is;
-                  words-are = words-by (refused insufficientSpace) q ∙ r .words-are;
-                }
+                let v : s′ ≡ s = c .words-are ∙ rw q in
+                let r : operationRefusal (length s) m o ≡ insufficientSpace =
+                output-is ∙ rw (le-ltb _ _ few, needed, lt-ltb _ _ i) in
+                let p = operated-refused insufficientSpace (sym r) (eqb-false insufficientSpace 0 refl) in
+                record { answer-is = q ∙ p .answer-is; words-are = v ∙ p .words-are }
 
 -- ---- the six calls
 

@@ -1,20 +1,34 @@
 -- The refusals of an operation in their order, as the code reaches them.
 use Prim.Native.Nat.{ℕ}
-use mathlib.Core.Path.{_≡_, refl, sym, _∙_}
+use native.Mathlib.Decide.{ℕ-discrete}
+use mathlib.Core.Path.{_≡_, refl, sym, ap, _∙_}
+use mathlib.Core.Bool.{Bool, cond}
 use mathlib.Core.List.{List, _++_}
+use borrow.Author.Tests.{eq-eqb, ne-eqb}
 use Rattle.operations.specs.declared.Call.{Call}
-use Rattle.requests.specs.Cases.{Case, lowest, numberCases, agreementCases, outputCases, numbersRefusal}
+use Rattle.requests.specs.Cases.{Case, lowest, numberCases, numbersRefusal, firstOf}
 use Rattle.requests.proofs.Cases.{Numbered, lowest-first, lowest-rest, lowest-none}
 use Rattle.slots.specs.Facts.{Store}
 use Rattle.model.specs.declared.Roles.{Roles}
-use Rattle.model.specs.Model.{Model, gridAt, wordsNeeded}
+use Rattle.model.specs.Model.{Model}
 use Rattle.model.specs.Calls.{Operate}
-use Rattle.model.specs.Steps.{noSlot, noGrid, roleCases, operated, afterOperation, operationRefusal}
+use Rattle.model.specs.Steps.{noSlot, noGrid, roleCases, operationRefusal}
 use Rattle.model.specs.Stores.{modelOf}
-use Rattle.store_calls.specs.Attempts.{rolesRefusal, agreement, Holding}
+use Rattle.store_calls.specs.Attempts.{rolesRefusal, Holding, agreementsOf, outputsOf}
 use Rattle.store_calls.proofs.Roles.{in-store, holding-roles}
 
--- ---- 12, 1 and 2, and 13 in their order
+-- some cases and then others, as two numbers
+lowest-append : (xs ys : List Case) → Numbered xs → lowest (xs ++ ys) ≡ firstOf (lowest xs) (lowest ys)
+lowest-append xs ys m = go (ℕ-discrete (lowest xs) 0)
+  where
+    go : Dec (lowest xs ≡ 0) → lowest (xs ++ ys) ≡ firstOf (lowest xs) (lowest ys)
+    go (yes z) =
+        lowest-rest xs ys m z ∙ sym (ap (λ (b : Bool). cond b (lowest ys) (lowest xs)) (eq-eqb (lowest xs) 0 z))
+    go (no n) =
+        sym (lowest-first xs ys (lowest xs) refl n)
+        ∙ sym (ap (λ (b : Bool). cond b (lowest ys) (lowest xs)) (ne-eqb (lowest xs) 0 n))
+
+-- ---- 12, 1 and 2, and 13
 
 slots-numbered : (r : Roles) → Numbered (roleCases noSlot r)
 slots-numbered r = (refl, (refl, (refl, (refl, tt))))
@@ -26,47 +40,49 @@ module _ (m : Model) (call : Call) (r : Roles) where
   abbrev vacancies : List Case
   vacancies = roleCases (noGrid m) r
 
+  -- 12
   pub slot-refused : (n : ℕ) → n ≡ lowest (roleCases noSlot r) → (n ≡ 0 → ⊥) → n ≡ rolesRefusal m call r
   unfolding rolesRefusal
   slot-refused n e h = lowest-first (roleCases noSlot r) (numberCases call ++ vacancies) n e h
 
   module _ (z : lowest (roleCases noSlot r) ≡ 0) where
-    pub number-refused : (n : ℕ) → n ≡ numbersRefusal call → (n ≡ 0 → ⊥) → n ≡ rolesRefusal m call r
-    unfolding rolesRefusal numbersRefusal
-    number-refused n e h =
-        lowest-first (numberCases call) vacancies n e h
-        ∙ sym (lowest-rest (roleCases noSlot r) (numberCases call ++ vacancies) (slots-numbered r) z)
+    -- past it the later cases decide
+    slots-passed : rolesRefusal m call r ≡ lowest (numberCases call ++ vacancies)
+    unfolding rolesRefusal
+    slots-passed = lowest-rest (roleCases noSlot r) (numberCases call ++ vacancies) (slots-numbered r) z
 
-    pub vacancy-last : numbersRefusal call ≡ 0 → (n : ℕ) → n ≡ lowest vacancies → n ≡ rolesRefusal m call r
-    unfolding rolesRefusal numbersRefusal
-    vacancy-last y n e =
-        e ∙ sym (lowest-rest (numberCases call) vacancies (numbers-numbered call) y)
-        ∙ sym (lowest-rest (roleCases noSlot r) (numberCases call ++ vacancies) (slots-numbered r) z)
+    -- 1 and 2, and then 13
+    pub numbers-first : (number vacancy code : ℕ) → number ≡ numbersRefusal call → vacancy ≡ lowest vacancies
+        → code ≡ firstOf number vacancy → code ≡ rolesRefusal m call r
+    unfolding numbersRefusal
+    numbers-first number vacancy code e f g =
+        g ∙ ap (λ (n : ℕ). firstOf n vacancy) e ∙ ap (firstOf (lowest (numberCases call))) f
+        ∙ sym (slots-passed ∙ lowest-append (numberCases call) vacancies (numbers-numbered call))
 
--- where none applies, every role has a slot with a matrix
+  -- where none of all applies, none of each does
+  record NoneOf : Type 0 where
+    pub slots : lowest (roleCases noSlot r) ≡ 0
+    pub vacancy : lowest vacancies ≡ 0
+
+  none-of : rolesRefusal m call r ≡ 0 → NoneOf
+  unfolding rolesRefusal
+  none-of z =
+      let a = lowest-none (roleCases noSlot r) (numberCases call ++ vacancies) (slots-numbered r) z in
+      let b = sym (slots-passed a) ∙ z in
+      let c = lowest-none (numberCases call) vacancies (numbers-numbered call) b in
+      record { slots = a; vacancy = sym (lowest-rest (numberCases call) vacancies (numbers-numbered call) c) ∙ b }
+
+-- then every role has a slot with a matrix
 pub holding-of : (s : List ℕ) (call : Call) (r : Roles) → Store s → rolesRefusal (modelOf s) call r ≡ 0 → Holding s r
-unfolding rolesRefusal
 holding-of s call r h z =
-    let vacancies = roleCases (noGrid (modelOf s)) r in
-    let a = lowest-none (roleCases noSlot r) (numberCases call ++ vacancies) (slots-numbered r) z in
-    let b = sym (lowest-rest (roleCases noSlot r) (numberCases call ++ vacancies) (slots-numbered r) a) ∙ z in
-    let c = lowest-none (numberCases call) vacancies (numbers-numbered call) b in
-    holding-roles s r h (in-store r a)
-    (sym (lowest-rest (numberCases call) vacancies (numbers-numbered call) c) ∙ b)
+    let n = none-of (modelOf s) call r z in
+    holding-roles s r h (in-store r (n .slots)) (n .vacancy)
 
--- ---- the refusals of all parts, in their order
+-- ---- all refusals
 
 module _ (m : Model) (o : Operate) where
   abbrev roleParts : List Case
   roleParts = roleCases noSlot (o .roles) ++ (numberCases (o .call) ++ roleCases (noGrid m) (o .roles))
-
-  abbrev agreementPart : List Case
-  agreementPart =
-      agreementCases (o .call) (gridAt m (o .roles .first)) (gridAt m (o .roles .second)) (gridAt m (o .roles .mask))
-      (gridAt m (o .roles .output)) (o .is) (o .js) (o .work)
-
-  abbrev pub outputPart : ℕ → List Case
-  outputPart n = outputCases (operated m o) (wordsNeeded (afterOperation m o)) n
 
   roles-numbered : Numbered roleParts
   roles-numbered = (refl, (refl, (refl, (refl, (refl, (refl, (refl, (refl, (refl, (refl, tt))))))))))
@@ -75,19 +91,20 @@ module _ (m : Model) (o : Operate) where
   pub roles-first : (n code : ℕ) → code ≡ rolesRefusal m (o .call) (o .roles) → (code ≡ 0 → ⊥)
       → code ≡ operationRefusal n m o
   unfolding operationRefusal rolesRefusal
-  roles-first n code e h = lowest-first roleParts (agreementPart ++ outputPart n) code e h
+  roles-first n code e h = lowest-first roleParts (agreementsOf m o ++ outputsOf m o n) code e h
 
-  -- 7 to 11
-  pub roles-none : (n : ℕ) → rolesRefusal m (o .call) (o .roles) ≡ 0
-      → operationRefusal n m o ≡ lowest (agreementPart ++ outputPart n)
+  -- past them, 7 to 11
+  pub roles-passed : (n : ℕ) → rolesRefusal m (o .call) (o .roles) ≡ 0
+      → operationRefusal n m o ≡ lowest (agreementsOf m o ++ outputsOf m o n)
   unfolding operationRefusal rolesRefusal
-  roles-none n z = lowest-rest roleParts (agreementPart ++ outputPart n) roles-numbered z
+  roles-passed n z = lowest-rest roleParts (agreementsOf m o ++ outputsOf m o n) roles-numbered z
 
   -- 7 to 9
-  pub agreement-first : (n code : ℕ) → code ≡ agreement m o → (code ≡ 0 → ⊥)
-      → code ≡ lowest (agreementPart ++ outputPart n)
-  agreement-first n code e h = lowest-first agreementPart (outputPart n) code e h
+  pub agreement-first : (n code : ℕ) → code ≡ lowest (agreementsOf m o) → (code ≡ 0 → ⊥)
+      → code ≡ lowest (agreementsOf m o ++ outputsOf m o n)
+  agreement-first n code e h = lowest-first (agreementsOf m o) (outputsOf m o n) code e h
 
-  -- 10 and 11
-  pub agreement-none : (n : ℕ) → agreement m o ≡ 0 → lowest (agreementPart ++ outputPart n) ≡ lowest (outputPart n)
-  agreement-none n z = lowest-rest agreementPart (outputPart n) (refl, (refl, (refl, tt))) z
+  -- past them, 10 and 11
+  pub agreement-passed : (n : ℕ) → lowest (agreementsOf m o) ≡ 0
+      → lowest (agreementsOf m o ++ outputsOf m o n) ≡ lowest (outputsOf m o n)
+  agreement-passed n z = lowest-rest (agreementsOf m o) (outputsOf m o n) (refl, (refl, (refl, tt))) z

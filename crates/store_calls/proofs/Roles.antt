@@ -37,7 +37,7 @@ module _ (n : ℕ) (f : ℕ → Bool) (r : Roles) where
   abbrev cases : List Case
   cases = roleCases (λ k. given n (f k)) r
 
-  -- the first role that it applies to
+  -- the first role that it applies to, or none
   pub first-role : f (r .first) ≡ true → n ≡ lowest cases
   first-role a = rw a
 
@@ -56,7 +56,7 @@ module _ (n : ℕ) (f : ℕ → Bool) (r : Roles) where
         pub no-role : f (r .output) ≡ false → 0 ≡ lowest cases
         no-role d = rw (a, b, c, d)
 
-  -- it applies to none
+  -- where the number is 0, it applies to none
   record NoRole : Type 0 where
     pub first : f (r .first) ≡ false
     pub second : f (r .second) ≡ false
@@ -81,14 +81,14 @@ past k = leb slotCount k
 abbrev pub empty : List ℕ → ℕ → Bool
 empty s k = isVacant (slotOf (modelOf s) k)
 
--- as the code sees it in the words x of the slot
+-- as the code sees it in the words x of the slot: none, or some
 pub found-empty : (s x : List ℕ) (k : ℕ) → x ≡ slotAt s k → length x ≡ 0 → empty s k ≡ true
 found-empty s x k e h = vacant-model s k (ap length (sym e) ∙ h)
 
 pub found-held : (s x : List ℕ) (k : ℕ) → x ≡ slotAt s k → (length x ≡ 0 → ⊥) → empty s k ≡ false
 found-held s x k e h = ap isVacant (holding-model s k (λ z. h (ap length e ∙ z)))
 
--- 12 does not apply
+-- where 12 does not apply, each role names a slot
 pub in-store : (r : Roles) → lowest (roleCases noSlot r) ≡ 0 → InStore r
 in-store r h =
     let n = no-role-of invalidStore past r refl h in
@@ -104,7 +104,7 @@ holds : (s : List ℕ) (k : ℕ) → Store s → k < slotCount → empty s k ≡
 holds s k h l e =
     held-facts (slotAt s k) (h .contents k l) (λ z. false≢true (sym e ∙ vacant-model s k z))
 
--- 13 does not apply either
+-- and where 13 does not apply either, each holds a matrix
 pub holding-roles : (s : List ℕ) (r : Roles) → Store s → InStore r → lowest (roleCases (noGrid (modelOf s)) r) ≡ 0
     → Holding s r
 holding-roles s r h i z =

@@ -12,7 +12,7 @@ use Rattle.grid.specs.Entries.{entryCount}
 use Rattle.matrix.specs.Layout.{rows, sizeOf}
 use Rattle.encoding.specs.Encode.{encode, gridSize}
 use Rattle.operations.specs.declared.Call.{Call}
-use Rattle.requests.specs.Cases.{lowest, numberCases, agreementCases, outputCases}
+use Rattle.requests.specs.Cases.{Case, lowest, numberCases, agreementCases, outputCases}
 use Rattle.slots.specs.Sections.{writing, endFrom, slotsOf, slotAt, countAt}
 use Rattle.slots.specs.Facts.{Held, Store}
 use Rattle.model.specs.declared.Roles.{Roles}
@@ -45,23 +45,23 @@ pub record Holding (s : List ℕ) (r : Roles) : Type 0 where
   pub mask : Held (slotAt s (r .mask))
   pub output : Held (slotAt s (r .output))
 
--- 7 to 9 of an operation
-abbrev pub agreement : Model → Operate → ℕ
-agreement m o = lowest (
+-- 7 to 9 of an operation, and 10 and 11 on a store of n words
+abbrev pub agreementsOf : Model → Operate → List Case
+agreementsOf m o =
     agreementCases (o .call) (gridAt m (o .roles .first)) (gridAt m (o .roles .second)) (gridAt m (o .roles .mask))
-    (gridAt m (o .roles .output)) (o .is) (o .js) (o .work))
+    (gridAt m (o .roles .output)) (o .is) (o .js) (o .work)
 
--- a refusal by 7 to 9, or by 10
+abbrev pub outputsOf : Model → Operate → ℕ → List Case
+outputsOf m o n = outputCases (operated m o) (wordsNeeded (afterOperation m o)) n
+
+-- a refusal by 7 to 9, or by 10: the store's length does not matter
 pub record RefusedBy (code : ℕ) (m : Model) (o : Operate) : Type 0 where
   pub some : code ≡ 0 → ⊥
-  pub lowest-is : (n : ℕ) → code ≡ lowest (
-      agreementCases (o .call) (gridAt m (o .roles .first)) (gridAt m (o .roles .second)) (gridAt m (o .roles .mask))
-      (gridAt m (o .roles .output)) (o .is) (o .js) (o .work)
-      ++ outputCases (operated m o) (wordsNeeded (afterOperation m o)) n)
+  pub lowest-is : (n : ℕ) → code ≡ lowest (agreementsOf m o ++ outputsOf m o n)
 
 -- none of 7 to 10 applies, and the writing of the final C is at the front of the workspace
 pub record DoneBy (n : ℕ) (m : Model) (o : Operate) (w : List ℕ) : Type 0 where
-  pub agrees : agreement m o ≡ 0
+  pub agrees : lowest (agreementsOf m o) ≡ 0
   pub count : n ≡ entryCount (operated m o)
   pub few : n ≤ maxEntries
   pub written : take (gridSize (operated m o)) w ≡ encode (operated m o)

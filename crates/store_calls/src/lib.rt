@@ -1,6 +1,6 @@
-// The six operations on the slots of a store. Any words and any numbers may be lent; one slot may have several roles, and
-// all are read before C is written. A refused call changes no word of the store, and every call leaves the workspace all
-// zeros.
+// The six operations on the slots of a store. Any words and any numbers may be lent; one slot may have several roles,
+// and all are read before C is written. A refused call changes no word of the store, and every call leaves the
+// workspace all zeros.
 use answers::Answer;
 use answers::EMPTY_SLOT;
 use answers::INSUFFICIENT_SPACE;
@@ -16,7 +16,7 @@ ghost use mathlib.Core.Path.{_≡_};
 ghost use mathlib.Core.Bool.{cond};
 ghost use lib.ListN.{length, replicate};
 ghost use Rattle.answers.specs.Refusals as answers;
-ghost use Rattle.requests.specs.Cases.{lowest};
+ghost use Rattle.requests.specs.Cases.{lowest, firstOf};
 ghost use Rattle.slots.specs.Facts.{Store};
 ghost use Rattle.model.specs.Calls.{rolesOf, mxm, vxm, ewiseMult, ewiseAdd, apply, extract, operation, wrote};
 ghost use Rattle.model.specs.Steps.{noSlot, noGrid, roleCases};
@@ -212,10 +212,18 @@ fn roles_refusal(store: &[u32], call: Call, roles: Roles) -> u32
         return past;
     }
     let number = requests::numbers_refusal(call);
-    if number != 0 {
-        return number;
+    let vacancy = vacancy_refusal(store, roles);
+    first_of(number, vacancy)
+}
+
+// The first refusal that is one.
+fn first_of(first: u32, later: u32) -> u32
+    ensures { λ r. ⌜ r ≡ firstOf first later ⌝ }
+{
+    if first != 0 {
+        return first;
     }
-    vacancy_refusal(store, roles)
+    later
 }
 
 // 12: a slot past the last.

@@ -15,7 +15,7 @@ use Rattle.slots.specs.Facts.{Store}
 use Rattle.slots.proofs.Facts.{store-facts}
 use Rattle.slots.proofs.Sections.{end-least}
 
--- the sections of a store end past 0, so 0 is never one's end
+-- the sections of a store end past 0, so 0 says that there is none, and any other number that there is one
 none : (b : Bool) (end n : ℕ) → slotCount ≤ n → end ≡ cond b n 0 → end ≡ 0 → b ≡ false
 none true end n l e z = absurd (omega arith)
 none false end n l e z = refl

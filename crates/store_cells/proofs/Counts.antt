@@ -34,7 +34,8 @@ with-count g i j x l m =
 
 -- the same for the grid of a matrix, by its entry
 module _ {x : List ℕ} {i j : ℕ} (m : InMatrix x i j) (p : ℕ) where
-  change : (c : Cell) → entryCount (withCell (gridOf x) i j c) + cellCount (gridOf x .cell i j) ≡ entries x + cellCount c
+  change : (c : Cell)
+      → entryCount (withCell (gridOf x) i j c) + cellCount (gridOf x .cell i j) ≡ entries x + cellCount c
   change c =
       omega (arith, with-count (gridOf x) i j c (m .row) (m .col), valid-entries x (in-valid m))
 

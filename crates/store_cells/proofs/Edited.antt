@@ -59,14 +59,15 @@ module _ {s : List ℕ} {k i j : ℕ} (h : CellOf s k i j) where
       part-lent z (h .slot) a b (slotAt s k) s (put-same z (h .slot)) (a + n) (ap (λ (l : ℕ). a + l) m)
 
   -- and when x is back in their place
-  pub slot-back : (a n : ℕ) (x : List ℕ) → a ≡ endFrom k s + 1 → n ≡ length (slotAt s k) → length x ≡ length (slotAt s k)
-      → putMid a (a + n - a) s x ≡ slotPut s k x
+  pub slot-back : (a n : ℕ) (x : List ℕ) → a ≡ endFrom k s + 1 → n ≡ length (slotAt s k)
+      → length x ≡ length (slotAt s k) → putMid a (a + n - a) s x ≡ slotPut s k x
   slot-back a n x b m l =
       let z = h .store .sections in
       part-back z (h .slot) a b (slotAt s k) s (put-same z (h .slot)) (a + n) x (ap (λ (l : ℕ). a + l) m) l
 
 -- ---- a value replaced: the size stays
-module _ {s : List ℕ} {k i j : ℕ} (h : CellOf s k i j) (p v : ℕ) (e : entryAt (slotGrid s k) i j ≡ entry.Present p) where
+module _ {s : List ℕ} {k i j : ℕ} (h : CellOf s k i j) (p v : ℕ)
+    (e : entryAt (slotGrid s k) i j ≡ entry.Present p) where
   abbrev g₁ : Grid
   g₁ = slotWith s k i j (Present v)
 
@@ -89,7 +90,8 @@ module _ {s : List ℕ} {k i j : ℕ} (h : CellOf s k i j) (p v : ℕ) (e : entr
       (slot-back h a n x b d (z ∙ r) ∙ ap (slotPut s k) t)
 
 -- ---- an entry more: two words more
-module _ {s : List ℕ} {k i j : ℕ} (h : CellOf s k i j) (p v : ℕ) (e : entryAt (slotGrid s k) i j ≡ entry.Absent p) where
+module _ {s : List ℕ} {k i j : ℕ} (h : CellOf s k i j) (p v : ℕ)
+    (e : entryAt (slotGrid s k) i j ≡ entry.Absent p) where
   abbrev g₂ : Grid
   g₂ = slotWith s k i j (Present v)
 

@@ -81,8 +81,8 @@ module _ {x : List ℕ} {i j : ℕ} (h : Held x) (l : i < rows x) (m : j < cols 
     -- the size of the matrix
     grown-size : size y ≡ length x
     grown-size =
-        sym (valid-size y grown-valid) ∙ ap length (encode-ext (gridOf y) (gridOf x) grown-same) ∙ valid-size x held-valid
-        ∙ h .whole
+        sym (valid-size y grown-valid) ∙ ap length (encode-ext (gridOf y) (gridOf x) grown-same)
+        ∙ valid-size x held-valid ∙ h .whole
 
     module _ (two : length t ≡ 2) where
       -- there is space for an entry more

@@ -10,10 +10,8 @@ use borrow.Author.Tests.{lt-ltb, le-ltb, eq-eqb, ne-eqb}
 use Rattle.limits.specs.Limits.{slotCount, maxEntries}
 use Rattle.answers.specs.declared.Answer.{Answer}
 use Rattle.answers.specs.Refusals.{accepted, refused, unlessRefused, tooManyEntries, insufficientSpace}
-use Rattle.grid.specs.declared.Cell.the-variants.{Absent, Present}
 use Rattle.grid.specs.Grid.{Grid}
 use Rattle.grid.specs.Entries.{entryCount}
-use Rattle.grid.specs.Update.{withCell}
 use Rattle.matrix.specs.Layout.{gridOf}
 use Rattle.encoding.specs.Encode.{gridSize}
 use Rattle.encoding.proofs.Canonical.{encode-length}
@@ -40,7 +38,7 @@ use Rattle.model.specs.Stores.{modelOf, Performed}
 use Rattle.model.specs.Placing.{placeRefusal, Placed}
 use Rattle.model.proofs.Held.{slot-written, grid-model, needed-model}
 use Rattle.model.proofs.Performed.{Writes, performed-refused, performed-done}
-use Rattle.store_cells.specs.Slots.{CellOf, slotWith, gridPut, Put}
+use Rattle.store_cells.specs.Slots.{CellOf, gridPut, Put, CellSet, CellCleared}
 
 -- the words that are needed with g in slot k
 pub room-of : (s : List ℕ) (k : ℕ) (g : Grid) → Store s → k < slotCount
@@ -61,6 +59,7 @@ module _ {s : List ℕ} {k : ℕ} (h : Store s) (l : k < slotCount) (g : Grid) w
     placed-no-room d =
         record { answer-is = rw (le-ltb _ _ f, room-of s k g h l, lt-ltb _ _ d); words-are = refl }
 
+    -- neither
     pub placed-written : (n : ℕ) (s′ : List ℕ) → endFrom slotCount s - countAt s k + gridSize g ≤ length s
         → n ≡ entryCount g → s′ ≡ gridPut s k g → Placed s k g (accepted n) s′
     unfolding placeRefusal
@@ -78,7 +77,7 @@ module _ {s : List ℕ} {k : ℕ} {call : StoreCall} {g : Grid} {code : ℕ} (v 
       (p .words-are ∙ slot-written s k (holding g) (store-facts s v)))
 
   -- or refused by 10 or 11
-  pub performed-placed : {answer : Answer} {s′ : List ℕ} → code ≡ placeRefusal s k g → Placed s k g answer s′
+  performed-placed : {answer : Answer} {s′ : List ℕ} → code ≡ placeRefusal s k g → Placed s k g answer s′
       → Performed s call (wrote answer) s′
   performed-placed {answer} {s′} c p = go (ℕ-discrete code 0)
     where
@@ -109,6 +108,7 @@ set-refusal s k i j x z =
     (outputCases g (wordsNeeded (set (modelOf s) k (holding g))) (length s)) (refl, (refl, (refl, tt))) z
 
 module _ {s : List ℕ} {k i j : ℕ} (v : storeValid s ≡ true) where
+  -- 12, 13 or 7
   pub set-refused : (x : ℕ) (code : ℕ) → code ≡ cellRefusal (modelOf s) k i j → (code ≡ 0 → ⊥)
       → Performed s (setCell k i j x) (wrote (refused code)) s
   unfolding setRefusal cellRefusal reply next
@@ -128,17 +128,18 @@ module _ {s : List ℕ} {k i j : ℕ} (v : storeValid s ≡ true) where
       performed-refused s (clearCell k i j) code g (set (modelOf s) k (holding g)) v
       (record { reply-is = rw e; next-is = rw e }) n
 
+  -- none of them: what is left to the functions that write
   module _ (z : cellRefusal (modelOf s) k i j ≡ 0) (h : CellOf s k i j) where
     grid-is : gridAt (modelOf s) k ≡ gridOf (slotAt s k)
     grid-is = grid-model s k (λ e. let w = h .held .whole in omega arith)
 
-    pub set-performed : (x : ℕ) (answer : Answer) (s′ : List ℕ) → Placed s k (slotWith s k i j (Present x)) answer s′
+    pub set-performed : (x : ℕ) (answer : Answer) (s′ : List ℕ) → CellSet s k i j x answer s′
         → Performed s (setCell k i j x) (wrote answer) s′
     unfolding reply next
     set-performed x answer s′ p =
         performed-placed v (record { reply-is = refl; next-is = refl }) (set-refusal s k i j x z) (rw grid-is p)
 
-    pub clear-performed : (answer : Answer) (s′ : List ℕ) → Put s k (slotWith s k i j Absent) answer s′
+    pub clear-performed : (answer : Answer) (s′ : List ℕ) → CellCleared s k i j answer s′
         → Performed s (clearCell k i j) (wrote answer) s′
     unfolding reply next
     clear-performed answer s′ p =

@@ -1,6 +1,6 @@
 -- What `read_cell` answers, as the code reaches it.
 use Prim.Native.Nat.{ℕ}
-use mathlib.Core.Path.{_≡_, sym, ap, _∙_}
+use mathlib.Core.Path.{_≡_}
 use mathlib.Core.Bool.{true, false}
 use mathlib.Core.List.{List}
 use native.Mathlib.Omega.{arith}
@@ -17,16 +17,19 @@ use Rattle.model.proofs.Held.{grid-model}
 use Rattle.store_cells.specs.Slots.{CellOf}
 
 module _ (s : List ℕ) (k i j : ℕ) where
+  -- the words are no store
   pub read-no-store : storeValid s ≡ false → found (refusedRead invalidStore) ≡ replyOn s (readCell k i j)
   unfolding replyOn
   read-no-store v = rw v
 
   module _ (v : storeValid s ≡ true) where
+    -- 12, 13 or 7
     pub read-refused : (code : ℕ) → code ≡ cellRefusal (modelOf s) k i j → (code ≡ 0 → ⊥)
         → found (refusedRead code) ≡ replyOn s (readCell k i j)
     unfolding replyOn reply
     read-refused code e n = rw (v, ← e, ne-eqb _ _ n)
 
+    -- the cell of the slot's grid
     pub read-found : cellRefusal (modelOf s) k i j ≡ 0 → CellOf s k i j
         → found (foundAnswer (cellOf (slotAt s k) i j)) ≡ replyOn s (readCell k i j)
     unfolding replyOn reply

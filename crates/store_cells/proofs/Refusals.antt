@@ -22,16 +22,19 @@ use Rattle.model.proofs.Held.{vacant-model, holding-model, grid-model}
 use Rattle.store_cells.specs.Slots.{CellOf}
 
 module _ (s : List ℕ) (k i j : ℕ) where
+  -- 12
   pub slot-refused : slotCount ≤ k → invalidStore ≡ cellRefusal (modelOf s) k i j
   unfolding cellRefusal
   slot-refused l = rw (le-leb _ _ l)
 
   module _ (l : k < slotCount) where
+    -- 13
     pub empty-refused : length (slotAt s k) ≡ 0 → emptySlot ≡ cellRefusal (modelOf s) k i j
     unfolding cellRefusal
     empty-refused e = rw (lt-leb _ _ l, vacant-model s k e)
 
     module _ (n : length (slotAt s k) ≡ 0 → ⊥) where
+      -- 7, by the row and by the column
       pub row-refused : rows (slotAt s k) ≤ i → indexOutOfBounds ≡ cellRefusal (modelOf s) k i j
       unfolding cellRefusal _and_
       row-refused r = rw (lt-leb _ _ l, holding-model s k n, le-ltb _ _ r)
@@ -40,6 +43,7 @@ module _ (s : List ℕ) (k i j : ℕ) where
       unfolding cellRefusal _and_
       col-refused r c = rw (lt-leb _ _ l, holding-model s k n, lt-ltb _ _ r, le-ltb _ _ c)
 
+      -- none
       pub cell-there : i < rows (slotAt s k) → j < cols (slotAt s k) → 0 ≡ cellRefusal (modelOf s) k i j
       unfolding cellRefusal _and_
       cell-there r c = rw (lt-leb _ _ l, holding-model s k n, lt-ltb _ _ r, lt-ltb _ _ c)

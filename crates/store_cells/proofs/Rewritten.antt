@@ -22,7 +22,8 @@ abbrev pub slotPut : List ℕ → ℕ → List ℕ → List ℕ
 slotPut s k y = writing (length s) (set (slotsOf s) k y)
 
 -- the words of a slot that fits are within the store
-pub fits-inside : {s : List ℕ} {k end size : ℕ} → Fits s k end size → (a : ℕ) → a ≡ endFrom k s → a + 1 + size ≤ length s
+pub fits-inside : {s : List ℕ} {k end size : ℕ} → Fits s k end size → (a : ℕ) → a ≡ endFrom k s
+    → a + 1 + size ≤ length s
 fits-inside {s} {k} f a e =
     let r = end-rises k slotCount s (f .slot) in
     let i = f .ends in

@@ -15,7 +15,7 @@ use Rattle.words.specs.Tests.{_and_}
 use Rattle.words.proofs.Parts.{part-empty}
 use Rattle.words.proofs.Tests.{and-left}
 use Rattle.grid.specs.Grid.{emptyGrid}
-use Rattle.matrix.specs.Layout.{sizeOf}
+use Rattle.matrix.specs.Layout.{startsAt, sizeOf}
 use Rattle.matrix.specs.Valid.{inRange}
 use Rattle.matrix.proofs.Facts.{range-facts}
 use Rattle.encoding.specs.Encode.{gridSize, encode}
@@ -41,6 +41,10 @@ use Rattle.store_cells.proofs.Outcomes.{room-of, performed-put}
 
 -- ---- lay
 
+-- the words of an empty matrix besides one for each row, `FIXED_WORDS` in the code
+abbrev pub fixedWords : ℕ
+fixedWords = startsAt + 3
+
 -- an empty matrix needs the words of its row starts and its counts
 empty-room : (s : List ℕ) (k r c : ℕ) → Store s → k < slotCount
     → wordsNeeded (laid (modelOf s) k r c) ≡ endFrom slotCount s - countAt s k + sizeOf r 0
@@ -49,11 +53,13 @@ empty-room s k r c h l =
     ∙ ap (λ (n : ℕ). endFrom slotCount s - countAt s k + sizeOf r n) (empty-count r c)
 
 module _ (s : List ℕ) (k r c : ℕ) where
+  -- 12
   pub slot-refused : slotCount ≤ k → invalidStore ≡ newEmptyRefusal (length s) (modelOf s) k r c
   unfolding newEmptyRefusal
   slot-refused l = rw (le-leb _ _ l)
 
   module _ (l : k < slotCount) where
+    -- 8, by the rows and by the columns
     pub rows-refused : inRange maxRows r ≡ false → invalidShape ≡ newEmptyRefusal (length s) (modelOf s) k r c
     unfolding newEmptyRefusal _and_
     rows-refused e = rw (lt-leb _ _ l, e)
@@ -64,11 +70,13 @@ module _ (s : List ℕ) (k r c : ℕ) where
       cols-refused f = rw (lt-leb _ _ l, e, f)
 
       module _ (f : inRange maxCols c ≡ true) (h : Store s) where
+        -- 11
         pub room-refused : length s < endFrom slotCount s - countAt s k + sizeOf r 0
             → insufficientSpace ≡ newEmptyRefusal (length s) (modelOf s) k r c
         unfolding newEmptyRefusal _and_
         room-refused d = rw (lt-leb _ _ l, e, f, empty-room s k r c h l, lt-ltb _ _ d)
 
+        -- none
         pub shape-there : endFrom slotCount s - countAt s k + sizeOf r 0 ≤ length s
             → 0 ≡ newEmptyRefusal (length s) (modelOf s) k r c
         unfolding newEmptyRefusal _and_
@@ -116,6 +124,7 @@ laid-words s k end size r c a u x d f₀ p v w =
     part-back (f .sections) (f .slot) a p y u v (a + size) x (omega arith) (m ∙ z ∙ sym d ∙ sym n)
     ∙ ap (slotPut s k) q
 
+-- the call, refused and accepted
 module _ {s : List ℕ} {k r c : ℕ} (v : storeValid s ≡ true) where
   pub lay-refused : (code : ℕ) → code ≡ newEmptyRefusal (length s) (modelOf s) k r c → (code ≡ 0 → ⊥)
       → Performed s (newEmpty k r c) (wrote (refused code)) s
@@ -124,8 +133,8 @@ module _ {s : List ℕ} {k r c : ℕ} (v : storeValid s ≡ true) where
       performed-refused s (newEmpty k r c) code (emptyGrid r c) (laid (modelOf s) k r c) v
       (record { reply-is = rw e; next-is = rw e }) n
 
-  pub lay-performed : newEmptyRefusal (length s) (modelOf s) k r c ≡ 0 → (s′ : List ℕ) → s′ ≡ gridPut s k (emptyGrid r c)
-      → Performed s (newEmpty k r c) (wrote (accepted 0)) s′
+  pub lay-performed : newEmptyRefusal (length s) (modelOf s) k r c ≡ 0 → (s′ : List ℕ)
+      → s′ ≡ gridPut s k (emptyGrid r c) → Performed s (newEmpty k r c) (wrote (accepted 0)) s′
   unfolding reply next
   lay-performed z s′ w =
       performed-put v (record { reply-is = refl; next-is = refl }) z
@@ -140,6 +149,7 @@ none-resized s k =
     ap (λ (x : List ℕ). writing (length s) (set (slotsOf s) k x))
     (ap (λ (n : ℕ). part (e + 1) n s) (add-zero (e + 1)) ∙ part-empty (e + 1) s)
 
+-- the call, refused and accepted
 module _ {s : List ℕ} {k : ℕ} (v : storeValid s ≡ true) where
   pub drop-refused : slotCount ≤ k → Performed s (dropSlot k) (wrote (refused invalidStore)) s
   unfolding reply next dropRefusal

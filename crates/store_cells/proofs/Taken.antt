@@ -2,7 +2,7 @@
 use Prim.Native.Nat.{ℕ, _+_, _-_, _≤_}
 use native.Mathlib.Omega.{arith}
 use mathlib.Core.Path.{_≡_, sym, ap, _∙_}
-use mathlib.Core.List.{List, _++_}
+use mathlib.Core.List.{List}
 use lib.ListN.{length, take, drop, length-append, length-drop}
 use lib.Seq.{take-at}
 use borrow.Rule.Slice.PartMut.{putMid}
@@ -22,7 +22,7 @@ use Rattle.slots.specs.Room.{resized}
 use Rattle.edits.specs.declared.EntryAt.the-variants as entry
 use Rattle.edits.specs.Entry.{entryAt}
 use Rattle.model.proofs.Held.{held-encoded}
-use Rattle.store_cells.specs.Slots.{CellOf, slotGrid, slotWith, gridPut, Put}
+use Rattle.store_cells.specs.Slots.{CellOf, slotGrid, slotWith, gridPut, CellCleared}
 use Rattle.store_cells.proofs.Counts.{taken-count, cleared-count, cleared-same}
 use Rattle.store_cells.proofs.Rewritten.{slotPut, put-same, smaller-fits, smaller-words}
 use Rattle.store_cells.proofs.Edited.{slot-in, slot, slot-lent, slot-back}
@@ -46,7 +46,8 @@ module _ {s : List ℕ} {k i j p end n a : ℕ} {x : List ℕ} (r : Removed s k 
   taken-is : x ≡ writtenOver g (slotAt s k)
   taken-is =
       r .words
-      ∙ ap (λ (z : List ℕ). writtenOver (withCell (gridOf z) i j Absent) z) (slot-lent (r .cell) a n (r .from) (r .long))
+      ∙ ap (λ (z : List ℕ). writtenOver (withCell (gridOf z) i j Absent) z)
+      (slot-lent (r .cell) a n (r .from) (r .long))
 
   taken-long : length x ≡ length (slotAt s k)
   taken-long =
@@ -86,7 +87,7 @@ module _ {s : List ℕ} {k i j p end n a : ℕ} {x : List ℕ} (r : Removed s k 
 -- ---- no entry to remove: nothing changes
 pub cleared-put : {s : List ℕ} {k i j : ℕ} {answer : Answer} → CellOf s k i j → (p m : ℕ)
     → entryAt (slotGrid s k) i j ≡ entry.Absent p → answer ≡ accepted m → m ≡ entries (slotAt s k)
-    → Put s k (slotWith s k i j Absent) answer s
+    → CellCleared s k i j answer s
 cleared-put {s} {k} {i} {j} h p m e a c = record {
   answer-is = a ∙ ap accepted (c ∙ sym (cleared-count (slot-in h) p e));
   words-are = put-same (h .store .sections) (h .slot)

@@ -7,6 +7,7 @@ use Rattle.limits.specs.Limits.{slotCount}
 use Rattle.answers.specs.declared.Answer.{Answer}
 use Rattle.answers.specs.Refusals.{accepted}
 use Rattle.grid.specs.declared.Cell.{Cell}
+use Rattle.grid.specs.declared.Cell.the-variants.{Absent, Present}
 use Rattle.grid.specs.Grid.{Grid}
 use Rattle.grid.specs.Entries.{entryCount}
 use Rattle.grid.specs.Update.{withCell}
@@ -14,6 +15,7 @@ use Rattle.matrix.specs.Layout.{rows, cols, gridOf}
 use Rattle.encoding.specs.Encode.{encode}
 use Rattle.slots.specs.Sections.{writing, slotsOf, slotAt}
 use Rattle.slots.specs.Facts.{Held, Store}
+use Rattle.model.specs.Placing.{Placed}
 
 -- a store, a slot that holds a matrix, and a row and a column of it
 pub record CellOf (s : List ℕ) (k i j : ℕ) : Type 0 where
@@ -34,7 +36,14 @@ slotWith s k i j x = withCell (slotGrid s k) i j x
 abbrev pub gridPut : List ℕ → ℕ → Grid → List ℕ
 gridPut s k g = writing (length s) (set (slotsOf s) k (encode g))
 
--- a write that is never refused: the grid g in slot k, and its entries
+-- an accepted write: the grid g in slot k, and its entries
 pub record Put (s : List ℕ) (k : ℕ) (g : Grid) (answer : Answer) (s′ : List ℕ) : Type 0 where
   pub answer-is : answer ≡ accepted (entryCount g)
   pub words-are : s′ ≡ gridPut s k g
+
+-- a cell of slot k set, unless by 10 or 11; and cleared, which nothing refuses
+abbrev pub CellSet : List ℕ → ℕ → ℕ → ℕ → ℕ → Answer → List ℕ → Type 0
+CellSet s k i j v answer s′ = Placed s k (slotWith s k i j (Present v)) answer s′
+
+abbrev pub CellCleared : List ℕ → ℕ → ℕ → ℕ → Answer → List ℕ → Type 0
+CellCleared s k i j answer s′ = Put s k (slotWith s k i j Absent) answer s′

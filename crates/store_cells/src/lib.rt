@@ -1,6 +1,6 @@
 // The calls on a store that change or read one slot (document 01, "The shelf"): lay an empty matrix, drop a slot, set,
-// clear and read a cell. Any words may be lent. The store is validated once, a refused call changes no word of it, and a
-// write moves each later word at most once.
+// clear and read a cell. Any words may be lent. Each call validates the store once. A refused call changes no word of
+// it, and a write moves each later word at most once.
 use answers::Answer;
 use answers::EMPTY_SLOT;
 use answers::INDEX_OUT_OF_BOUNDS;
@@ -22,7 +22,6 @@ ghost use Prim.Native.Nat.{_≤_};
 ghost use lib.ListN.{length};
 ghost use Rattle.limits.specs.Limits.{slotCount, maxRows};
 ghost use Rattle.answers.specs.Refusals as answers;
-ghost use Rattle.grid.specs.declared.Cell.the-variants.{Absent, Present};
 ghost use Rattle.grid.specs.Grid.{emptyGrid};
 ghost use Rattle.matrix.specs.Layout.{sizeOf};
 ghost use Rattle.slots.specs.Sections.{endFrom};
@@ -32,8 +31,7 @@ ghost use Rattle.edits.specs.Entry.{entryAt};
 ghost use Rattle.model.specs.Calls.{newEmpty, dropSlot, setCell, clearCell, readCell, wrote, found};
 ghost use Rattle.model.specs.Steps.{newEmptyRefusal, cellRefusal};
 ghost use Rattle.model.specs.Stores.{modelOf, replyOn, Performed};
-ghost use Rattle.model.specs.Placing.{Placed};
-ghost use Rattle.store_cells.specs.Slots.{CellOf, slotGrid, slotWith, gridPut, Put};
+ghost use Rattle.store_cells.specs.Slots.{CellOf, slotGrid, gridPut, CellSet, CellCleared};
 
 // An empty matrix in a slot, whatever was there.
 pub fn new_empty(store: &mut [u32], slot: usize, rows: u32, cols: u32) -> Answer
@@ -118,7 +116,7 @@ pub fn set_cell(store: &mut [u32], slot: usize, i: u32, j: u32, value: u32) -> A
 // The entry p of a slot takes a value; nothing moves.
 fn replace(store: &mut [u32], slot: usize, i: usize, j: u32, p: usize, value: u32) -> Answer
     requires { ⌜ CellOf (now store) slot i j ⌝ ∗ ⌜ entryAt (slotGrid (now store) slot) i j ≡ entry.Present p ⌝ }
-    ensures { λ r. ⌜ Placed (now (store .entry)) slot (slotWith (now (store .entry)) slot i j (Present value)) r (now (store .exit)) ⌝ }
+    ensures { λ r. ⌜ CellSet (now (store .entry)) slot i j value r (now (store .exit)) ⌝ }
 {
     let words = slots::contents(&store[..], slot);
     let n = matrix::entry_count(words);
@@ -132,7 +130,7 @@ fn replace(store: &mut [u32], slot: usize, i: usize, j: u32, p: usize, value: u3
 fn add(store: &mut [u32], slot: usize, end: usize, i: usize, j: u32, p: usize, value: u32) -> Answer
     requires { ⌜ CellOf (now store) slot i j ⌝ ∗ ⌜ end ≡ endFrom slotCount (now store) ⌝ }
     requires { ⌜ entryAt (slotGrid (now store) slot) i j ≡ entry.Absent p ⌝ }
-    ensures { λ r. ⌜ Placed (now (store .entry)) slot (slotWith (now (store .entry)) slot i j (Present value)) r (now (store .exit)) ⌝ }
+    ensures { λ r. ⌜ CellSet (now (store .entry)) slot i j value r (now (store .exit)) ⌝ }
 {
     let words = slots::contents(&store[..], slot);
     let n = matrix::entry_count(words);
@@ -149,7 +147,7 @@ fn add(store: &mut [u32], slot: usize, end: usize, i: usize, j: u32, p: usize, v
     accepted(n + 1)
 }
 
-// A cell becomes empty.
+// A cell becomes empty. One that is empty already is left so.
 pub fn clear_cell(store: &mut [u32], slot: usize, i: u32, j: u32) -> Answer
     ensures { λ r. ⌜ Performed (now (store .entry)) (clearCell slot i j) (wrote r) (now (store .exit)) ⌝ }
 {
@@ -163,7 +161,10 @@ pub fn clear_cell(store: &mut [u32], slot: usize, i: u32, j: u32) -> Answer
     }
     match edits::find_entry(slots::contents(&store[..], slot), i as usize, j) {
         EntryAt::Present(p) => take(store, slot, end, i as usize, j, p),
-        EntryAt::Absent(_) => accepted(matrix::entry_count(slots::contents(&store[..], slot))),
+        EntryAt::Absent(_) => Answer {
+            code: 0,
+            entries: matrix::entry_count(slots::contents(&store[..], slot)),
+        },
     }
 }
 
@@ -171,7 +172,7 @@ pub fn clear_cell(store: &mut [u32], slot: usize, i: u32, j: u32) -> Answer
 fn take(store: &mut [u32], slot: usize, end: usize, i: usize, j: u32, p: usize) -> Answer
     requires { ⌜ CellOf (now store) slot i j ⌝ ∗ ⌜ end ≡ endFrom slotCount (now store) ⌝ }
     requires { ⌜ entryAt (slotGrid (now store) slot) i j ≡ entry.Present p ⌝ }
-    ensures { λ r. ⌜ Put (now (store .entry)) slot (slotWith (now (store .entry)) slot i j Absent) r (now (store .exit)) ⌝ }
+    ensures { λ r. ⌜ CellCleared (now (store .entry)) slot i j r (now (store .exit)) ⌝ }
 {
     let words = slots::contents(&store[..], slot);
     let n = matrix::entry_count(words);

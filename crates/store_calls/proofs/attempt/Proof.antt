@@ -21,12 +21,14 @@ use borrow.Author.Needs.{needs}
 use Rattle.store_calls.proofs.attempt.Statement.{statement}
 use Rattle.store_calls.proofs.attempt.Tie as tie
 
+-- where the function starts
 abbrev start : tie.After-check → tie.Start
 start q = q .before .before .before .before .before .before
 
 -- what is asked
 abbrev operation : tie.Start → Operate
-operation p = asked (p .args .call) (p .args .roles) (now (p .args .is)) (now (p .args .js)) (length (now (p .args .work)))
+operation p =
+    asked (p .args .call) (p .args .roles) (now (p .args .is)) (now (p .args .js)) (length (now (p .args .work)))
 
 -- past the first test the words are a store
 found : (q : tie.Else1) → Found (now (start (q .before) .args .store)) (q .before .check .result)

@@ -1,11 +1,11 @@
 -- `commit` tests the room, changes the count of the slot and copies the words.
 use native.Mathlib.Omega.{arith}
 use Prim.Native.Nat.{ℕ, _+_, _-_, _≤_}
-use mathlib.Core.Path.{_≡_, refl, sym, ap, subst, _∙_}
-use mathlib.Core.Bool.{true}
+use mathlib.Core.Path.{_≡_, sym, ap, subst, _∙_}
+use mathlib.Core.Bool.{true, false}
 use denote.Ref.{now}
 use lib.Dec.{leb}
-use lib.ListN.{length, take}
+use lib.ListN.{length}
 use lib.Seq.{length-take-le}
 use Rattle.words.proofs.Tests.{said-no, said-yes}
 use Rattle.matrix.specs.Layout.{rows, sizeOf}
@@ -16,6 +16,7 @@ use borrow.Author.Needs.{needs}
 use Rattle.store_calls.proofs.commit.Statement.{statement}
 use Rattle.store_calls.proofs.commit.Tie as tie
 
+-- where the function starts
 abbrev start : tie.After-row-count → tie.Start
 start q = q .before .before .before .before .before
 
@@ -31,7 +32,11 @@ size-is q = ap (λ (r : ℕ). sizeOf r (start q .args .n)) (q .row-count .ensure
 size-there : (q : tie.After-row-count) → size q ≤ length (now (start q .args .work))
 size-there q = let e = size-is q in let l = start q .pre .there in omega arith
 
--- past the test there is room
+-- the test, where it fails and where it holds
+no-room : (q : tie.Then1) → let r = q .before .before .before in let p = start r .args in
+    leb (p .end - countAt (now (p .store)) (p .slot) + size r) (length (now (p .store))) ≡ false
+no-room q = said-no (q .before .fits2 .ensures) (q .if1 .taken)
+
 abbrev counted : tie.Else1 → tie.After-row-count
 counted q = q .before .before .before
 
@@ -39,6 +44,7 @@ room : (q : tie.Else1) → let p = start (counted q) .args in
     leb (p .end - countAt (now (p .store)) (p .slot) + size (counted q)) (length (now (p .store))) ≡ true
 room q = said-yes (q .before .fits2 .ensures) (q .if1 .left)
 
+-- then the slot's words are within the store
 within : (q : tie.Else1) → let p = start (counted q) .args in
     endFrom (p .slot) (now (p .store)) + 1 + size (counted q) ≤ length (now (p .store))
 within q =
@@ -50,7 +56,9 @@ contents-requires : tie.Need-contents-requires
 contents-requires c κs = search needs
 
 row-count-requires : tie.Need-row-count-requires
-row-count-requires c κs = subst Header (sym (c .contents .ensures .words)) (c .before .before .before .before .pre .held .matrix .header)
+row-count-requires c κs =
+    let p = c .before .before .before .before .pre in
+    subst Header (sym (c .contents .ensures .words)) (p .held .matrix .header)
 
 cast-rows : tie.Need-cast-rows
 cast-rows c = search needs
@@ -78,11 +86,10 @@ same-length c = search needs
 
 returns : tie.Need-returns
 returns c =
-    let f = c .before .before in
-    let r = f .before .before in
+    let q = c .before in
+    let r = q .before .before .before in
     let p = start r .pre in
-    committed-refused _ _ _ _ _ (p .store) (p .slot) (p .ends) (size-is r) _ _ (said-no (f .fits2 .ensures) (c .before .if1 .taken))
-    (c .refused .ensures)
+    committed-refused _ _ _ _ _ (p .store) (p .slot) (p .ends) (size-is r) _ _ (no-room q) (c .refused .ensures)
 
 find-requires : tie.Need-find-requires
 find-requires c κs = search needs
@@ -132,8 +139,8 @@ returns-2 c =
     let q = f .before .before in
     let r = counted q in
     let p = start r .pre in
-    committed _ _ _ _ _ (p .store) (p .slot) (p .ends) (size-is r) (room q) _ _ _ _ (ap (λ (a : ℕ). a + 1) (f .find .ensures))
-    (size-there r) (s .resize .ensures) (k .copy-into .ensures)
+    committed _ _ _ _ _ (p .store) (p .slot) (p .ends) (size-is r) (room q) _ _ _ _
+    (ap (λ (a : ℕ). a + 1) (f .find .ensures)) (size-there r) (s .resize .ensures) (k .copy-into .ensures)
 
 pub commit-spec : {M : Type 1} → statement M
 commit-spec =

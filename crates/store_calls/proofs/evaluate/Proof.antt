@@ -5,7 +5,9 @@ use Prim.Native.Nat.{ℕ}
 use denote.Ref.{now}
 use lib.ListN.{length}
 use Rattle.model.specs.Calls.{Operate}
-use Rattle.requests.proofs.Refusals.{Checked, checked-of}
+use Rattle.matrix.specs.Layout.{gridOf}
+use Rattle.requests.specs.Cases.{agreementRefusal}
+use Rattle.requests.proofs.Refusals.{checked-of}
 use Rattle.store_calls.specs.Attempts.{asked}
 use Rattle.store_calls.proofs.Evaluations.{Lent, all-valid, evaluated-refused, evaluated-full, evaluated-done}
 use borrow.Author.Needs.{needs}
@@ -17,7 +19,8 @@ abbrev start : tie.After-contents4 → tie.Start
 start q = q .before .before .before .before .before .before .before .before
 
 abbrev operation : tie.Start → Operate
-operation p = asked (p .args .call) (p .args .roles) (now (p .args .is)) (now (p .args .js)) (length (now (p .args .work)))
+operation p =
+    asked (p .args .call) (p .args .roles) (now (p .args .is)) (now (p .args .js)) (length (now (p .args .work)))
 
 -- the words of the roles
 abbrev first : tie.After-contents4 → List ℕ
@@ -41,15 +44,14 @@ lent q = record {
   output = q .contents4 .ensures .words;
 }
 
--- past the test they are ready to be worked on
-checked : (q : tie.Else1) → let p = q .before .before in
-    Checked (start p .args .call) (first p) (second p) (mask p) (output p) (now (start p .args .is)) (now (start p .args .js))
-    (length (now (start p .args .work)))
-checked q =
-    let p = q .before .before in
-    let x = start p in
-    checked-of (x .args .call) (first p) (second p) (mask p) (output p) (now (x .args .is)) (now (x .args .js)) _
-    (all-valid _ _ _ _ _ _ _ (x .pre .1) (lent p)) (sym (q .before .agreement-refusal .ensures) ∙ q .if1 .left)
+-- past the test none of 7 to 9 applies
+abbrev words : tie.Else1 → tie.After-contents4
+words q = q .before .before
+
+none-applies : (q : tie.Else1) → let p = words q in let x = start p .args in
+    agreementRefusal (x .call) (gridOf (first p)) (gridOf (second p)) (gridOf (mask p)) (gridOf (output p))
+    (now (x .is)) (now (x .js)) (length (now (x .work))) ≡ 0
+none-applies q = sym (q .before .agreement-refusal .ensures) ∙ q .if1 .left
 
 contents-requires : tie.Need-contents-requires
 contents-requires c κs = search needs
@@ -73,7 +75,13 @@ returns c =
     (c .if1 .taken)
 
 compute-requires : tie.Need-compute-requires
-compute-requires c κs = let h = checked (c .before) in (h .ready, h .workspace)
+compute-requires c κs =
+    let q = c .before in
+    let p = words q in
+    let x = start p in
+    let v = all-valid (x .args .call) _ _ _ _ _ _ (x .pre .1) (lent p) in
+    let h = checked-of _ _ _ _ _ (now (x .args .is)) (now (x .args .js)) _ v (none-applies q) in
+    (h .ready, h .workspace)
 
 enum-told : tie.Need-enum-told
 enum-told c = search needs
@@ -88,9 +96,9 @@ returns-2 : tie.Need-returns-2
 returns-2 c =
     let o = c .before .before .before .before in
     let q = o .before .before in
-    let p = q .before .before in
-    evaluated-full _ (operation (start p)) _ _ _ _ (start p .pre .1) (lent p)
-    (sym (q .before .agreement-refusal .ensures) ∙ q .if1 .left) (rw (c .enum-told .given .1) at (o .compute .ensures))
+    let p = words q in
+    evaluated-full _ (operation (start p)) _ _ _ _ (start p .pre .1) (lent p) (none-applies q)
+    (rw (c .enum-told .given .1) at (o .compute .ensures))
 
 same-length-2 : tie.Need-same-length-2
 same-length-2 c = search needs
@@ -99,10 +107,9 @@ returns-3 : tie.Need-returns-3
 returns-3 c =
     let o = c .before .before .before .before .before in
     let q = o .before .before in
-    let p = q .before .before in
+    let p = words q in
     let f = rw (c .before .n .given .1) at (o .compute .ensures) in
-    evaluated-done _ (operation (start p)) _ _ _ _ (start p .pre .1) (lent p)
-    (sym (q .before .agreement-refusal .ensures) ∙ q .if1 .left) _ _ (f .0) (f .1) (f .2)
+    evaluated-done _ (operation (start p)) _ _ _ _ (start p .pre .1) (lent p) (none-applies q) _ _ (f .0) (f .1) (f .2)
 
 pub evaluate-spec : {M : Type 1} → statement M
 evaluate-spec =

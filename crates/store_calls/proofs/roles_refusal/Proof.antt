@@ -3,7 +3,7 @@ use mathlib.Core.Path.{_≡_, sym, _∙_}
 use Rattle.requests.specs.Cases.{lowest}
 use Rattle.model.specs.Steps.{noSlot, roleCases}
 use Rattle.store_calls.proofs.Roles.{in-store}
-use Rattle.store_calls.proofs.Refusals.{slot-refused, number-refused, vacancy-last}
+use Rattle.store_calls.proofs.Refusals.{slot-refused, numbers-first}
 use borrow.Author.Needs.{needs}
 use Rattle.store_calls.proofs.roles_refusal.Statement.{statement}
 use Rattle.store_calls.proofs.roles_refusal.Tie as tie
@@ -21,19 +21,20 @@ returns c = slot-refused _ _ _ _ (c .before .slots-refusal .ensures) (c .if1 .ta
 numbers-refusal-requires : tie.Need-numbers-refusal-requires
 numbers-refusal-requires c κs = search needs
 
-returns-2 : tie.Need-returns-2
-returns-2 c = number-refused _ _ _ (slots-are (c .before .before)) _ (c .before .numbers-refusal .ensures) (c .if2 .taken)
-
 vacancy-refusal-requires : tie.Need-vacancy-refusal-requires
 vacancy-refusal-requires c κs =
-    let a = c .before .before in
-    (a .before .before .before .pre, in-store _ (slots-are a))
+    let q = c .before in
+    (q .before .before .before .pre, in-store _ (slots-are q))
 
-returns-3 : tie.Need-returns-3
-returns-3 c =
-    let b = c .before in
-    vacancy-last _ _ _ (slots-are (b .before .before)) (sym (b .before .numbers-refusal .ensures) ∙ b .if2 .left) _
-    (c .vacancy-refusal .ensures)
+first-of-requires : tie.Need-first-of-requires
+first-of-requires c κs = search needs
+
+returns-2 : tie.Need-returns-2
+returns-2 c =
+    let v = c .before in
+    let n = v .before in
+    numbers-first _ _ _ (slots-are (n .before)) _ _ _ (n .numbers-refusal .ensures) (v .vacancy-refusal .ensures)
+    (c .first-of .ensures)
 
 pub roles-refusal-spec : {M : Type 1} → statement M
 roles-refusal-spec =
@@ -42,6 +43,6 @@ roles-refusal-spec =
     slots-refusal-requires
     returns
     numbers-refusal-requires
-    returns-2
     vacancy-refusal-requires
-    returns-3)
+    first-of-requires
+    returns-2)

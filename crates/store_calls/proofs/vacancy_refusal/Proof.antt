@@ -3,7 +3,8 @@ use mathlib.Core.Path.{_≡_}
 use mathlib.Core.Bool.{false}
 use denote.Ref.{now}
 use Rattle.answers.specs.Refusals.{emptySlot}
-use Rattle.store_calls.proofs.Roles.{empty, found-empty, found-held, first-role, second-role, mask-role, output-role, no-role}
+use Rattle.store_calls.proofs.Roles.{empty, found-empty, found-held}
+use Rattle.store_calls.proofs.Roles.{first-role, second-role, mask-role, output-role, no-role}
 use borrow.Author.Needs.{needs}
 use Rattle.store_calls.proofs.vacancy_refusal.Statement.{statement}
 use Rattle.store_calls.proofs.vacancy_refusal.Tie as tie
@@ -33,7 +34,8 @@ contents-requires c κs = search needs
 returns : tie.Need-returns
 returns c =
     let x = c .before .before .before .args in
-    first-role emptySlot (empty (now (x .store))) (x .roles) (found-empty _ _ _ (c .before .contents .ensures .words) (c .if1 .taken))
+    first-role emptySlot (empty (now (x .store))) (x .roles)
+    (found-empty _ _ _ (c .before .contents .ensures .words) (c .if1 .taken))
 
 contents-requires-2 : tie.Need-contents-requires-2
 contents-requires-2 c κs = search needs
@@ -63,8 +65,8 @@ returns-4 c =
     let m = c .before .before in
     let b = m .before .before in
     let x = start₃ m .args in
-    output-role emptySlot (empty (now (x .store))) (x .roles) (first-held (b .before .before)) (second-held b) (mask-held m)
-    (found-empty _ _ _ (c .before .contents4 .ensures .words) (c .if4 .taken))
+    output-role emptySlot (empty (now (x .store))) (x .roles) (first-held (b .before .before)) (second-held b)
+    (mask-held m) (found-empty _ _ _ (c .before .contents4 .ensures .words) (c .if4 .taken))
 
 returns-5 : tie.Need-returns-5
 returns-5 c =

@@ -27,6 +27,12 @@ counted c = c .before .before .before
 abbrev tested : tie.After-find → tie.Else2
 tested c = c .before .before
 
+abbrev found : tie.After-resize → tie.After-find
+found c = c .before .before
+
+abbrev resized : tie.After-insert-entry → tie.After-resize
+resized c = c .before .before .before .before
+
 -- the slot's words and its entries
 long : (c : tie.After-contents)
     → length (now (c .contents .result)) ≡ length (slotAt (now (start c .args .store)) (start c .args .slot))
@@ -54,8 +60,8 @@ fits c =
       most = h .store .most;
       slot = h .slot;
       ends = start q .pre .1 .0;
-      room = fit (now (p .store)) (p .slot) (p .end) (length (now (q .contents .result)) + 2) (c .before .fits2 .ensures)
-          (c .if2 .left);
+      room = fit (now (p .store)) (p .slot) (p .end) (length (now (q .contents .result)) + 2)
+          (c .before .fits2 .ensures) (c .if2 .left);
     }
 
 inside : (c : tie.After-find) → let q = taken (counted (tested c)) in
@@ -125,11 +131,11 @@ resize-requires c κs = fits (tested (c .before))
 
 -- the slot is resized
 adding : (c : tie.After-resize) →
-    let f = c .before .before in let q = taken (counted (tested f)) in let p = start q .args in
+    let f = found c in let q = taken (counted (tested f)) in let p = start q .args in
     Adding (now (p .store)) (p .slot) (p .i) (p .j) (p .p) (p .end) (length (now (q .contents .result)))
     (f .find .result + 1) (c .resize .last .0)
 adding c =
-    let f = c .before .before in
+    let f = found c in
     let e = tested f in
     let q = taken (counted e) in
     let p = start q .pre in
@@ -144,10 +150,10 @@ adding c =
     }
 
 add-insert-entry : tie.Need-add-insert-entry
-add-insert-entry c = let i = inside (c .before .before .before .before) in omega arith
+add-insert-entry c = let i = inside (found (c .before .before)) in omega arith
 
 mul-insert-entry : tie.Need-mul-insert-entry
-mul-insert-entry c = let i = inside (c .before .before .before .before) in omega arith
+mul-insert-entry c = let i = inside (found (c .before .before)) in omega arith
 
 sub-insert-entry : tie.Need-sub-insert-entry
 sub-insert-entry c = search needs
@@ -156,14 +162,14 @@ part-insert-entry-start : tie.Need-part-insert-entry-start
 part-insert-entry-start c = search needs
 
 part-insert-entry-end : tie.Need-part-insert-entry-end
-part-insert-entry-end c = let i = inside (c .before .before .before .before) in omega arith
+part-insert-entry-end c = let i = inside (found (c .before .before)) in omega arith
 
 insert-entry-requires : tie.Need-insert-entry-requires
 insert-entry-requires c κs = let r = adding (c .before .before .before) in (add-in r, (add-entry r, add-space r))
 
 add-accepted : tie.Need-add-accepted
 add-accepted c =
-    let e = counted (tested (c .before .before .before .before .before .before .before .before)) in
+    let e = counted (tested (found (resized (c .before .before)))) in
     let n = count (e .before) in
     let f = few e in
     omega arith
@@ -177,11 +183,12 @@ same-length-3 c = search needs
 returns-3 : tie.Need-returns-3
 returns-3 c =
     let i = c .before .before .before in
-    let r = i .before .before .before .before in
-    let e = counted (tested (r .before .before)) in
+    let r = resized i in
+    let e = counted (tested (found r)) in
     let p = start (taken e) in
     rw (c .accepted .ensures)
-    (added-placed (adding r) (p .args .value) _ _ (ap (λ (n : ℕ). n + 1) (count (e .before))) (i .insert-entry .ensures))
+    (added-placed (adding r) (p .args .value) _ _ (ap (λ (n : ℕ). n + 1) (count (e .before)))
+    (i .insert-entry .ensures))
 
 pub add-spec : {M : Type 1} → statement M
 add-spec =

@@ -1,6 +1,6 @@
 -- `clear_cell` takes an entry out, or leaves the words.
 use Prim.Native.Nat.{ℕ}
-use mathlib.Core.Path.{_≡_, sym, ap, _∙_}
+use mathlib.Core.Path.{_≡_, refl, sym, ap, _∙_}
 use mathlib.Core.List.{List}
 use denote.Ref.{now}
 use Rattle.matrix.specs.Layout.{entries, gridOf}
@@ -30,7 +30,8 @@ origin c = start (stored (c .before) .before)
 store : (c : tie.Else1) → Checked (now (start (c .before) .args .store)) (c .before .check .result)
 store c = checked _ _ (c .before .check .ensures) (c .if1 .left)
 
-no-refusal : (c : tie.Else2) → let p = origin c .args in cellRefusal (modelOf (now (p .store))) (p .slot) (p .i) (p .j) ≡ 0
+no-refusal : (c : tie.Else2) →
+    let p = origin c .args in cellRefusal (modelOf (now (p .store))) (p .slot) (p .i) (p .j) ≡ 0
 no-refusal c = sym (c .before .cell-refusal .ensures) ∙ c .if2 .left
 
 cell : (c : tie.Else2) → let p = origin c .args in CellOf (now (p .store)) (p .slot) (p .i) (p .j)
@@ -46,6 +47,13 @@ entry-is c =
     let p = origin (passed c) .args in
     c .find-entry .ensures
     ∙ ap (λ (x : List ℕ). entryAt (gridOf x) (p .i) (p .j)) (c .before .contents .ensures .words)
+
+-- in each arm
+abbrev present : tie.After-p → tie.After-find-entry
+present c = c .before .before
+
+abbrev absent : tie.After-enum-told → tie.After-find-entry
+absent c = c .before .before
 
 check-requires : tie.Need-check-requires
 check-requires c κs = search needs
@@ -90,7 +98,7 @@ enum-known-p c = search needs
 take-requires : tie.Need-take-requires
 take-requires c κs =
     let q = c .before .before in
-    let f = q .before .before in
+    let f = present q in
     let e = passed f in
     (cell e, (store (stored (e .before)) .ends, sym (entry-is f) ∙ q .p .given .1))
 
@@ -98,15 +106,12 @@ enum-told : tie.Need-enum-told
 enum-told c = search needs
 
 contents-requires-2 : tie.Need-contents-requires-2
-contents-requires-2 c κs = let h = cell (passed (c .before .before .before)) in (h .store .sections, h .slot)
+contents-requires-2 c κs = let h = cell (passed (absent (c .before))) in (h .store .sections, h .slot)
 
 entry-count-requires : tie.Need-entry-count-requires
 entry-count-requires c κs =
-    let h = cell (passed (c .before .before .before .before)) in
+    let h = cell (passed (absent (c .before .before))) in
     rw (c .contents2 .ensures .words) (h .held .matrix .header)
-
-accepted-requires : tie.Need-accepted-requires
-accepted-requires c κs = search needs
 
 same-length-3 : tie.Need-same-length-3
 same-length-3 c = search needs
@@ -114,7 +119,7 @@ same-length-3 c = search needs
 returns-3 : tie.Need-returns-3
 returns-3 c =
     let r = c .before .before in
-    let e = passed (r .before .before .before .before .before) in
+    let e = passed (present (r .before .before .before)) in
     clear-performed (store (stored (e .before)) .valid) (no-refusal e) (cell e) _ _ (r .take .ensures)
 
 same-length-4 : tie.Need-same-length-4
@@ -122,14 +127,13 @@ same-length-4 c = search needs
 
 returns-4 : tie.Need-returns-4
 returns-4 c =
-    let n = c .before in
-    let w = n .before in
+    let w = c .before in
     let t = w .before .before in
-    let f = t .before .before in
+    let f = absent t in
     let e = passed f in
     clear-performed (store (stored (e .before)) .valid) (no-refusal e) (cell e) _ _
-    (cleared-put (cell e) _ _ (sym (entry-is f) ∙ t .enum-told .given .1) (c .accepted .ensures)
-    (n .entry-count .ensures ∙ ap entries (w .contents2 .ensures .words)))
+    (cleared-put (cell e) _ _ (sym (entry-is f) ∙ t .enum-told .given .1) refl
+    (c .entry-count .ensures ∙ ap entries (w .contents2 .ensures .words)))
 
 pub clear-cell-spec : {M : Type 1} → statement M
 clear-cell-spec =
@@ -150,7 +154,6 @@ clear-cell-spec =
     enum-told
     contents-requires-2
     entry-count-requires
-    accepted-requires
     same-length-3
     returns-3
     same-length-4

@@ -1,6 +1,6 @@
 -- `drop_slot` leaves a slot without words.
 use native.Mathlib.Omega.{arith}
-use mathlib.Core.Path.{_≡_, _∙_}
+use mathlib.Core.Path.{_∙_}
 use denote.Ref.{now}
 use Rattle.model.proofs.Performed.{performed-no-store}
 use Rattle.store_cells.proofs.Checks.{unchecked, Checked, checked}

@@ -8,6 +8,8 @@ use Rattle.matrix.specs.Layout.{cellOf}
 use Rattle.matrix.proofs.Facts.{row-span}
 use Rattle.cells.specs.Read.{foundAnswer}
 use Rattle.model.specs.Calls.{found}
+use Rattle.model.specs.Steps.{cellRefusal}
+use Rattle.model.specs.Stores.{modelOf}
 use Rattle.store_cells.specs.Slots.{CellOf}
 use Rattle.store_cells.proofs.Checks.{unchecked, Checked, checked}
 use Rattle.store_cells.proofs.Refusals.{cell-of}
@@ -23,9 +25,15 @@ start c = c .before .before
 store : (c : tie.Else1) → Checked (now (start (c .before) .args .store)) (c .before .check .result)
 store c = checked _ _ (c .before .check .ensures) (c .if1 .left)
 
-cell : (c : tie.Else2) →
-    let p = start (c .before .before .before) .args in CellOf (now (p .store)) (p .slot) (p .i) (p .j)
-cell c = cell-of _ _ _ _ (store (c .before .before) .store) (sym (c .before .cell-refusal .ensures) ∙ c .if2 .left)
+abbrev origin : tie.Else2 → tie.Start
+origin c = start (c .before .before .before)
+
+no-refusal : (c : tie.Else2) →
+    let p = origin c .args in cellRefusal (modelOf (now (p .store))) (p .slot) (p .i) (p .j) ≡ 0
+no-refusal c = sym (c .before .cell-refusal .ensures) ∙ c .if2 .left
+
+cell : (c : tie.Else2) → let p = origin c .args in CellOf (now (p .store)) (p .slot) (p .i) (p .j)
+cell c = cell-of _ _ _ _ (store (c .before .before) .store) (no-refusal c)
 
 check-requires : tie.Need-check-requires
 check-requires c κs = search needs
@@ -67,10 +75,10 @@ returns-3 : tie.Need-returns-3
 returns-3 c =
     let q = c .before .before in
     let e = q .before in
-    let p = start (e .before .before .before) .args in
+    let p = origin e .args in
     ap found (c .found .ensures ∙ ap foundAnswer (c .before .cell-at .ensures
     ∙ ap (λ (x : List ℕ). cellOf x (p .i) (p .j)) (q .contents .ensures .words)))
-    ∙ read-found _ _ _ _ (store (e .before .before) .valid) (sym (e .before .cell-refusal .ensures) ∙ e .if2 .left) (cell e)
+    ∙ read-found _ _ _ _ (store (e .before .before) .valid) (no-refusal e) (cell e)
 
 pub read-cell-spec : {M : Type 1} → statement M
 read-cell-spec =

@@ -29,7 +29,8 @@ origin c = start (stored (c .before) .before)
 store : (c : tie.Else1) → Checked (now (start (c .before) .args .store)) (c .before .check .result)
 store c = checked _ _ (c .before .check .ensures) (c .if1 .left)
 
-no-refusal : (c : tie.Else2) → let p = origin c .args in cellRefusal (modelOf (now (p .store))) (p .slot) (p .i) (p .j) ≡ 0
+no-refusal : (c : tie.Else2) →
+    let p = origin c .args in cellRefusal (modelOf (now (p .store))) (p .slot) (p .i) (p .j) ≡ 0
 no-refusal c = sym (c .before .cell-refusal .ensures) ∙ c .if2 .left
 
 cell : (c : tie.Else2) → let p = origin c .args in CellOf (now (p .store)) (p .slot) (p .i) (p .j)
@@ -45,6 +46,13 @@ entry-is c =
     let p = origin (passed c) .args in
     c .find-entry .ensures
     ∙ ap (λ (x : List ℕ). entryAt (gridOf x) (p .i) (p .j)) (c .before .contents .ensures .words)
+
+-- in each arm
+abbrev present : tie.After-p → tie.After-find-entry
+present c = c .before .before
+
+abbrev absent : tie.After-p2 → tie.After-find-entry
+absent c = c .before .before
 
 check-requires : tie.Need-check-requires
 check-requires c κs = search needs
@@ -89,7 +97,7 @@ enum-known-p c = search needs
 replace-requires : tie.Need-replace-requires
 replace-requires c κs =
     let q = c .before .before in
-    let f = q .before .before in
+    let f = present q in
     (cell (passed f), sym (entry-is f) ∙ q .p .given .1)
 
 enum-known-p-2 : tie.Need-enum-known-p-2
@@ -98,7 +106,7 @@ enum-known-p-2 c = search needs
 add-requires : tie.Need-add-requires
 add-requires c κs =
     let q = c .before .before in
-    let f = q .before .before in
+    let f = absent q in
     let e = passed f in
     (cell e, (store (stored (e .before)) .ends, sym (entry-is f) ∙ q .p2 .given .1))
 
@@ -108,7 +116,7 @@ same-length-3 c = search needs
 returns-3 : tie.Need-returns-3
 returns-3 c =
     let r = c .before .before in
-    let e = passed (r .before .before .before .before .before) in
+    let e = passed (present (r .before .before .before)) in
     set-performed (store (stored (e .before)) .valid) (no-refusal e) (cell e) _ _ _ (r .replace .ensures)
 
 same-length-4 : tie.Need-same-length-4
@@ -117,7 +125,7 @@ same-length-4 c = search needs
 returns-4 : tie.Need-returns-4
 returns-4 c =
     let r = c .before .before in
-    let e = passed (r .before .before .before .before .before) in
+    let e = passed (absent (r .before .before .before)) in
     set-performed (store (stored (e .before)) .valid) (no-refusal e) (cell e) _ _ _ (r .add .ensures)
 
 pub set-cell-spec : {M : Type 1} → statement M

@@ -9,7 +9,14 @@ use Rattle.words.proofs.Tests.{said-no, said-yes}
 use Rattle.matrix.specs.Valid.{inRange}
 use Rattle.matrix.proofs.Facts.{range-facts}
 use Rattle.store_cells.proofs.Checks.{no-fit, fit}
-use Rattle.store_cells.proofs.Shapes.{slot-refused, rows-refused, cols-refused, room-refused, shape-there}
+use Rattle.store_cells.proofs.Shapes.{
+  fixedWords,
+  slot-refused,
+  rows-refused,
+  cols-refused,
+  room-refused,
+  shape-there,
+}
 use borrow.Author.Needs.{needs}
 use Rattle.store_cells.proofs.shape_refusal.Statement.{statement}
 use Rattle.store_cells.proofs.shape_refusal.Tie as tie
@@ -25,7 +32,9 @@ cols-held : (c : tie.Else3) → inRange maxCols (start (c .before .before .befor
 cols-held c = said-yes (c .before .in-range2 .ensures) (c .if3 .left)
 
 returns : tie.Need-returns
-returns c = let p = c .before .before .args in slot-refused (now (p .store)) (p .slot) (p .rows) (p .cols) (omega arith)
+returns c =
+    let p = c .before .before .args in
+    slot-refused (now (p .store)) (p .slot) (p .rows) (p .cols) (omega arith)
 
 in-range-requires : tie.Need-in-range-requires
 in-range-requires c κs = search needs
@@ -62,7 +71,7 @@ returns-4 c =
     let p = start (e .before .before) .pre in
     let a = start (e .before .before) .args in
     let i = p .1 in
-    let d = no-fit (now (a .store)) (a .slot) (a .end) (a .rows + 7) (q .fits2 .ensures) (c .if4 .taken) in
+    let d = no-fit (now (a .store)) (a .slot) (a .end) (a .rows + fixedWords) (q .fits2 .ensures) (c .if4 .taken) in
     room-refused (now (a .store)) (a .slot) (a .rows) (a .cols) (omega arith) (rows-held e) (cols-held (q .before))
     (p .0) (omega arith)
 
@@ -73,7 +82,7 @@ returns-5 c =
     let p = start (e .before .before) .pre in
     let a = start (e .before .before) .args in
     let i = p .1 in
-    let d = fit (now (a .store)) (a .slot) (a .end) (a .rows + 7) (q .fits2 .ensures) (c .if4 .left) in
+    let d = fit (now (a .store)) (a .slot) (a .end) (a .rows + fixedWords) (q .fits2 .ensures) (c .if4 .left) in
     shape-there (now (a .store)) (a .slot) (a .rows) (a .cols) (omega arith) (rows-held e) (cols-held (q .before))
     (p .0) (omega arith)
 

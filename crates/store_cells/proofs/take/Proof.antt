@@ -1,6 +1,6 @@
 -- `take` removes the entry from the slot's words, and gives up the last two.
 use native.Mathlib.Omega.{arith}
-use Prim.Native.Nat.{ℕ, _+_, _-_, _≤_}
+use Prim.Native.Nat.{ℕ, _+_, _≤_}
 use mathlib.Core.Path.{_≡_, ap, _∙_}
 use denote.Ref.{now}
 use lib.ListN.{length}
@@ -17,8 +17,17 @@ use Rattle.store_cells.proofs.take.Tie as tie
 abbrev start : tie.After-contents → tie.Start
 start c = c .before .before .before
 
+abbrev counted : tie.After-find → tie.After-entry-count
+counted c = c .before .before
+
 abbrev taken : tie.After-find → tie.After-contents
-taken c = c .before .before .before
+taken c = counted c .before
+
+abbrev found : tie.After-remove-entry → tie.After-find
+found c = c .before .before
+
+abbrev edited : tie.After-resize → tie.After-remove-entry
+edited c = c .before .before .before .before
 
 -- the length of the slot's words, and that they are within the store
 long : (c : tie.After-contents)
@@ -69,11 +78,11 @@ remove-entry-requires c κs =
 
 -- the entry is removed
 removed : (c : tie.After-remove-entry) →
-    let f = c .before .before in let q = taken f in let p = start q .args in
+    let f = found c in let q = taken f in let p = start q .args in
     Removed (now (p .store)) (p .slot) (p .i) (p .j) (p .p) (p .end) (length (now (q .contents .result)))
     (f .find .result + 1) (c .remove-entry .last .0)
 removed c =
-    let f = c .before .before in
+    let f = found c in
     let q = taken f in
     let p = start q .pre in
     record {
@@ -87,7 +96,7 @@ removed c =
 
 sub-resize : tie.Need-sub-resize
 sub-resize c =
-    let q = taken (c .before .before .before .before .before) in
+    let q = taken (found (c .before .before .before)) in
     let l = long q in
     let w = start q .pre .0 .held .whole in
     omega arith
@@ -97,7 +106,7 @@ resize-requires c κs = taken-fits (removed (c .before .before .before))
 
 sub-accepted : tie.Need-sub-accepted
 sub-accepted c =
-    let n = c .before .before .before .before .before .before .before .before .before .before in
+    let n = counted (found (edited (c .before .before))) in
     let p = start (n .before) .pre in
     let m = count n in
     let t = taken-count (slot-in (p .0)) _ (p .1 .1) in
@@ -112,12 +121,15 @@ same-length c = search needs
 returns : tie.Need-returns
 returns c =
     let z = c .before .before .before in
-    let r = z .before .before .before .before in
-    let n = r .before .before .before .before in
+    let r = edited z in
+    let n = counted (found r) in
     let p = start (n .before) .pre in
     let m = count n in
     let t = taken-count (slot-in (p .0)) (start (n .before) .args .p) (p .1 .1) in
-    record { answer-is = c .accepted .ensures ∙ ap accepted (omega arith); words-are = z .resize .ensures ∙ taken-put (removed r) }
+    record {
+      answer-is = c .accepted .ensures ∙ ap accepted (omega arith);
+      words-are = z .resize .ensures ∙ taken-put (removed r);
+    }
 
 pub take-spec : {M : Type 1} → statement M
 take-spec =
