@@ -29,7 +29,8 @@ pub fn mxm<'a>(
     c: &mut [u32],
     work: &mut [u32],
 ) -> Answer
-    ensures { λ r. ⌜ Completed (mxmCall options monoid op) (now (a .entry)) (now (b .entry)) (now (mask .entry)) (now (c .entry)) [] [] (now (work .entry)) r (now (c .exit)) (now (work .exit)) ⌝ }
+    ensures { λ r. ⌜ Completed (mxmCall options monoid op) (now (a .entry)) (now (b .entry)) (now (mask .entry))
+        (now (c .entry)) [] [] (now (work .entry)) r (now (c .exit)) (now (work .exit)) ⌝ }
 {
     run(
         call_codes::mxm_call(options, monoid, op),
@@ -54,7 +55,8 @@ pub fn vxm<'a>(
     c: &mut [u32],
     work: &mut [u32],
 ) -> Answer
-    ensures { λ r. ⌜ Completed (vxmCall options monoid op) (now (u .entry)) (now (a .entry)) (now (mask .entry)) (now (c .entry)) [] [] (now (work .entry)) r (now (c .exit)) (now (work .exit)) ⌝ }
+    ensures { λ r. ⌜ Completed (vxmCall options monoid op) (now (u .entry)) (now (a .entry)) (now (mask .entry))
+        (now (c .entry)) [] [] (now (work .entry)) r (now (c .exit)) (now (work .exit)) ⌝ }
 {
     run(
         call_codes::vxm_call(options, monoid, op),
@@ -78,7 +80,8 @@ pub fn ewise_mult<'a>(
     c: &mut [u32],
     work: &mut [u32],
 ) -> Answer
-    ensures { λ r. ⌜ Completed (ewiseMultCall options op) (now (a .entry)) (now (b .entry)) (now (mask .entry)) (now (c .entry)) [] [] (now (work .entry)) r (now (c .exit)) (now (work .exit)) ⌝ }
+    ensures { λ r. ⌜ Completed (ewiseMultCall options op) (now (a .entry)) (now (b .entry)) (now (mask .entry))
+        (now (c .entry)) [] [] (now (work .entry)) r (now (c .exit)) (now (work .exit)) ⌝ }
 {
     run(
         call_codes::ewise_mult_call(options, op),
@@ -102,7 +105,8 @@ pub fn ewise_add<'a>(
     c: &mut [u32],
     work: &mut [u32],
 ) -> Answer
-    ensures { λ r. ⌜ Completed (ewiseAddCall options op) (now (a .entry)) (now (b .entry)) (now (mask .entry)) (now (c .entry)) [] [] (now (work .entry)) r (now (c .exit)) (now (work .exit)) ⌝ }
+    ensures { λ r. ⌜ Completed (ewiseAddCall options op) (now (a .entry)) (now (b .entry)) (now (mask .entry))
+        (now (c .entry)) [] [] (now (work .entry)) r (now (c .exit)) (now (work .exit)) ⌝ }
 {
     run(
         call_codes::ewise_add_call(options, op),
@@ -127,7 +131,8 @@ pub fn apply(
     c: &mut [u32],
     work: &mut [u32],
 ) -> Answer
-    ensures { λ r. ⌜ Completed (applyCall options kind op scalar) (now (a .entry)) [] (now (mask .entry)) (now (c .entry)) [] [] (now (work .entry)) r (now (c .exit)) (now (work .exit)) ⌝ }
+    ensures { λ r. ⌜ Completed (applyCall options kind op scalar) (now (a .entry)) [] (now (mask .entry))
+        (now (c .entry)) [] [] (now (work .entry)) r (now (c .exit)) (now (work .exit)) ⌝ }
 {
     run(
         call_codes::apply_call(options, kind, op, scalar),
@@ -151,7 +156,8 @@ pub fn extract(
     c: &mut [u32],
     work: &mut [u32],
 ) -> Answer
-    ensures { λ r. ⌜ Completed (extractCall options) (now (a .entry)) [] (now (mask .entry)) (now (c .entry)) (now (is .entry)) (now (js .entry)) (now (work .entry)) r (now (c .exit)) (now (work .exit)) ⌝ }
+    ensures { λ r. ⌜ Completed (extractCall options) (now (a .entry)) [] (now (mask .entry)) (now (c .entry))
+        (now (is .entry)) (now (js .entry)) (now (work .entry)) r (now (c .exit)) (now (work .exit)) ⌝ }
 {
     run(
         call_codes::extract_call(options),
@@ -176,7 +182,8 @@ fn run<'a>(
     c: &mut [u32],
     work: &mut [u32],
 ) -> Answer
-    ensures { λ r. ⌜ Completed call (now (a .entry)) (now (b .entry)) (now (mask .entry)) (now (c .entry)) (now (is .entry)) (now (js .entry)) (now (work .entry)) r (now (c .exit)) (now (work .exit)) ⌝ }
+    ensures { λ r. ⌜ Completed call (now (a .entry)) (now (b .entry)) (now (mask .entry)) (now (c .entry))
+        (now (is .entry)) (now (js .entry)) (now (work .entry)) r (now (c .exit)) (now (work .exit)) ⌝ }
 {
     let answer = attempt(call, a, b, mask, is, js, c, work);
     words::clear(work);
@@ -194,7 +201,8 @@ fn attempt<'a>(
     c: &mut [u32],
     work: &mut [u32],
 ) -> Answer
-    ensures { λ r. ⌜ Attempted call (now (a .entry)) (now (b .entry)) (now (mask .entry)) (now (c .entry)) (now (is .entry)) (now (js .entry)) (length (now (work .entry))) r (now (c .exit)) ⌝ }
+    ensures { λ r. ⌜ Attempted call (now (a .entry)) (now (b .entry)) (now (mask .entry)) (now (c .entry))
+        (now (is .entry)) (now (js .entry)) (length (now (work .entry))) r (now (c .exit)) ⌝ }
 {
     let code = requests::input_refusal(call, a, b, mask, &c[..], is, js, work.len());
     if code != 0 {

@@ -46,8 +46,10 @@ pub fn compute<'a>(
     js: &[u32],
     work: &mut [u32],
 ) -> Outcome
-    requires { ⌜ Ready call (now a) (now b) (now mask) (now c) (now is) (now js) ⌝ ∗ ⌜ workspaceWords ≤ length (now work) ⌝ }
-    ensures { λ r. ⌜ Computed r (lentFinal call (now (a .entry)) (now (b .entry)) (now (mask .entry)) (now (c .entry)) (now (is .entry)) (now (js .entry))) (now (work .exit)) ⌝ }
+    requires { ⌜ Ready call (now a) (now b) (now mask) (now c) (now is) (now js) ⌝
+        ∗ ⌜ workspaceWords ≤ length (now work) ⌝ }
+    ensures { λ r. ⌜ Computed r (lentFinal call (now (a .entry)) (now (b .entry)) (now (mask .entry)) (now (c .entry))
+        (now (is .entry)) (now (js .entry))) (now (work .exit)) ⌝ }
 {
     let first = requests::transpose_first(call);
     orient(first, a, &mut work[FIRST_AT..SECOND_AT]);
@@ -70,7 +72,8 @@ fn second_flag(call: Call) -> bool
 // The transpose of a matrix, where it is asked for.
 fn orient(flag: bool, a: &[u32], out: &mut [u32])
     requires { ⌜ (flag ≡ true → Matrix (now a)) ⌝ ∗ ⌜ maxMatrixWords ≤ length (now out) ⌝ }
-    ensures { λ _. ⌜ now (out .exit) ≡ cond flag (writtenOver (transposed (gridOf (now (a .entry)))) (now (out .entry))) (now (out .entry)) ⌝ }
+    ensures { λ _. ⌜ now (out .exit) ≡ cond flag (writtenOver (transposed (gridOf (now (a .entry))))
+        (now (out .entry))) (now (out .entry)) ⌝ }
 {
     if flag {
         transpose::transpose(a, out);
@@ -170,7 +173,8 @@ fn final_row<'a>(
     oc: &mut [u32],
     ov: &mut [u32],
 ) -> usize
-    requires { ⌜ Ready call (now a) (now b) (now mask) (now c) (now is) (now js) ⌝ ∗ ⌜ Sources call (now a) (now b) (now work) ⌝ }
+    requires { ⌜ Ready call (now a) (now b) (now mask) (now c) (now is) (now js) ⌝
+        ∗ ⌜ Sources call (now a) (now b) (now work) ⌝ }
     requires { ⌜ (first ≡ transposeFirst call) × (second ≡ secondFlag call) ⌝ ∗ ⌜ workspaceWords ≤ length (now work) ⌝ }
     requires { ⌜ i < rows (now c) ⌝ ∗ ⌜ RowBuffers (now tc) (now tv) (now oc) (now ov) ⌝ }
     ensures { λ r. ⌜ Holds (cols (now (c .entry)))
@@ -204,8 +208,11 @@ fn advance<'a>(
     oc: &mut [u32],
     ov: &mut [u32],
 ) -> usize
-    requires { ⌜ Progress call (now a) (now b) (now mask) (now c) (now is) (now js) first second (now work) (now tc) (now tv) (now oc) (now ov) total n i ⌝ ∗ ⌜ i < total ⌝ }
-    ensures { λ r. ⌜ Advanced call (now (a .entry)) (now (b .entry)) (now (mask .entry)) (now (c .entry)) (now (is .entry)) (now (js .entry)) first second (now (work .exit)) (now (tc .exit)) (now (tv .exit)) (now (oc .exit)) (now (ov .exit)) total r i ⌝ }
+    requires { ⌜ Progress call (now a) (now b) (now mask) (now c) (now is) (now js) first second (now work) (now tc)
+        (now tv) (now oc) (now ov) total n i ⌝ ∗ ⌜ i < total ⌝ }
+    ensures { λ r. ⌜ Advanced call (now (a .entry)) (now (b .entry)) (now (mask .entry)) (now (c .entry))
+        (now (is .entry)) (now (js .entry)) first second (now (work .exit)) (now (tc .exit)) (now (tv .exit))
+        (now (oc .exit)) (now (ov .exit)) total r i ⌝ }
 {
     let m = final_row(
         call,
@@ -256,10 +263,12 @@ fn all_rows<'a>(
     oc: &mut [u32],
     ov: &mut [u32],
 ) -> Outcome
-    requires { ⌜ Ready call (now a) (now b) (now mask) (now c) (now is) (now js) ⌝ ∗ ⌜ Sources call (now a) (now b) (now work) ⌝ }
+    requires { ⌜ Ready call (now a) (now b) (now mask) (now c) (now is) (now js) ⌝
+        ∗ ⌜ Sources call (now a) (now b) (now work) ⌝ }
     requires { ⌜ (first ≡ transposeFirst call) × (second ≡ secondFlag call) ⌝ ∗ ⌜ workspaceWords ≤ length (now work) ⌝ }
     requires { ⌜ RowBuffers (now tc) (now tv) (now oc) (now ov) ⌝ }
-    ensures { λ r. ⌜ Computed r (lentFinal call (now (a .entry)) (now (b .entry)) (now (mask .entry)) (now (c .entry)) (now (is .entry)) (now (js .entry))) (now (work .exit)) ⌝ }
+    ensures { λ r. ⌜ Computed r (lentFinal call (now (a .entry)) (now (b .entry)) (now (mask .entry)) (now (c .entry))
+        (now (is .entry)) (now (js .entry))) (now (work .exit)) ⌝ }
 {
     let total = matrix::row_count(c) as usize;
     let mut n: usize = 0;
@@ -311,9 +320,11 @@ fn compute_rows<'a>(
     js: &[u32],
     work: &mut [u32],
 ) -> Outcome
-    requires { ⌜ Ready call (now a) (now b) (now mask) (now c) (now is) (now js) ⌝ ∗ ⌜ Sources call (now a) (now b) (now work) ⌝ }
+    requires { ⌜ Ready call (now a) (now b) (now mask) (now c) (now is) (now js) ⌝
+        ∗ ⌜ Sources call (now a) (now b) (now work) ⌝ }
     requires { ⌜ (first ≡ transposeFirst call) × (second ≡ secondFlag call) ⌝ ∗ ⌜ workspaceWords ≤ length (now work) ⌝ }
-    ensures { λ r. ⌜ Computed r (lentFinal call (now (a .entry)) (now (b .entry)) (now (mask .entry)) (now (c .entry)) (now (is .entry)) (now (js .entry))) (now (work .exit)) ⌝ }
+    ensures { λ r. ⌜ Computed r (lentFinal call (now (a .entry)) (now (b .entry)) (now (mask .entry)) (now (c .entry))
+        (now (is .entry)) (now (js .entry))) (now (work .exit)) ⌝ }
 {
     let mut tc = [0u32; ROW_PLACES];
     let mut tv = [0u32; ROW_PLACES];

@@ -15,7 +15,8 @@ pub fn spread_row(
     cells: &mut [u32; ROW_PLACES],
 )
     requires { ⌜ Row maxCols (now columns) (now values) ⌝ ∗ ⌜ Spread (λ j. Absent) (now marks) (now cells) ⌝ }
-    ensures { λ _. ⌜ Spread (lookup (now (columns .entry)) (now (values .entry))) (now (marks .exit)) (now (cells .exit)) ⌝ }
+    ensures { λ _. ⌜ Spread (lookup (now (columns .entry)) (now (values .entry))) (now (marks .exit))
+        (now (cells .exit)) ⌝ }
 {
     let mut p: usize = 0;
     while p < columns.len() {
@@ -35,7 +36,8 @@ pub fn gather_row(
     ov: &mut [u32],
 ) -> usize
     requires { ⌜ (places ≤ maxCols) × (places ≤ length (now oc)) × (places ≤ length (now ov)) ⌝ }
-    ensures { λ r. ⌜ Holds places (dense (now (marks .entry)) (now (cells .entry))) r (now (oc .exit)) (now (ov .exit)) ⌝ }
+    ensures { λ r. ⌜ Holds places (dense (now (marks .entry)) (now (cells .entry))) r (now (oc .exit))
+        (now (ov .exit)) ⌝ }
 {
     let mut e: usize = 0;
     let mut j: usize = 0;

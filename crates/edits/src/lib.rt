@@ -45,7 +45,8 @@ pub fn find_entry(words: &[u32], i: usize, j: u32) -> EntryAt
 // The entry of row i and column j, at position p, takes the value v.
 pub fn replace_value(words: &mut [u32], i: usize, j: u32, p: usize, v: u32)
     requires { ⌜ InMatrix (now words) i j ⌝ ∗ ⌜ entryAt (gridOf (now words)) i j ≡ entry.Present p ⌝ }
-    ensures { λ _. ⌜ now (words .exit) ≡ writtenOver (withCell (gridOf (now (words .entry))) i j (Present v)) (now (words .entry)) ⌝ }
+    ensures { λ _. ⌜ now (words .exit) ≡ writtenOver (withCell (gridOf (now (words .entry))) i j (Present v))
+        (now (words .entry)) ⌝ }
 {
     let r = words[ROWS_AT] as usize;
     let n = words[r + COUNT_PAST] as usize;
@@ -54,8 +55,10 @@ pub fn replace_value(words: &mut [u32], i: usize, j: u32, p: usize, v: u32)
 
 // Row i and column j, which has no entry, gets one with the value v, at position p. Each word is moved at most once.
 pub fn insert_entry(words: &mut [u32], i: usize, j: u32, p: usize, v: u32)
-    requires { ⌜ InMatrix (now words) i j ⌝ ∗ ⌜ entryAt (gridOf (now words)) i j ≡ entry.Absent p ⌝ ∗ ⌜ HasSpace (now words) ⌝ }
-    ensures { λ _. ⌜ now (words .exit) ≡ writtenOver (withCell (gridOf (now (words .entry))) i j (Present v)) (now (words .entry)) ⌝ }
+    requires { ⌜ InMatrix (now words) i j ⌝ ∗ ⌜ entryAt (gridOf (now words)) i j ≡ entry.Absent p ⌝
+        ∗ ⌜ HasSpace (now words) ⌝ }
+    ensures { λ _. ⌜ now (words .exit) ≡ writtenOver (withCell (gridOf (now (words .entry))) i j (Present v))
+        (now (words .entry)) ⌝ }
 {
     let r = words[ROWS_AT] as usize;
     let n = words[r + COUNT_PAST] as usize;
@@ -66,7 +69,8 @@ pub fn insert_entry(words: &mut [u32], i: usize, j: u32, p: usize, v: u32)
 // Row i and column j loses its entry, at position p. Each word is moved at most once.
 pub fn remove_entry(words: &mut [u32], i: usize, j: u32, p: usize)
     requires { ⌜ InMatrix (now words) i j ⌝ ∗ ⌜ entryAt (gridOf (now words)) i j ≡ entry.Present p ⌝ }
-    ensures { λ _. ⌜ now (words .exit) ≡ writtenOver (withCell (gridOf (now (words .entry))) i j Absent) (now (words .entry)) ⌝ }
+    ensures { λ _. ⌜ now (words .exit) ≡ writtenOver (withCell (gridOf (now (words .entry))) i j Absent)
+        (now (words .entry)) ⌝ }
 {
     let r = words[ROWS_AT] as usize;
     let n = words[r + COUNT_PAST] as usize;

@@ -140,5 +140,9 @@ possible κ₁ κ₂ κ₄ s (setCell k i j v) =
 possible κ₁ κ₂ κ₄ s (clearCell k i j) =
     record { answer = _; after = _; step = clear-cell-step somewhere κ₁ (writes s (clearCell k i j) (wrote-either (storeValid s) _ _)) }
 possible κ₁ κ₂ κ₄ s (readCell k i j) =
-    record { answer = _; after = _; step = read-cell-step {answer = cellIn (replyOn s (readCell k i j))} somewhere κ₁ (found-either (storeValid s) _ _) }
+    record {
+      answer = _;
+      after = _;
+      step = read-cell-step {answer = cellIn (replyOn s (readCell k i j))} somewhere κ₁ (found-either (storeValid s) _ _);
+    }
 possible κ₁ κ₂ κ₄ s (operation x) = operates κ₂ κ₄ s x

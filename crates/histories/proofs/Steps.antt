@@ -159,14 +159,17 @@ module _ (n : ℕ) (m m′ : Model) (a : Alike m m′) where
       → Alike (set m k (holding (withCell (gridAt m k) i j x))) (set m′ k (holding (withCell (gridAt m′ k) i j x)))
   put-same k i j x = alike-set m m′ k _ _ a (changed k i j x)
 
+  -- 10 and 11 of a value put into a cell
+  abbrev outputsOf : Model → ℕ → ℕ → ℕ → ℕ → List Case
+  outputsOf x k i j v =
+      outputCases (withValue x k i j v) (wordsNeeded (set x k (holding (withValue x k i j v)))) n
+
   set-same : (k i j v : ℕ) → setRefusal n m k i j v ≡ setRefusal n m′ k i j v
   unfolding setRefusal
   set-same k i j v =
       let e = output-same k (withValue m k i j v) (withValue m′ k i j v) (changed k i j (Present v)) in
-      let f = no-grid k in
-      let g = no-cell k i j in
-      ap (λ (x : Case). lowest (noSlot k ∷ x ∷ noCell (gridAt m k) i j ∷ outputCases (withValue m k i j v) (wordsNeeded (set m k (holding (withValue m k i j v)))) n)) f
-      ∙ ap (λ (x : Case). lowest (noSlot k ∷ noGrid m′ k ∷ x ∷ outputCases (withValue m k i j v) (wordsNeeded (set m k (holding (withValue m k i j v)))) n)) g
+      ap (λ (x : Case). lowest (noSlot k ∷ x ∷ noCell (gridAt m k) i j ∷ outputsOf m k i j v)) (no-grid k)
+      ∙ ap (λ (x : Case). lowest (noSlot k ∷ noGrid m′ k ∷ x ∷ outputsOf m k i j v)) (no-cell k i j)
       ∙ ap (λ (x : List Case). lowest (noSlot k ∷ noGrid m′ k ∷ noCell (gridAt m′ k) i j ∷ x)) e
 
   cell-same : (k i j : ℕ) → cellRefusal m k i j ≡ cellRefusal m′ k i j

@@ -82,7 +82,8 @@ pub fn col_count(words: &[u32]) -> u32
 // The column numbers of row i.
 pub fn row_columns(words: &[u32], i: usize) -> &[u32]
     requires { ⌜ Header (now words) ⌝ ∗ ⌜ RowSpan (now words) i ⌝ }
-    ensures { λ r. ⌜ PartOf r (words .entry) (columnsFrom (now (words .entry)) i) (columnsFrom (now (words .entry)) (i + 1)) ⌝ }
+    ensures { λ r. ⌜ PartOf r (words .entry) (columnsFrom (now (words .entry)) i)
+        (columnsFrom (now (words .entry)) (i + 1)) ⌝ }
 {
     let r = words[ROWS_AT] as usize;
     let from = r + COLUMNS_PAST + words[i + STARTS_AT] as usize;
@@ -93,7 +94,8 @@ pub fn row_columns(words: &[u32], i: usize) -> &[u32]
 // The values of row i.
 pub fn row_values(words: &[u32], i: usize) -> &[u32]
     requires { ⌜ Header (now words) ⌝ ∗ ⌜ RowSpan (now words) i ⌝ }
-    ensures { λ r. ⌜ PartOf r (words .entry) (valuesFrom (now (words .entry)) i) (valuesFrom (now (words .entry)) (i + 1)) ⌝ }
+    ensures { λ r. ⌜ PartOf r (words .entry) (valuesFrom (now (words .entry)) i)
+        (valuesFrom (now (words .entry)) (i + 1)) ⌝ }
 {
     let r = words[ROWS_AT] as usize;
     let n = words[r + COUNT_PAST] as usize;

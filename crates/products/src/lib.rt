@@ -77,7 +77,8 @@ fn add_matrix_row(
     marks: &mut [u32; ROW_PLACES],
     cells: &mut [u32; ROW_PLACES],
 )
-    requires { ⌜ Header (now b) ⌝ ∗ ⌜ RowSpan (now b) k ⌝ ∗ ⌜ Row maxCols (rowColumns (now b) k) (rowValues (now b) k) ⌝ }
+    requires { ⌜ Header (now b) ⌝ ∗ ⌜ RowSpan (now b) k ⌝ ∗ ⌜ Row maxCols (rowColumns (now b) k) (rowValues (now b) k)
+        ⌝ }
     requires { ⌜ Sized (now marks) (now cells) ⌝ }
     ensures { λ _. ⌜ Spread
         (addedRow monoid op x (cellOf (now (b .entry)) k) (dense (now (marks .entry)) (now (cells .entry))))

@@ -41,7 +41,8 @@ pub fn input_refusal(
     js: &[u32],
     work: usize,
 ) -> u32
-    ensures { λ r. ⌜ r ≡ inputRefusal call (now (a .entry)) (now (b .entry)) (now (mask .entry)) (now (c .entry)) (now (is .entry)) (now (js .entry)) work ⌝ }
+    ensures { λ r. ⌜ r ≡ inputRefusal call (now (a .entry)) (now (b .entry)) (now (mask .entry)) (now (c .entry))
+        (now (is .entry)) (now (js .entry)) work ⌝ }
 {
     let number = numbers_refusal(call);
     if number != 0 {
@@ -100,7 +101,8 @@ pub fn agreement_refusal(
     work: usize,
 ) -> u32
     requires { ⌜ Valid call (now a) (now b) (now mask) (now c) ⌝ }
-    ensures { λ r. ⌜ r ≡ agreementRefusal call (gridOf (now (a .entry))) (gridOf (now (b .entry))) (gridOf (now (mask .entry))) (gridOf (now (c .entry))) (now (is .entry)) (now (js .entry)) work ⌝ }
+    ensures { λ r. ⌜ r ≡ agreementRefusal call (gridOf (now (a .entry))) (gridOf (now (b .entry)))
+        (gridOf (now (mask .entry))) (gridOf (now (c .entry))) (now (is .entry)) (now (js .entry)) work ⌝ }
 {
     if !indexes_valid(call, a, is, js) {
         return INDEX_OUT_OF_BOUNDS;
@@ -305,7 +307,8 @@ fn all_same(first: Shape, second: Shape, c: Shape) -> bool
 // The shape of the second input as its flag asks; where there is none, any shape.
 fn second_shape(call: Call, b: &[u32]) -> Shape
     requires { ⌜ (hasSecond (call .operation) ≡ true → Matrix (now b)) ⌝ }
-    ensures { λ r. ⌜ (hasSecond (call .operation) ≡ true → r ≡ shapeOf (oriented (transposeSecond call) (gridOf (now (b .entry))))) ⌝ }
+    ensures { λ r. ⌜ (hasSecond (call .operation) ≡ true → r ≡ shapeOf
+        (oriented (transposeSecond call) (gridOf (now (b .entry))))) ⌝ }
 {
     let operation = call.operation;
     if !has_second(operation) {
@@ -349,7 +352,8 @@ fn shapes_agree(
     js: &[u32],
 ) -> bool
     requires { ⌜ Valid call (now a) (now b) (now mask) (now c) ⌝ }
-    ensures { λ r. ⌜ r ≡ shapesAgree call (gridOf (now (a .entry))) (gridOf (now (b .entry))) (gridOf (now (mask .entry))) (gridOf (now (c .entry))) (now (is .entry)) (now (js .entry)) ⌝ }
+    ensures { λ r. ⌜ r ≡ shapesAgree call (gridOf (now (a .entry))) (gridOf (now (b .entry)))
+        (gridOf (now (mask .entry))) (gridOf (now (c .entry))) (now (is .entry)) (now (js .entry)) ⌝ }
 {
     let first = shape_of(a, transpose_first(call));
     if !vector_agrees(call, first) {

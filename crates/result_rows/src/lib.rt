@@ -29,8 +29,10 @@ pub fn result_row(
     ov: &mut [u32],
 ) -> usize
     requires { ⌜ RowInputs operation (now a) (now b) (now is) (now js) i ⌝ }
-    requires { ⌜ Buffers (resultGrid operation flag (gridOf (now a)) (gridOf (now b)) (now is) (now js)) (now oc) (now ov) ⌝ }
-    ensures { λ r. ⌜ Holds (resultGrid operation flag (gridOf (now (a .entry))) (gridOf (now (b .entry))) (now (is .entry)) (now (js .entry)) .cols)
+    requires { ⌜ Buffers (resultGrid operation flag (gridOf (now a)) (gridOf (now b)) (now is) (now js)) (now oc)
+        (now ov) ⌝ }
+    ensures { λ r. ⌜ Holds (resultGrid operation flag (gridOf (now (a .entry))) (gridOf (now (b .entry)))
+        (now (is .entry)) (now (js .entry)) .cols)
         (resultGrid operation flag (gridOf (now (a .entry))) (gridOf (now (b .entry))) (now (is .entry)) (now (js .entry)) .cell i)
         r (now (oc .exit)) (now (ov .exit)) ⌝ }
 {

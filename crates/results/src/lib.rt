@@ -20,7 +20,8 @@ pub const STAGED_VALUES_AT: usize = MAX_MATRIX_WORDS - MAX_ENTRIES as usize;
 // Row i of a result of `rows` rows, after n entries: its start, its column numbers and its values.
 pub fn stage_row(work: &mut [u32], rows: usize, i: usize, n: usize, columns: &[u32], values: &[u32])
     requires { ⌜ RowBounds rows i n (now columns) (now values) (now work) ⌝ }
-    ensures { λ _. ⌜ now (work .exit) ≡ stagedRow rows i n (now (columns .entry)) (now (values .entry)) (now (work .entry)) ⌝ }
+    ensures { λ _. ⌜ now (work .exit) ≡ stagedRow rows i n (now (columns .entry)) (now (values .entry))
+        (now (work .entry)) ⌝ }
 {
     work[i + STARTS_AT] = n as u32;
     words::copy_into(work, rows + COLUMNS_PAST + n, columns);

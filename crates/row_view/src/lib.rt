@@ -16,7 +16,8 @@ pub enum Section {
 
 // The part of row i that is shown.
 pub fn row_view<'a>(first: &'a [u32], second: &'a [u32], i: u32, section: Section) -> &'a [u32]
-    ensures { λ r. ⌜ Shown r (first .entry) (second .entry) (rowView section (now (first .entry)) (now (second .entry)) i) ⌝ }
+    ensures { λ r. ⌜ Shown r (first .entry) (second .entry) (rowView section (now (first .entry))
+        (now (second .entry)) i) ⌝ }
 {
     if !row_viewable(first, second, i) {
         return &first[0..0];
@@ -51,7 +52,8 @@ fn row_viewable(first: &[u32], second: &[u32], i: u32) -> bool
 // The section asked of row i of a valid matrix.
 fn row_section(words: &[u32], i: usize, section: Section) -> &[u32]
     requires { ⌜ Header (now words) ⌝ ∗ ⌜ RowSpan (now words) i ⌝ }
-    ensures { λ r. ⌜ PartOf r (words .entry) (sectionFrom section (now (words .entry)) i) (sectionTo section (now (words .entry)) i) ⌝ }
+    ensures { λ r. ⌜ PartOf r (words .entry) (sectionFrom section (now (words .entry)) i)
+        (sectionTo section (now (words .entry)) i) ⌝ }
 {
     match section {
         Section::Columns => matrix::row_columns(words, i),

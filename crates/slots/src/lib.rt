@@ -66,7 +66,8 @@ pub fn contents(store: &[u32], slot: usize) -> &[u32]
 // Whether there is room for a slot's contents of `size` words.
 pub fn fits(store: &[u32], slot: usize, end: usize, size: usize) -> bool
     requires { ⌜ Sections slotCount (now store) ⌝ ∗ ⌜ slot < slotCount ⌝ }
-    requires { ⌜ end ≡ endFrom slotCount (now store) ⌝ ∗ ⌜ length (now store) ≤ maxStoreWords ⌝ ∗ ⌜ size ≤ maxMatrixWords + 2 ⌝ }
+    requires { ⌜ end ≡ endFrom slotCount (now store) ⌝ ∗ ⌜ length (now store) ≤ maxStoreWords ⌝
+        ∗ ⌜ size ≤ maxMatrixWords + 2 ⌝ }
     ensures { λ r. ⌜ r ≡ leb (end - countAt (now (store .entry)) slot + size) (length (now (store .entry))) ⌝ }
 {
     let at = find(store, slot);

@@ -36,7 +36,9 @@ pub fn mxm(
     c: usize,
     work: &mut [u32],
 ) -> Answer
-    ensures { λ r. ⌜ Performed (now (store .entry)) (operation (mxm options monoid op a b mask c (length (now (work .entry))))) (wrote r) (now (store .exit)) ⌝ ∗ ⌜ now (work .exit) ≡ replicate (length (now (work .entry))) 0 ⌝ }
+    ensures { λ r. ⌜ Performed (now (store .entry)) (operation
+        (mxm options monoid op a b mask c (length (now (work .entry))))) (wrote r) (now (store .exit)) ⌝
+        ∗ ⌜ now (work .exit) ≡ replicate (length (now (work .entry))) 0 ⌝ }
 {
     let call = call_codes::mxm_call(options, monoid, op);
     let roles = roles_of(call, a, b, mask, c);
@@ -55,7 +57,9 @@ pub fn vxm(
     c: usize,
     work: &mut [u32],
 ) -> Answer
-    ensures { λ r. ⌜ Performed (now (store .entry)) (operation (vxm options monoid op u a mask c (length (now (work .entry))))) (wrote r) (now (store .exit)) ⌝ ∗ ⌜ now (work .exit) ≡ replicate (length (now (work .entry))) 0 ⌝ }
+    ensures { λ r. ⌜ Performed (now (store .entry)) (operation
+        (vxm options monoid op u a mask c (length (now (work .entry))))) (wrote r) (now (store .exit)) ⌝
+        ∗ ⌜ now (work .exit) ≡ replicate (length (now (work .entry))) 0 ⌝ }
 {
     let call = call_codes::vxm_call(options, monoid, op);
     let roles = roles_of(call, u, a, mask, c);
@@ -73,7 +77,9 @@ pub fn ewise_mult(
     c: usize,
     work: &mut [u32],
 ) -> Answer
-    ensures { λ r. ⌜ Performed (now (store .entry)) (operation (ewiseMult options op a b mask c (length (now (work .entry))))) (wrote r) (now (store .exit)) ⌝ ∗ ⌜ now (work .exit) ≡ replicate (length (now (work .entry))) 0 ⌝ }
+    ensures { λ r. ⌜ Performed (now (store .entry)) (operation
+        (ewiseMult options op a b mask c (length (now (work .entry))))) (wrote r) (now (store .exit)) ⌝
+        ∗ ⌜ now (work .exit) ≡ replicate (length (now (work .entry))) 0 ⌝ }
 {
     let call = call_codes::ewise_mult_call(options, op);
     let roles = roles_of(call, a, b, mask, c);
@@ -91,7 +97,9 @@ pub fn ewise_add(
     c: usize,
     work: &mut [u32],
 ) -> Answer
-    ensures { λ r. ⌜ Performed (now (store .entry)) (operation (ewiseAdd options op a b mask c (length (now (work .entry))))) (wrote r) (now (store .exit)) ⌝ ∗ ⌜ now (work .exit) ≡ replicate (length (now (work .entry))) 0 ⌝ }
+    ensures { λ r. ⌜ Performed (now (store .entry)) (operation
+        (ewiseAdd options op a b mask c (length (now (work .entry))))) (wrote r) (now (store .exit)) ⌝
+        ∗ ⌜ now (work .exit) ≡ replicate (length (now (work .entry))) 0 ⌝ }
 {
     let call = call_codes::ewise_add_call(options, op);
     let roles = roles_of(call, a, b, mask, c);
@@ -110,7 +118,9 @@ pub fn apply(
     c: usize,
     work: &mut [u32],
 ) -> Answer
-    ensures { λ r. ⌜ Performed (now (store .entry)) (operation (apply options kind op scalar a mask c (length (now (work .entry))))) (wrote r) (now (store .exit)) ⌝ ∗ ⌜ now (work .exit) ≡ replicate (length (now (work .entry))) 0 ⌝ }
+    ensures { λ r. ⌜ Performed (now (store .entry)) (operation
+        (apply options kind op scalar a mask c (length (now (work .entry))))) (wrote r) (now (store .exit)) ⌝
+        ∗ ⌜ now (work .exit) ≡ replicate (length (now (work .entry))) 0 ⌝ }
 {
     let call = call_codes::apply_call(options, kind, op, scalar);
     let roles = roles_of(call, a, a, mask, c);
@@ -128,7 +138,9 @@ pub fn extract(
     c: usize,
     work: &mut [u32],
 ) -> Answer
-    ensures { λ r. ⌜ Performed (now (store .entry)) (operation (extract options a (now (is .entry)) (now (js .entry)) mask c (length (now (work .entry))))) (wrote r) (now (store .exit)) ⌝ ∗ ⌜ now (work .exit) ≡ replicate (length (now (work .entry))) 0 ⌝ }
+    ensures { λ r. ⌜ Performed (now (store .entry)) (operation
+        (extract options a (now (is .entry)) (now (js .entry)) mask c (length (now (work .entry))))) (wrote r)
+        (now (store .exit)) ⌝ ∗ ⌜ now (work .exit) ≡ replicate (length (now (work .entry))) 0 ⌝ }
 {
     let call = call_codes::extract_call(options);
     let roles = roles_of(call, a, a, mask, c);
@@ -163,7 +175,9 @@ fn run(
     js: &[u32],
     work: &mut [u32],
 ) -> Answer
-    ensures { λ r. ⌜ Operated (now (store .entry)) (asked call roles (now (is .entry)) (now (js .entry)) (length (now (work .entry)))) r (now (store .exit)) ⌝ ∗ ⌜ now (work .exit) ≡ replicate (length (now (work .entry))) 0 ⌝ }
+    ensures { λ r. ⌜ Operated (now (store .entry)) (asked call roles (now (is .entry)) (now (js .entry))
+        (length (now (work .entry)))) r (now (store .exit)) ⌝
+        ∗ ⌜ now (work .exit) ≡ replicate (length (now (work .entry))) 0 ⌝ }
 {
     let answer = attempt(store, call, roles, is, js, work);
     words::clear(work);
@@ -179,7 +193,8 @@ fn attempt(
     js: &[u32],
     work: &mut [u32],
 ) -> Answer
-    ensures { λ r. ⌜ Operated (now (store .entry)) (asked call roles (now (is .entry)) (now (js .entry)) (length (now (work .entry)))) r (now (store .exit)) ⌝ }
+    ensures { λ r. ⌜ Operated (now (store .entry)) (asked call roles (now (is .entry)) (now (js .entry))
+        (length (now (work .entry)))) r (now (store .exit)) ⌝ }
 {
     let end = slots::check(&store[..]);
     if end == 0 {
@@ -279,7 +294,8 @@ fn evaluate(
     work: &mut [u32],
 ) -> Evaluated
     requires { ⌜ Store (now store) ⌝ ∗ ⌜ Holding (now store) roles ⌝ }
-    ensures { λ r. ⌜ Evaluation r (modelOf (now (store .entry))) (asked call roles (now (is .entry)) (now (js .entry)) (length (now (work .entry)))) (now (work .exit)) ⌝ }
+    ensures { λ r. ⌜ Evaluation r (modelOf (now (store .entry)))
+        (asked call roles (now (is .entry)) (now (js .entry)) (length (now (work .entry)))) (now (work .exit)) ⌝ }
 {
     let a = slots::contents(store, roles.first);
     let b = slots::contents(store, roles.second);

@@ -25,18 +25,19 @@ use Rattle.edits.specs.declared.EntryAt.the-variants as entry
 use Rattle.edits.specs.Entry.{entryAt}
 use Rattle.edits.specs.Changes.{InMatrix, HasSpace}
 use Rattle.model.specs.Placing.{Placed}
-use Rattle.store_cells.specs.Slots.{CellOf, slotGrid, slotWith}
+use Rattle.store_cells.specs.Slots.{CellOf, slotGrid, slotWith, slotPut}
 use Rattle.store_cells.proofs.Counts.{replaced-count, added-count, whole}
-use Rattle.store_cells.proofs.Rewritten.{slotPut, put-same, part-lent, part-back}
+use Rattle.store_cells.proofs.Rewritten.{put-same, part-lent, part-back}
 use Rattle.store_cells.proofs.Grown.{held-in, grown-in, grown-entry, grown-space, grown-written}
 use Rattle.store_cells.proofs.Outcomes.{placed-many, placed-no-room, placed-written}
 
 -- ---- what is known of a slot
 module _ {s : List ℕ} {k i j : ℕ} (h : CellOf s k i j) where
+  -- its words are a matrix with that row and that column
   pub slot-in : InMatrix (slotAt s k) i j
   slot-in = held-in (h .held) (h .row) (h .col)
 
-  -- where its words are
+  -- where they are
   pub record Slot : Type 0 where
     pub long : length (slotAt s k) ≡ countAt s k
     pub first : endFrom k s + 1 + countAt s k ≤ endFrom slotCount s
@@ -52,7 +53,7 @@ module _ {s : List ℕ} {k i j : ℕ} (h : CellOf s k i j) where
   pub slot-inside : (a n : ℕ) → a ≡ endFrom k s → n ≡ length (slotAt s k) → a + 1 + n ≤ length s
   slot-inside a n b m = let o = slot in omega arith
 
-  -- its words, lent
+  -- lent
   pub slot-lent : (a n : ℕ) → a ≡ endFrom k s + 1 → n ≡ length (slotAt s k) → part a (a + n) s ≡ slotAt s k
   slot-lent a n b m =
       let z = h .store .sections in
@@ -95,15 +96,18 @@ module _ {s : List ℕ} {k i j : ℕ} (h : CellOf s k i j) (p v : ℕ)
   abbrev g₂ : Grid
   g₂ = slotWith s k i j (Present v)
 
+  -- the size of the grid with the cell
   added-size : gridSize g₂ ≡ length (slotAt s k) + 2
   added-size = let l = h .held .whole in omega (arith, added-count (slot-in h) p e v)
 
+  -- 10
   pub add-many : entries (slotAt s k) ≡ maxEntries → Placed s k g₂ (refused tooManyEntries) s
   add-many f = placed-many (h .store) (h .slot) g₂ (omega (arith, added-count (slot-in h) p e v))
 
   few-enough : entries (slotAt s k) < maxEntries → entryCount g₂ ≤ maxEntries
   few-enough f = omega (arith, added-count (slot-in h) p e v)
 
+  -- 11
   pub add-no-room : (end n : ℕ) → entries (slotAt s k) < maxEntries → end ≡ endFrom slotCount s
       → n ≡ length (slotAt s k) → length s < end - countAt s k + (n + 2) → Placed s k g₂ (refused insufficientSpace) s
   add-no-room end n f d m r =

@@ -16,7 +16,7 @@ use Rattle.grid.proofs.Gather.{gather-same, flatten-same}
 use Rattle.matrix.specs.Layout.{rows, cols, entries, size, gridOf}
 use Rattle.matrix.specs.Valid.{valid}
 use Rattle.matrix.proofs.Facts.{matrix-facts, matrix-made}
-use Rattle.encoding.specs.Encode.{encode, gridSize, writtenOver}
+use Rattle.encoding.specs.Encode.{encode, writtenOver}
 use Rattle.encoding.proofs.Canonical.{encode-valid, encode-same, encode-ext, encode-length, valid-within, valid-size}
 use Rattle.slots.specs.Facts.{Held}
 use Rattle.model.proofs.Held.{held-encoded}

@@ -1,15 +1,18 @@
--- A grid put into a slot, from what the code has found: what the inner functions leave, and what the calls answer.
+-- The calls that write, from what the code has found: what they answer, and the words that they leave.
 use Prim.Native.Nat.{ℕ, _+_, _-_, _≤_, _<_}
 use native.Mathlib.Omega.{arith}
+use native.Mathlib.Nat.{add-zero}
 use native.Mathlib.Decide.{ℕ-discrete}
 use mathlib.Core.Path.{_≡_, refl, sym, ap, _∙_}
-use mathlib.Core.Bool.{Bool, true, cond}
+use mathlib.Core.Bool.{true}
 use mathlib.Core.List.{List, [], _∷_}
 use lib.ListN.{length, set}
-use borrow.Author.Tests.{lt-ltb, le-ltb, eq-eqb, ne-eqb}
+use borrow.Author.Tests.{le-leb, lt-leb, lt-ltb, le-ltb, eq-eqb, ne-eqb}
 use Rattle.limits.specs.Limits.{slotCount, maxEntries}
 use Rattle.answers.specs.declared.Answer.{Answer}
-use Rattle.answers.specs.Refusals.{accepted, refused, unlessRefused, tooManyEntries, insufficientSpace}
+use Rattle.answers.specs.Refusals.{accepted, refused, unlessRefused, tooManyEntries, insufficientSpace, invalidStore}
+use Rattle.words.specs.Words.{part}
+use Rattle.words.proofs.Parts.{part-empty}
 use Rattle.grid.specs.Grid.{Grid}
 use Rattle.grid.specs.Entries.{entryCount}
 use Rattle.matrix.specs.Layout.{gridOf}
@@ -20,9 +23,10 @@ use Rattle.requests.proofs.Cases.{lowest-first, lowest-rest}
 use Rattle.slots.specs.Sections.{endFrom, slotAt, countAt}
 use Rattle.slots.specs.Valid.{storeValid}
 use Rattle.slots.specs.Facts.{Store}
+use Rattle.slots.specs.Room.{resized}
 use Rattle.slots.proofs.Facts.{store-facts}
-use Rattle.model.specs.Model.{Model, holding, gridAt, wordsNeeded}
-use Rattle.model.specs.Calls.{StoreCall, setCell, clearCell, wrote}
+use Rattle.model.specs.Model.{Model, vacant, holding, gridAt, wordsNeeded}
+use Rattle.model.specs.Calls.{StoreCall, dropSlot, setCell, clearCell, wrote}
 use Rattle.model.specs.Steps.{
   noSlot,
   noGrid,
@@ -31,14 +35,15 @@ use Rattle.model.specs.Steps.{
   setRefusal,
   withoutValue,
   cellRefusal,
+  dropRefusal,
   reply,
   next,
 }
 use Rattle.model.specs.Stores.{modelOf, Performed}
 use Rattle.model.specs.Placing.{placeRefusal, Placed}
-use Rattle.model.proofs.Held.{slot-written, grid-model, needed-model}
-use Rattle.model.proofs.Performed.{Writes, performed-refused, performed-done}
-use Rattle.store_cells.specs.Slots.{CellOf, gridPut, Put, CellSet, CellCleared}
+use Rattle.model.proofs.Held.{model-written, slot-written, grid-model, needed-model}
+use Rattle.model.proofs.Performed.{performed, Writes, performed-refused, performed-done}
+use Rattle.store_cells.specs.Slots.{CellOf, slotPut, gridPut, Put, CellSet, CellCleared}
 
 -- the words that are needed with g in slot k
 pub room-of : (s : List ℕ) (k : ℕ) (g : Grid) → Store s → k < slotCount
@@ -98,24 +103,28 @@ module _ {s : List ℕ} {k : ℕ} {call : StoreCall} {g : Grid} {code : ℕ} (v 
 
 -- ---- set and clear of a cell
 
--- a set cell that is there: only 10 and 11 are left
+-- 12, 13 and 7
+abbrev cellCases : Model → ℕ → ℕ → ℕ → List Case
+cellCases m k i j = noSlot k ∷ noGrid m k ∷ noCell (gridAt m k) i j ∷ []
+
+-- of a cell that is there only 10 and 11 are left
 set-refusal : (s : List ℕ) (k i j x : ℕ) → cellRefusal (modelOf s) k i j ≡ 0
     → setRefusal (length s) (modelOf s) k i j x ≡ placeRefusal s k (withValue (modelOf s) k i j x)
 unfolding setRefusal cellRefusal placeRefusal
 set-refusal s k i j x z =
     let g = withValue (modelOf s) k i j x in
-    lowest-rest (noSlot k ∷ noGrid (modelOf s) k ∷ noCell (gridAt (modelOf s) k) i j ∷ [])
+    lowest-rest (cellCases (modelOf s) k i j)
     (outputCases g (wordsNeeded (set (modelOf s) k (holding g))) (length s)) (refl, (refl, (refl, tt))) z
 
 module _ {s : List ℕ} {k i j : ℕ} (v : storeValid s ≡ true) where
-  -- 12, 13 or 7
+  -- it is not there
   pub set-refused : (x : ℕ) (code : ℕ) → code ≡ cellRefusal (modelOf s) k i j → (code ≡ 0 → ⊥)
       → Performed s (setCell k i j x) (wrote (refused code)) s
   unfolding setRefusal cellRefusal reply next
   set-refused x code e n =
       let g = withValue (modelOf s) k i j x in
       let c : code ≡ setRefusal (length s) (modelOf s) k i j x =
-      lowest-first (noSlot k ∷ noGrid (modelOf s) k ∷ noCell (gridAt (modelOf s) k) i j ∷ [])
+      lowest-first (cellCases (modelOf s) k i j)
       (outputCases g (wordsNeeded (set (modelOf s) k (holding g))) (length s)) code e n in
       performed-refused s (setCell k i j x) code g (set (modelOf s) k (holding g)) v
       (record { reply-is = rw c; next-is = rw c }) n
@@ -128,7 +137,7 @@ module _ {s : List ℕ} {k i j : ℕ} (v : storeValid s ≡ true) where
       performed-refused s (clearCell k i j) code g (set (modelOf s) k (holding g)) v
       (record { reply-is = rw e; next-is = rw e }) n
 
-  -- none of them: what is left to the functions that write
+  -- it is: what the functions that write leave
   module _ (z : cellRefusal (modelOf s) k i j ≡ 0) (h : CellOf s k i j) where
     grid-is : gridAt (modelOf s) k ≡ gridOf (slotAt s k)
     grid-is = grid-model s k (λ e. let w = h .held .whole in omega arith)
@@ -144,3 +153,27 @@ module _ {s : List ℕ} {k i j : ℕ} (v : storeValid s ≡ true) where
     unfolding reply next
     clear-performed answer s′ p =
         performed-put v (record { reply-is = refl; next-is = refl }) z (rw grid-is p)
+
+-- ---- drop
+
+-- no words are left in the slot
+pub none-resized : (s : List ℕ) (k : ℕ) → resized s k 0 ≡ slotPut s k []
+none-resized s k =
+    let e = endFrom k s in
+    ap (slotPut s k)
+    (ap (λ (n : ℕ). part (e + 1) n s) (add-zero (e + 1)) ∙ part-empty (e + 1) s)
+
+-- the call, refused and accepted
+module _ {s : List ℕ} {k : ℕ} (v : storeValid s ≡ true) where
+  pub drop-refused : slotCount ≤ k → Performed s (dropSlot k) (wrote (refused invalidStore)) s
+  unfolding reply next dropRefusal
+  drop-refused l =
+      performed s (dropSlot k) (wrote (refused invalidStore)) s v (rw (le-leb _ _ l))
+      (sym (model-written s (store-facts s v)) ∙ rw (le-leb _ _ l))
+
+  pub drop-performed : (s′ : List ℕ) → k < slotCount → s′ ≡ slotPut s k []
+      → Performed s (dropSlot k) (wrote (accepted 0)) s′
+  unfolding reply next dropRefusal
+  drop-performed s′ l w =
+      performed s (dropSlot k) (wrote (accepted 0)) s′ v (rw (lt-leb _ _ l))
+      (w ∙ slot-written s k vacant (store-facts s v) ∙ rw (lt-leb _ _ l))

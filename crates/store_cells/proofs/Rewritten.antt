@@ -4,7 +4,7 @@ use native.Mathlib.Omega.{arith}
 use mathlib.Core.Path.{_≡_, refl, sym, ap, _∙_}
 use mathlib.Core.List.{List, []}
 use lib.ListN.{length, take, set, getD, length-set}
-use lib.Seq.{getD-set-same, set-getD, set-set, take-set-le}
+use lib.Seq.{getD-set-same, set-getD, set-set}
 use borrow.Rule.Slice.PartMut.{putMid}
 use Rattle.limits.specs.Limits.{slotCount, maxStoreWords}
 use Rattle.words.specs.Words.{part}
@@ -12,14 +12,11 @@ use Rattle.slots.specs.Sections.{Slots, written, writing, endFrom, slotsOf, slo
 use Rattle.slots.specs.Facts.{Sections, Fits}
 use Rattle.slots.specs.Room.{resized}
 use Rattle.slots.proofs.Sections.{slot-count, end-rises, rewritten}
-use Rattle.slots.proofs.ReadBack.{writing-start, writing-end, writing-slots, writing-length, writing-sections}
+use Rattle.slots.proofs.ReadBack.{writing-end, writing-slots, writing-length, writing-sections}
 use Rattle.slots.proofs.Slot.{section-start, slot-length, written-room}
 use Rattle.slots.proofs.Placed.{lent, placed}
 use Rattle.slots.proofs.Resized.{new-shrunk}
-
--- the words of the store s with y in slot k
-abbrev pub slotPut : List ℕ → ℕ → List ℕ → List ℕ
-slotPut s k y = writing (length s) (set (slotsOf s) k y)
+use Rattle.store_cells.specs.Slots.{slotPut}
 
 -- the words of a slot that fits are within the store
 pub fits-inside : {s : List ℕ} {k end size : ℕ} → Fits s k end size → (a : ℕ) → a ≡ endFrom k s
@@ -39,6 +36,7 @@ module _ {s : List ℕ} {k : ℕ} (h : Sections slotCount s) (l : k < slotCount)
   inside = let c = slot-count s in omega arith
 
   module _ (a : ℕ) (p : a ≡ endFrom k s + 1) (y u : List ℕ) (v : u ≡ slotPut s k y) where
+    -- where it starts
     from : a ≡ length (written (take k (slotsOf s))) + 1
     from = p ∙ ap (λ (n : ℕ). n + 1) (section-start s k h l)
 
@@ -54,6 +52,7 @@ module _ {s : List ℕ} {k : ℕ} (h : Sections slotCount s) (l : k < slotCount)
 -- slot k of a store with y in it, resized again
 module _ {s : List ℕ} {k : ℕ} (h : Sections slotCount s) (l : k < slotCount) (most : length s ≤ maxStoreWords)
     (y u : List ℕ) (v : u ≡ slotPut s k y) (r : endFrom slotCount s - countAt s k + length y ≤ length s) where
+  -- what the slots hold, and that there is room for it
   abbrev w : Slots
   w = set (slotsOf s) k y
 
@@ -63,6 +62,7 @@ module _ {s : List ℕ} {k : ℕ} (h : Sections slotCount s) (l : k < slotCount)
   fitting : length (written w) ≤ length s
   fitting = let e = written-room s k h l y in omega arith
 
+  -- so u is sectioned, and holds y in slot k
   put-slots : slotsOf u ≡ w
   put-slots = ap slotsOf v ∙ writing-slots (length s) w count
 

@@ -1,18 +1,16 @@
--- 12, 8 and 11 of an empty matrix, as the code reaches them, and what is known where none applies. Then `drop`.
+-- 12, 8 and 11 of an empty matrix, as the code reaches them, and what is known where none applies. Then its words.
 use Prim.Native.Nat.{ℕ, _+_, _-_, _≤_, _<_}
 use native.Mathlib.Omega.{arith}
 use mathlib.Core.Path.{_≡_, refl, sym, ap, _∙_}
-use mathlib.Core.Bool.{true, false, not}
-use mathlib.Core.List.{List, [], _++_}
-use native.Mathlib.Nat.{add-zero}
-use lib.ListN.{length, drop, set}
+use mathlib.Core.Bool.{true, false}
+use mathlib.Core.List.{List, _++_}
+use lib.ListN.{length, drop}
 use borrow.Rule.Slice.PartMut.{putMid}
-use borrow.Author.Tests.{le-leb, lt-leb, lt-ltb, le-ltb, leb-false, ltb-false, eq-eqb, not-false}
+use borrow.Author.Tests.{le-leb, lt-leb, lt-ltb, le-ltb, leb-false, ltb-false, not-false}
 use Rattle.limits.specs.Limits.{slotCount, maxRows, maxCols}
 use Rattle.answers.specs.Refusals.{accepted, refused, invalidShape, insufficientSpace, invalidStore}
 use Rattle.words.specs.Words.{part}
 use Rattle.words.specs.Tests.{_and_}
-use Rattle.words.proofs.Parts.{part-empty}
 use Rattle.words.proofs.Tests.{and-left}
 use Rattle.grid.specs.Grid.{emptyGrid}
 use Rattle.matrix.specs.Layout.{startsAt, sizeOf}
@@ -22,24 +20,20 @@ use Rattle.encoding.specs.Encode.{gridSize, encode}
 use Rattle.encoding.proofs.Canonical.{encode-length}
 use Rattle.create.proofs.Empty.{empty-count}
 use Rattle.requests.proofs.Cases.{later}
-use Rattle.slots.specs.Sections.{writing, endFrom, slotsOf, countAt}
+use Rattle.slots.specs.Sections.{endFrom, countAt}
 use Rattle.slots.specs.Valid.{storeValid}
 use Rattle.slots.specs.Facts.{Store, Fits}
 use Rattle.slots.specs.Room.{resized}
-use Rattle.slots.proofs.Facts.{store-facts}
 use Rattle.slots.proofs.Resized.{new-length}
-use Rattle.model.specs.Model.{vacant, wordsNeeded}
-use Rattle.model.specs.Calls.{newEmpty, dropSlot, wrote}
-use Rattle.model.specs.Steps.{laid, newEmptyRefusal, dropRefusal, reply, next}
+use Rattle.model.specs.Model.{wordsNeeded}
+use Rattle.model.specs.Calls.{newEmpty, wrote}
+use Rattle.model.specs.Steps.{laid, newEmptyRefusal, reply, next}
 use Rattle.model.specs.Stores.{modelOf, Performed}
-use Rattle.model.proofs.Held.{slot-written, model-written}
-use Rattle.model.proofs.Performed.{performed, performed-refused}
-use Rattle.store_cells.specs.Slots.{gridPut}
+use Rattle.model.proofs.Performed.{performed-refused}
+use Rattle.store_cells.specs.Slots.{slotPut, gridPut}
 use Rattle.store_cells.proofs.Counts.{whole}
-use Rattle.store_cells.proofs.Rewritten.{slotPut, part-lent, part-back}
+use Rattle.store_cells.proofs.Rewritten.{part-lent, part-back}
 use Rattle.store_cells.proofs.Outcomes.{room-of, performed-put}
-
--- ---- lay
 
 -- the words of an empty matrix besides one for each row, `FIXED_WORDS` in the code
 abbrev pub fixedWords : ℕ
@@ -139,27 +133,3 @@ module _ {s : List ℕ} {k r c : ℕ} (v : storeValid s ≡ true) where
   lay-performed z s′ w =
       performed-put v (record { reply-is = refl; next-is = refl }) z
       (record { answer-is = ap accepted (sym (empty-count r c)); words-are = w })
-
--- ---- drop
-
--- no words are left in the slot
-pub none-resized : (s : List ℕ) (k : ℕ) → resized s k 0 ≡ writing (length s) (set (slotsOf s) k [])
-none-resized s k =
-    let e = endFrom k s in
-    ap (λ (x : List ℕ). writing (length s) (set (slotsOf s) k x))
-    (ap (λ (n : ℕ). part (e + 1) n s) (add-zero (e + 1)) ∙ part-empty (e + 1) s)
-
--- the call, refused and accepted
-module _ {s : List ℕ} {k : ℕ} (v : storeValid s ≡ true) where
-  pub drop-refused : slotCount ≤ k → Performed s (dropSlot k) (wrote (refused invalidStore)) s
-  unfolding reply next dropRefusal
-  drop-refused l =
-      performed s (dropSlot k) (wrote (refused invalidStore)) s v (rw (le-leb _ _ l))
-      (sym (model-written s (store-facts s v)) ∙ rw (le-leb _ _ l))
-
-  pub drop-performed : (s′ : List ℕ) → k < slotCount → s′ ≡ writing (length s) (set (slotsOf s) k [])
-      → Performed s (dropSlot k) (wrote (accepted 0)) s′
-  unfolding reply next dropRefusal
-  drop-performed s′ l w =
-      performed s (dropSlot k) (wrote (accepted 0)) s′ v (rw (lt-leb _ _ l))
-      (w ∙ slot-written s k vacant (store-facts s v) ∙ rw (lt-leb _ _ l))

@@ -22,9 +22,9 @@ use Rattle.slots.specs.Room.{resized}
 use Rattle.edits.specs.declared.EntryAt.the-variants as entry
 use Rattle.edits.specs.Entry.{entryAt}
 use Rattle.model.proofs.Held.{held-encoded}
-use Rattle.store_cells.specs.Slots.{CellOf, slotGrid, slotWith, gridPut, CellCleared}
+use Rattle.store_cells.specs.Slots.{CellOf, slotGrid, slotWith, slotPut, gridPut, CellCleared}
 use Rattle.store_cells.proofs.Counts.{taken-count, cleared-count, cleared-same}
-use Rattle.store_cells.proofs.Rewritten.{slotPut, put-same, smaller-fits, smaller-words}
+use Rattle.store_cells.proofs.Rewritten.{put-same, smaller-fits, smaller-words}
 use Rattle.store_cells.proofs.Edited.{slot-in, slot, slot-lent, slot-back}
 
 -- the entry is removed from the slot's words, which start at a: x are the words that came back

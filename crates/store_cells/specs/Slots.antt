@@ -32,9 +32,12 @@ slotGrid s k = gridOf (slotAt s k)
 abbrev pub slotWith : List ℕ → ℕ → ℕ → ℕ → Cell → Grid
 slotWith s k i j x = withCell (slotGrid s k) i j x
 
--- the words of a store with the grid g in slot k
+-- the words of a store with the words x in slot k, and with the grid g
+abbrev pub slotPut : List ℕ → ℕ → List ℕ → List ℕ
+slotPut s k x = writing (length s) (set (slotsOf s) k x)
+
 abbrev pub gridPut : List ℕ → ℕ → Grid → List ℕ
-gridPut s k g = writing (length s) (set (slotsOf s) k (encode g))
+gridPut s k g = slotPut s k (encode g)
 
 -- an accepted write: the grid g in slot k, and its entries
 pub record Put (s : List ℕ) (k : ℕ) (g : Grid) (answer : Answer) (s′ : List ℕ) : Type 0 where

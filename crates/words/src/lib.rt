@@ -30,7 +30,8 @@ pub fn copy_into(dst: &mut [u32], at: usize, src: &[u32])
 // n words are moved down, from `from` on to `to` on.
 pub fn move_down(words: &mut [u32], from: usize, to: usize, n: usize)
     requires { ⌜ (to ≤ from) × (from + n ≤ length (now words)) ⌝ }
-    ensures { λ _. ⌜ now (words .exit) ≡ overwrite to (part from (from + n) (now (words .entry))) (now (words .entry)) ⌝ }
+    ensures { λ _. ⌜ now (words .exit) ≡ overwrite to (part from (from + n) (now (words .entry))) (now (words .entry))
+        ⌝ }
 {
     let mut k = 0;
     while k < n {
@@ -42,7 +43,8 @@ pub fn move_down(words: &mut [u32], from: usize, to: usize, n: usize)
 // n words are moved up, from `from` on to `to` on.
 pub fn move_up(words: &mut [u32], from: usize, to: usize, n: usize)
     requires { ⌜ (from ≤ to) × (to + n ≤ length (now words)) ⌝ }
-    ensures { λ _. ⌜ now (words .exit) ≡ overwrite to (part from (from + n) (now (words .entry))) (now (words .entry)) ⌝ }
+    ensures { λ _. ⌜ now (words .exit) ≡ overwrite to (part from (from + n) (now (words .entry))) (now (words .entry))
+        ⌝ }
 {
     let mut k = n;
     while 0 < k {

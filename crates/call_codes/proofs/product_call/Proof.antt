@@ -26,7 +26,13 @@ returns : tie.Need-returns
 returns c =
     let q = c .before .before .before in
     c .call-of .ensures
-    ∙ rw (q .both .ensures, q .before .before .monoid-known .ensures, q .before .binary-known .ensures, c .before .before .monoid-of .ensures, c .before .binary-of .ensures)
+    ∙ rw (
+      q .both .ensures,
+      q .before .before .monoid-known .ensures,
+      q .before .binary-known .ensures,
+      c .before .before .monoid-of .ensures,
+      c .before .binary-of .ensures,
+    )
 
 pub product-call-spec : {M : Type 1} → statement M
 product-call-spec =

@@ -59,7 +59,10 @@ slice-relend-prefix-stage-row : tie.Need-slice-relend-prefix-stage-row
 slice-relend-prefix-stage-row c = search needs
 
 slice-aggregate-stage-row : tie.Need-slice-aggregate-stage-row
-slice-aggregate-stage-row c = sym (region-length _ _ _ _ _ _ _ _ _ _ _ _ _ _ _ _ _ (c .before .before .before .before .before .before .before .before .before .before .before .before .before .before .before .before .before .before .before .before .before .before .before .before .before .before .before .pre .0))
+slice-aggregate-stage-row c =
+    let q = c .before .before .before .before .before .before .before .before .before .before in
+    let s = q .before .before .before .before .before .before .before .before .before .before .before .before .before .before .before .before .before in
+    sym (region-length _ _ _ _ _ _ _ _ _ _ _ _ _ _ _ _ _ (s .pre .0))
 
 slice-reshare-prefix-stage-row : tie.Need-slice-reshare-prefix-stage-row
 slice-reshare-prefix-stage-row c =

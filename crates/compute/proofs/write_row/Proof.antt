@@ -15,10 +15,14 @@ mask-values-requires : tie.Need-mask-values-requires
 mask-values-requires c κs = c .before .before .before .before .before .before .before .before .pre .0 .mask
 
 row-columns-requires : tie.Need-row-columns-requires
-row-columns-requires c κs = let h = c .before .before .before .before .before .before .before .before .before .pre .0 in (h .matrix .header, matrix-span _ (h .matrix) _ (h .row))
+row-columns-requires c κs =
+    let h = c .before .before .before .before .before .before .before .before .before .pre .0 in
+    (h .matrix .header, matrix-span _ (h .matrix) _ (h .row))
 
 row-values-requires : tie.Need-row-values-requires
-row-values-requires c κs = let h = c .before .before .before .before .before .before .before .before .before .before .pre .0 in (h .matrix .header, matrix-span _ (h .matrix) _ (h .row))
+row-values-requires c κs =
+    let h = c .before .before .before .before .before .before .before .before .before .before .pre .0 in
+    (h .matrix .header, matrix-span _ (h .matrix) _ (h .row))
 
 merge-row-requires : tie.Need-merge-row-requires
 merge-row-requires c κs =

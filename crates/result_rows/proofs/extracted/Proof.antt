@@ -15,10 +15,14 @@ cast-row : tie.Need-cast-row
 cast-row c = search needs
 
 row-columns-requires : tie.Need-row-columns-requires
-row-columns-requires c κs = let h = c .before .before .before .before .before .before .pre .0 in (h .first .header, matrix-span _ (h .first) _ (h .listed))
+row-columns-requires c κs =
+    let h = c .before .before .before .before .before .before .pre .0 in
+    (h .first .header, matrix-span _ (h .first) _ (h .listed))
 
 row-values-requires : tie.Need-row-values-requires
-row-values-requires c κs = let h = c .before .before .before .before .before .before .before .pre .0 in (h .first .header, matrix-span _ (h .first) _ (h .listed))
+row-values-requires c κs =
+    let h = c .before .before .before .before .before .before .before .pre .0 in
+    (h .first .header, matrix-span _ (h .first) _ (h .listed))
 
 extract-row-requires : tie.Need-extract-row-requires
 extract-row-requires c κs =

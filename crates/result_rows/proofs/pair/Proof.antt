@@ -29,16 +29,24 @@ part-merge-row-end-2 : tie.Need-part-merge-row-end-2
 part-merge-row-end-2 c = search needs
 
 row-columns-requires : tie.Need-row-columns-requires
-row-columns-requires c κs = let h = c .before .before .before .before .before .before .before .pre .0 in (h .first .header, matrix-span _ (h .first) _ (h .row))
+row-columns-requires c κs =
+    let h = c .before .before .before .before .before .before .before .pre .0 in
+    (h .first .header, matrix-span _ (h .first) _ (h .row))
 
 row-values-requires : tie.Need-row-values-requires
-row-values-requires c κs = let h = c .before .before .before .before .before .before .before .before .pre .0 in (h .first .header, matrix-span _ (h .first) _ (h .row))
+row-values-requires c κs =
+    let h = c .before .before .before .before .before .before .before .before .pre .0 in
+    (h .first .header, matrix-span _ (h .first) _ (h .row))
 
 row-columns-requires-2 : tie.Need-row-columns-requires-2
-row-columns-requires-2 c κs = let h = c .before .before .before .before .before .before .before .before .before .pre .0 in (h .second .header, matrix-span _ (h .second) _ (omega (arith, h .row, h .same-rows)))
+row-columns-requires-2 c κs =
+    let h = c .before .before .before .before .before .before .before .before .before .pre .0 in
+    (h .second .header, matrix-span _ (h .second) _ (omega (arith, h .row, h .same-rows)))
 
 row-values-requires-2 : tie.Need-row-values-requires-2
-row-values-requires-2 c κs = let h = c .before .before .before .before .before .before .before .before .before .before .pre .0 in (h .second .header, matrix-span _ (h .second) _ (omega (arith, h .row, h .same-rows)))
+row-values-requires-2 c κs =
+    let h = c .before .before .before .before .before .before .before .before .before .before .pre .0 in
+    (h .second .header, matrix-span _ (h .second) _ (omega (arith, h .row, h .same-rows)))
 
 merge-row-requires : tie.Need-merge-row-requires
 merge-row-requires c κs =

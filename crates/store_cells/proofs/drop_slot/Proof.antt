@@ -4,7 +4,7 @@ use mathlib.Core.Path.{_∙_}
 use denote.Ref.{now}
 use Rattle.model.proofs.Performed.{performed-no-store}
 use Rattle.store_cells.proofs.Checks.{unchecked, Checked, checked}
-use Rattle.store_cells.proofs.Shapes.{none-resized, drop-refused, drop-performed}
+use Rattle.store_cells.proofs.Outcomes.{none-resized, drop-refused, drop-performed}
 use borrow.Author.Needs.{needs}
 use Rattle.store_cells.proofs.drop_slot.Statement.{statement}
 use Rattle.store_cells.proofs.drop_slot.Tie as tie

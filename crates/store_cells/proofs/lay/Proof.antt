@@ -20,7 +20,8 @@ abbrev resized : tie.After-write-empty → tie.After-resize
 resized c = c .before .before .before .before
 
 -- the words to be written are within the store
-inside : (c : tie.After-find) → c .find .result + 1 + (start c .args .rows + fixedWords) ≤ length (now (start c .args .store))
+inside : (c : tie.After-find)
+    → c .find .result + 1 + (start c .args .rows + fixedWords) ≤ length (now (start c .args .store))
 inside c = omega (arith, fits-inside (start c .pre .0) (c .find .result) (c .find .ensures))
 
 add-size : tie.Need-add-size
@@ -62,8 +63,8 @@ returns c =
     let r = resized w in
     let f = found r in
     let p = start f .args in
-    laid-words (now (p .store)) (p .slot) (p .end) (p .rows + fixedWords) (p .rows) (p .cols) (f .find .result + 1) _ _
-    (omega arith) (start f .pre .0) (ap (λ (a : ℕ). a + 1) (f .find .ensures)) (r .resize .ensures) (w .write-empty .ensures)
+    laid-words (now (p .store)) (p .slot) (p .end) (p .rows + fixedWords) (p .rows) (p .cols)
+    (f .find .result + 1) _ _ (omega arith) (start f .pre .0) (ap (λ (a : ℕ). a + 1) (f .find .ensures)) (r .resize .ensures) (w .write-empty .ensures)
 
 pub lay-spec : {M : Type 1} → statement M
 lay-spec =

@@ -1,6 +1,9 @@
 -- `new_empty` lays an empty matrix where nothing refuses it.
-use mathlib.Core.Path.{sym, _∙_}
+use mathlib.Core.Path.{_≡_, sym, _∙_}
 use denote.Ref.{now}
+use lib.ListN.{length}
+use Rattle.model.specs.Steps.{newEmptyRefusal}
+use Rattle.model.specs.Stores.{modelOf}
 use Rattle.model.proofs.Performed.{performed-no-store}
 use Rattle.store_cells.proofs.Checks.{unchecked, Checked, checked}
 use Rattle.store_cells.proofs.Shapes.{layable, lay-refused, lay-performed}
@@ -17,6 +20,11 @@ store c = checked _ _ (c .before .check .ensures) (c .if1 .left)
 
 abbrev stored : tie.After-shape-refusal → tie.Else1
 stored c = c .before .before
+
+-- and past the second nothing refuses the matrix
+no-refusal : (c : tie.Else2) → let p = start (stored (c .before) .before) .args in
+    newEmptyRefusal (length (now (p .store))) (modelOf (now (p .store))) (p .slot) (p .rows) (p .cols) ≡ 0
+no-refusal c = sym (c .before .shape-refusal .ensures) ∙ c .if2 .left
 
 check-requires : tie.Need-check-requires
 check-requires c κs = search needs
@@ -50,9 +58,8 @@ returns-2 c =
 lay-requires : tie.Need-lay-requires
 lay-requires c κs =
     let e = c .before in
-    let q = e .before in
-    let h = store (stored q) in
-    let r = layable _ _ _ _ _ (h .store) (h .ends) (sym (q .shape-refusal .ensures) ∙ e .if2 .left) in
+    let h = store (stored (e .before)) in
+    let r = layable _ _ _ _ _ (h .store) (h .ends) (no-refusal e) in
     (r .fits, r .rows)
 
 accepted-requires : tie.Need-accepted-requires
@@ -65,9 +72,8 @@ returns-3 : tie.Need-returns-3
 returns-3 c =
     let l = c .before .before .before in
     let e = l .before .before in
-    let q = e .before in
     rw (c .accepted .ensures)
-    (lay-performed (store (stored q) .valid) (sym (q .shape-refusal .ensures) ∙ e .if2 .left) _ (l .lay .ensures))
+    (lay-performed (store (stored (e .before)) .valid) (no-refusal e) _ (l .lay .ensures))
 
 pub new-empty-spec : {M : Type 1} → statement M
 new-empty-spec =

@@ -4,9 +4,10 @@ use mathlib.Core.Path.{_≡_, sym, ap, _∙_}
 use mathlib.Core.List.{List}
 use denote.Ref.{now}
 use Rattle.rows.proofs.Rising.{rising-rises}
-use Rattle.matrix.specs.Layout.{cellOf}
+use Rattle.matrix.specs.Layout.{rowColumns, cellOf}
 use Rattle.matrix.proofs.Facts.{row-span}
 use Rattle.cells.specs.Read.{foundAnswer}
+use Rattle.slots.specs.Sections.{slotAt}
 use Rattle.model.specs.Calls.{found}
 use Rattle.model.specs.Steps.{cellRefusal}
 use Rattle.model.specs.Stores.{modelOf}
@@ -63,10 +64,13 @@ contents-requires c κs = let h = cell c in (h .store .sections, h .slot)
 
 cell-at-requires : tie.Need-cell-at-requires
 cell-at-requires c κs =
-    let h = cell (c .before) in
+    let e = c .before in
+    let h = cell e in
     let m = h .held .matrix in
+    let p = origin e .args in
+    let columns = rowColumns (slotAt (now (p .store)) (p .slot)) (p .i) in
     rw (c .contents .ensures .words)
-    (m .header, (row-span _ (m .starts) _ (h .row), rising-rises _ _ _ (m .rising _ (h .row))))
+    (m .header, (row-span _ (m .starts) (p .i) (h .row), rising-rises _ _ columns (m .rising (p .i) (h .row))))
 
 found-requires : tie.Need-found-requires
 found-requires c κs = search needs

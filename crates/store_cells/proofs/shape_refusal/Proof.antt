@@ -42,7 +42,8 @@ in-range-requires c κs = search needs
 returns-2 : tie.Need-returns-2
 returns-2 c =
     let p = start (c .before .before) .args in
-    rows-refused (now (p .store)) (p .slot) (p .rows) (p .cols) (omega arith) (said-no (c .before .in-range .ensures) (c .if2 .taken))
+    rows-refused (now (p .store)) (p .slot) (p .rows) (p .cols) (omega arith)
+    (said-no (c .before .in-range .ensures) (c .if2 .taken))
 
 in-range-requires-2 : tie.Need-in-range-requires-2
 in-range-requires-2 c κs = search needs

@@ -1,0 +1,85 @@
+-- What a caller takes out of an answer is what was packed: the code is the remainder by 256, the entries or the value
+-- are the upper word, and bit 8 says whether a cell is present. One theorem for each kind of exported call.
+use Prim.Native.Nat.{ℕ, _+_, _*_, _<_, _%_, _/_}
+use mathlib.Core.Path.{_≡_, refl, ap}
+use mathlib.Core.Bool.{Bool, true, false, cond}
+use mathlib.Core.List.{List}
+use native.Mathlib.Omega.{arith}
+use lib.ListN.{length}
+use Rattle.answers.specs.declared.Answer.{Answer}
+use Rattle.matrix.specs.Valid.{checkAnswer}
+use Rattle.cells.specs.declared.CellAnswer.{CellAnswer}
+use Rattle.cells.specs.Read.{readAnswer}
+use Rattle.operations.specs.declared.Call.{Call}
+use Rattle.model.specs.Calls.{StoreCall}
+use Rattle.exports.specs.Packing.{codeLimit, upperWord, presentBit, packed, packedCell}
+use Rattle.exports.specs.Exported.{LentCreated, LentCompleted, StorePerformed, StoreRead}
+use Rattle.exports.proofs.Codes.{
+  check-small,
+  create-small,
+  read-small,
+  lent-small,
+  store-small,
+  store-read-small,
+}
+
+-- r is taken apart into the answer a
+pub record Unpacked (r : ℕ) (a : Answer) : Type 0 where
+  pub code : r % codeLimit ≡ a .code
+  pub entries : r / upperWord ≡ a .entries
+
+pub record UnpackedCell (r : ℕ) (a : CellAnswer) : Type 0 where
+  pub code : r % codeLimit ≡ a .code
+  pub present : r / codeLimit % 2 ≡ cond (a .present) 1 0
+  pub value : r / upperWord ≡ a .value
+
+unpacked : (r : ℕ) (a : Answer) → r ≡ packed a → a .code < codeLimit → Unpacked r a
+unpacked r a e h = record { code = omega arith; entries = omega arith }
+
+unpacked-cell : (r : ℕ) (a : CellAnswer) → r ≡ packedCell a → a .code < codeLimit → UnpackedCell r a
+unpacked-cell r a e h = record {
+  code = code (a .present) e;
+  present = present (a .present) e;
+  value = value (a .present) e;
+}
+  where
+    code : (b : Bool) → r ≡ a .code + presentBit b + a .value * upperWord → r % codeLimit ≡ a .code
+    code true e = omega arith
+    code false e = omega arith
+
+    present : (b : Bool) → r ≡ a .code + presentBit b + a .value * upperWord → r / codeLimit % 2 ≡ cond b 1 0
+    present true e = omega arith
+    present false e = omega arith
+
+    value : (b : Bool) → r ≡ a .code + presentBit b + a .value * upperWord → r / upperWord ≡ a .value
+    value true e = omega arith
+    value false e = omega arith
+
+pub check-unpacked : (s : List ℕ) → Unpacked (packed (checkAnswer s)) (checkAnswer s)
+check-unpacked s = unpacked (packed (checkAnswer s)) (checkAnswer s) refl (check-small s)
+
+pub read-unpacked : (s : List ℕ) (i j : ℕ) → UnpackedCell (packedCell (readAnswer s i j)) (readAnswer s i j)
+read-unpacked s i j = unpacked-cell (packedCell (readAnswer s i j)) (readAnswer s i j) refl (read-small s i j)
+
+pub created-unpacked : (w : List ℕ) (rows cols r : ℕ) (w′ : List ℕ) (h : LentCreated w rows cols r w′)
+    → Unpacked r (h .answer)
+created-unpacked w rows cols r w′ h =
+    let k = create-small w rows cols in
+    let p = ap (λ (x : Answer). x .code) (h .done .answer-is) in
+    unpacked r (h .answer) (h .packed-is) (omega arith)
+
+pub lent-unpacked : (call : Call) (a b m c is js w : List ℕ) (r : ℕ) (c′ w′ : List ℕ)
+    (h : LentCompleted call a b m c is js w r c′ w′) → Unpacked r (h .answer)
+lent-unpacked call a b m c is js w r c′ w′ h =
+    let k = lent-small call a b m c is js (length w) in
+    let p = ap (λ (x : Answer). x .code) (h .done .attempted .answer-is) in
+    unpacked r (h .answer) (h .packed-is) (omega arith)
+
+pub store-unpacked : (s : List ℕ) (call : StoreCall) (r : ℕ) (s′ : List ℕ) (h : StorePerformed s call r s′)
+    → Unpacked r (h .answer)
+store-unpacked s call r s′ h =
+    unpacked r (h .answer) (h .packed-is) (store-small s call (h .answer) (h .done .answer-is))
+
+pub store-read-unpacked : (s : List ℕ) (call : StoreCall) (r : ℕ) (h : StoreRead s call r) → UnpackedCell r (h .answer)
+store-read-unpacked s call r h =
+    unpacked-cell r (h .answer) (h .packed-is) (store-read-small s call (h .answer) (h .done))

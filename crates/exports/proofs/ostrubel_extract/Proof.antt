@@ -1,0 +1,30 @@
+-- `ostrubel_extract` answers and leaves what `calls::extract` does.
+use borrow.Author.Needs.{needs}
+use Rattle.exports.proofs.ostrubel_extract.Statement.{statement}
+use Rattle.exports.proofs.ostrubel_extract.Tie as tie
+
+options-of-requires : tie.Need-options-of-requires
+options-of-requires c κs = search needs
+
+extract-requires : tie.Need-extract-requires
+extract-requires c κs = search needs
+
+pack-requires : tie.Need-pack-requires
+pack-requires c κs = search needs
+
+same-length : tie.Need-same-length
+same-length c = search needs
+
+same-length-2 : tie.Need-same-length-2
+same-length-2 c = search needs
+
+returns : tie.Need-returns
+returns c =
+    let q = c .before .before .before .before .before in
+    let o = q .before .before .before .options-of .ensures in
+    record { answer = _; packed-is = c .pack .ensures; done = rw o at (q .extract .ensures) }
+
+pub ostrubel-extract-spec : {M : Type 1} → statement M
+ostrubel-extract-spec =
+    tie.close
+    (tie.spec options-of-requires extract-requires pack-requires same-length same-length-2 returns)

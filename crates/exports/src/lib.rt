@@ -1,0 +1,421 @@
+// What C and other languages call: each public call as one function on numbers and slices. The numbers come first, in
+// the order of the wrapped function, then the buffers. A slice is passed as a pointer and the number of its words.
+// `flags`, `has_mask`, `has_accumulator` and `accumulator` are the call's options; a `has_..` is no where it is 0, else
+// yes. Any numbers and any buffers may be passed. Each call answers in one number: the code in the lower word, the
+// entries of what was written or checked, or the value of the cell that was read, in the upper.
+use answers::Answer;
+use call_codes::Options;
+use cells::CellAnswer;
+ghost use mathlib.Core.Path.{_≡_};
+ghost use mathlib.Core.List.{[]};
+ghost use Prim.Native.Nat.{_<_, _≤_};
+ghost use lib.ListN.{length, replicate};
+ghost use Rattle.matrix.specs.Valid.{checkAnswer};
+ghost use Rattle.cells.specs.Read.{readAnswer};
+ghost use Rattle.call_codes.specs.Decoding.{mxmCall, vxmCall, ewiseMultCall, ewiseAddCall, applyCall, extractCall};
+ghost use Rattle.model.specs.Calls.{newEmpty, dropSlot, setCell, clearCell, readCell, operation};
+ghost use Rattle.model.specs.Calls.{mxm, vxm, ewiseMult, ewiseAdd, apply, extract};
+ghost use Rattle.exports.specs.Packing.{packed, packedCell, presentBit, codeLimit};
+ghost use Rattle.exports.specs.Exported.{optionsOf, LentCreated, LentCompleted, StorePerformed, StoreRead};
+
+// In the answer of a read, what stands for a cell that is present.
+const PRESENT: u64 = 256;
+
+// In an answer, what 1 in the upper word counts.
+const UPPER_WORD: u64 = 4294967296;
+
+// Whether the words begin with a valid matrix, and its entries.
+#[no_mangle]
+pub extern "C" fn ostrubel_check(words: &[u32]) -> u64
+    ensures { λ r. ⌜ r ≡ packed (checkAnswer (now (words .entry))) ⌝ }
+{
+    pack(matrix::check(words))
+}
+
+// An empty matrix at the front of the buffer.
+#[no_mangle]
+pub extern "C" fn ostrubel_new_empty(rows: u32, cols: u32, buffer: &mut [u32]) -> u64
+    ensures { λ r. ⌜ LentCreated (now (buffer .entry)) rows cols r (now (buffer .exit)) ⌝ }
+{
+    pack(create::new_empty(buffer, rows, cols))
+}
+
+// One cell of a matrix.
+#[no_mangle]
+pub extern "C" fn ostrubel_read_cell(i: u32, j: u32, words: &[u32]) -> u64
+    ensures { λ r. ⌜ r ≡ packedCell (readAnswer (now (words .entry)) i j) ⌝ }
+{
+    pack_cell(cells::read_cell(words, i, j))
+}
+
+// "Product": C gets A times B, by a monoid and an operator.
+#[no_mangle]
+pub extern "C" fn ostrubel_mxm<'a>(
+    flags: u32,
+    has_mask: u32,
+    has_accumulator: u32,
+    accumulator: u32,
+    monoid: u32,
+    op: u32,
+    a: &'a [u32],
+    b: &'a [u32],
+    mask: &[u32],
+    c: &mut [u32],
+    work: &mut [u32],
+) -> u64
+    ensures { λ r. ⌜ LentCompleted (mxmCall (optionsOf flags «has_mask» «has_accumulator» accumulator) monoid op)
+        (now (a .entry)) (now (b .entry)) (now (mask .entry)) (now (c .entry)) [] [] (now (work .entry))
+        r (now (c .exit)) (now (work .exit)) ⌝ }
+{
+    let options = options_of(flags, has_mask, has_accumulator, accumulator);
+    pack(calls::mxm(options, monoid, op, a, b, mask, c, work))
+}
+
+// "Strip times sheet": the product with a vector u as first input.
+#[no_mangle]
+pub extern "C" fn ostrubel_vxm<'a>(
+    flags: u32,
+    has_mask: u32,
+    has_accumulator: u32,
+    accumulator: u32,
+    monoid: u32,
+    op: u32,
+    u: &'a [u32],
+    a: &'a [u32],
+    mask: &[u32],
+    c: &mut [u32],
+    work: &mut [u32],
+) -> u64
+    ensures { λ r. ⌜ LentCompleted (vxmCall (optionsOf flags «has_mask» «has_accumulator» accumulator) monoid op)
+        (now (u .entry)) (now (a .entry)) (now (mask .entry)) (now (c .entry)) [] [] (now (work .entry))
+        r (now (c .exit)) (now (work .exit)) ⌝ }
+{
+    let options = options_of(flags, has_mask, has_accumulator, accumulator);
+    pack(calls::vxm(options, monoid, op, u, a, mask, c, work))
+}
+
+// "Intersection".
+#[no_mangle]
+pub extern "C" fn ostrubel_ewise_mult<'a>(
+    flags: u32,
+    has_mask: u32,
+    has_accumulator: u32,
+    accumulator: u32,
+    op: u32,
+    a: &'a [u32],
+    b: &'a [u32],
+    mask: &[u32],
+    c: &mut [u32],
+    work: &mut [u32],
+) -> u64
+    ensures { λ r. ⌜ LentCompleted (ewiseMultCall (optionsOf flags «has_mask» «has_accumulator» accumulator) op)
+        (now (a .entry)) (now (b .entry)) (now (mask .entry)) (now (c .entry)) [] [] (now (work .entry))
+        r (now (c .exit)) (now (work .exit)) ⌝ }
+{
+    let options = options_of(flags, has_mask, has_accumulator, accumulator);
+    pack(calls::ewise_mult(options, op, a, b, mask, c, work))
+}
+
+// "Union".
+#[no_mangle]
+pub extern "C" fn ostrubel_ewise_add<'a>(
+    flags: u32,
+    has_mask: u32,
+    has_accumulator: u32,
+    accumulator: u32,
+    op: u32,
+    a: &'a [u32],
+    b: &'a [u32],
+    mask: &[u32],
+    c: &mut [u32],
+    work: &mut [u32],
+) -> u64
+    ensures { λ r. ⌜ LentCompleted (ewiseAddCall (optionsOf flags «has_mask» «has_accumulator» accumulator) op)
+        (now (a .entry)) (now (b .entry)) (now (mask .entry)) (now (c .entry)) [] [] (now (work .entry))
+        r (now (c .exit)) (now (work .exit)) ⌝ }
+{
+    let options = options_of(flags, has_mask, has_accumulator, accumulator);
+    pack(calls::ewise_add(options, op, a, b, mask, c, work))
+}
+
+// "Apply": a kind, an operator of that kind and a scalar.
+#[no_mangle]
+pub extern "C" fn ostrubel_apply(
+    flags: u32,
+    has_mask: u32,
+    has_accumulator: u32,
+    accumulator: u32,
+    kind: u32,
+    op: u32,
+    scalar: u32,
+    a: &[u32],
+    mask: &[u32],
+    c: &mut [u32],
+    work: &mut [u32],
+) -> u64
+    ensures { λ r. ⌜ LentCompleted
+        (applyCall (optionsOf flags «has_mask» «has_accumulator» accumulator) kind op scalar)
+        (now (a .entry)) [] (now (mask .entry)) (now (c .entry)) [] [] (now (work .entry))
+        r (now (c .exit)) (now (work .exit)) ⌝ }
+{
+    let options = options_of(flags, has_mask, has_accumulator, accumulator);
+    pack(calls::apply(options, kind, op, scalar, a, mask, c, work))
+}
+
+// "Extract": the listed rows and columns of A.
+#[no_mangle]
+pub extern "C" fn ostrubel_extract(
+    flags: u32,
+    has_mask: u32,
+    has_accumulator: u32,
+    accumulator: u32,
+    a: &[u32],
+    is: &[u32],
+    js: &[u32],
+    mask: &[u32],
+    c: &mut [u32],
+    work: &mut [u32],
+) -> u64
+    ensures { λ r. ⌜ LentCompleted (extractCall (optionsOf flags «has_mask» «has_accumulator» accumulator))
+        (now (a .entry)) [] (now (mask .entry)) (now (c .entry)) (now (is .entry)) (now (js .entry)) (now (work .entry))
+        r (now (c .exit)) (now (work .exit)) ⌝ }
+{
+    let options = options_of(flags, has_mask, has_accumulator, accumulator);
+    pack(calls::extract(options, a, is, js, mask, c, work))
+}
+
+// An empty matrix in a slot, whatever was there.
+#[no_mangle]
+pub extern "C" fn ostrubel_store_new_empty(
+    slot: usize,
+    rows: u32,
+    cols: u32,
+    store: &mut [u32],
+) -> u64
+    ensures { λ r. ⌜ StorePerformed (now (store .entry)) (newEmpty slot rows cols) r (now (store .exit)) ⌝ }
+{
+    pack(store_cells::new_empty(store, slot, rows, cols))
+}
+
+// A slot becomes empty.
+#[no_mangle]
+pub extern "C" fn ostrubel_store_drop(slot: usize, store: &mut [u32]) -> u64
+    ensures { λ r. ⌜ StorePerformed (now (store .entry)) (dropSlot slot) r (now (store .exit)) ⌝ }
+{
+    pack(store_cells::drop_slot(store, slot))
+}
+
+// A cell takes a value.
+#[no_mangle]
+pub extern "C" fn ostrubel_store_set_cell(
+    slot: usize,
+    i: u32,
+    j: u32,
+    value: u32,
+    store: &mut [u32],
+) -> u64
+    ensures { λ r. ⌜ StorePerformed (now (store .entry)) (setCell slot i j value) r (now (store .exit)) ⌝ }
+{
+    pack(store_cells::set_cell(store, slot, i, j, value))
+}
+
+// A cell becomes empty.
+#[no_mangle]
+pub extern "C" fn ostrubel_store_clear_cell(slot: usize, i: u32, j: u32, store: &mut [u32]) -> u64
+    ensures { λ r. ⌜ StorePerformed (now (store .entry)) (clearCell slot i j) r (now (store .exit)) ⌝ }
+{
+    pack(store_cells::clear_cell(store, slot, i, j))
+}
+
+// One cell of a slot.
+#[no_mangle]
+pub extern "C" fn ostrubel_store_read_cell(slot: usize, i: u32, j: u32, store: &[u32]) -> u64
+    ensures { λ r. ⌜ StoreRead (now (store .entry)) (readCell slot i j) r ⌝ }
+{
+    pack_cell(store_cells::read_cell(store, slot, i, j))
+}
+
+// "Product": C gets A times B, by a monoid and an operator.
+#[no_mangle]
+pub extern "C" fn ostrubel_store_mxm(
+    flags: u32,
+    has_mask: u32,
+    has_accumulator: u32,
+    accumulator: u32,
+    monoid: u32,
+    op: u32,
+    a: usize,
+    b: usize,
+    mask: usize,
+    c: usize,
+    store: &mut [u32],
+    work: &mut [u32],
+) -> u64
+    ensures { λ r. ⌜ StorePerformed (now (store .entry))
+        (operation (mxm (optionsOf flags «has_mask» «has_accumulator» accumulator)
+        monoid op a b mask c (length (now (work .entry)))))
+        r (now (store .exit)) ⌝ ∗
+        ⌜ now (work .exit) ≡ replicate (length (now (work .entry))) 0 ⌝ }
+{
+    let options = options_of(flags, has_mask, has_accumulator, accumulator);
+    pack(store_calls::mxm(store, options, monoid, op, a, b, mask, c, work))
+}
+
+// "Strip times sheet": the product with a vector u as first input.
+#[no_mangle]
+pub extern "C" fn ostrubel_store_vxm(
+    flags: u32,
+    has_mask: u32,
+    has_accumulator: u32,
+    accumulator: u32,
+    monoid: u32,
+    op: u32,
+    u: usize,
+    a: usize,
+    mask: usize,
+    c: usize,
+    store: &mut [u32],
+    work: &mut [u32],
+) -> u64
+    ensures { λ r. ⌜ StorePerformed (now (store .entry))
+        (operation (vxm (optionsOf flags «has_mask» «has_accumulator» accumulator)
+        monoid op u a mask c (length (now (work .entry)))))
+        r (now (store .exit)) ⌝ ∗
+        ⌜ now (work .exit) ≡ replicate (length (now (work .entry))) 0 ⌝ }
+{
+    let options = options_of(flags, has_mask, has_accumulator, accumulator);
+    pack(store_calls::vxm(store, options, monoid, op, u, a, mask, c, work))
+}
+
+// "Intersection".
+#[no_mangle]
+pub extern "C" fn ostrubel_store_ewise_mult(
+    flags: u32,
+    has_mask: u32,
+    has_accumulator: u32,
+    accumulator: u32,
+    op: u32,
+    a: usize,
+    b: usize,
+    mask: usize,
+    c: usize,
+    store: &mut [u32],
+    work: &mut [u32],
+) -> u64
+    ensures { λ r. ⌜ StorePerformed (now (store .entry))
+        (operation (ewiseMult (optionsOf flags «has_mask» «has_accumulator» accumulator)
+        op a b mask c (length (now (work .entry)))))
+        r (now (store .exit)) ⌝ ∗
+        ⌜ now (work .exit) ≡ replicate (length (now (work .entry))) 0 ⌝ }
+{
+    let options = options_of(flags, has_mask, has_accumulator, accumulator);
+    pack(store_calls::ewise_mult(store, options, op, a, b, mask, c, work))
+}
+
+// "Union".
+#[no_mangle]
+pub extern "C" fn ostrubel_store_ewise_add(
+    flags: u32,
+    has_mask: u32,
+    has_accumulator: u32,
+    accumulator: u32,
+    op: u32,
+    a: usize,
+    b: usize,
+    mask: usize,
+    c: usize,
+    store: &mut [u32],
+    work: &mut [u32],
+) -> u64
+    ensures { λ r. ⌜ StorePerformed (now (store .entry))
+        (operation (ewiseAdd (optionsOf flags «has_mask» «has_accumulator» accumulator)
+        op a b mask c (length (now (work .entry)))))
+        r (now (store .exit)) ⌝ ∗
+        ⌜ now (work .exit) ≡ replicate (length (now (work .entry))) 0 ⌝ }
+{
+    let options = options_of(flags, has_mask, has_accumulator, accumulator);
+    pack(store_calls::ewise_add(store, options, op, a, b, mask, c, work))
+}
+
+// "Apply": a kind, an operator of that kind and a scalar.
+#[no_mangle]
+pub extern "C" fn ostrubel_store_apply(
+    flags: u32,
+    has_mask: u32,
+    has_accumulator: u32,
+    accumulator: u32,
+    kind: u32,
+    op: u32,
+    scalar: u32,
+    a: usize,
+    mask: usize,
+    c: usize,
+    store: &mut [u32],
+    work: &mut [u32],
+) -> u64
+    ensures { λ r. ⌜ StorePerformed (now (store .entry))
+        (operation (apply (optionsOf flags «has_mask» «has_accumulator» accumulator)
+        kind op scalar a mask c (length (now (work .entry)))))
+        r (now (store .exit)) ⌝ ∗
+        ⌜ now (work .exit) ≡ replicate (length (now (work .entry))) 0 ⌝ }
+{
+    let options = options_of(flags, has_mask, has_accumulator, accumulator);
+    pack(store_calls::apply(store, options, kind, op, scalar, a, mask, c, work))
+}
+
+// "Extract": the listed rows and columns of A.
+#[no_mangle]
+pub extern "C" fn ostrubel_store_extract(
+    flags: u32,
+    has_mask: u32,
+    has_accumulator: u32,
+    accumulator: u32,
+    a: usize,
+    mask: usize,
+    c: usize,
+    store: &mut [u32],
+    is: &[u32],
+    js: &[u32],
+    work: &mut [u32],
+) -> u64
+    ensures { λ r. ⌜ StorePerformed (now (store .entry))
+        (operation (extract (optionsOf flags «has_mask» «has_accumulator» accumulator)
+        a (now (is .entry)) (now (js .entry)) mask c (length (now (work .entry)))))
+        r (now (store .exit)) ⌝ ∗
+        ⌜ now (work .exit) ≡ replicate (length (now (work .entry))) 0 ⌝ }
+{
+    let options = options_of(flags, has_mask, has_accumulator, accumulator);
+    pack(store_calls::extract(store, options, a, is, js, mask, c, work))
+}
+
+// The code in the lower word, the entries in the upper.
+fn pack(answer: Answer) -> u64
+    ensures { λ r. ⌜ r ≡ packed answer ⌝ }
+{
+    answer.code as u64 + answer.entries as u64 * UPPER_WORD
+}
+
+// The code and whether the cell is present in the lower word, the value in the upper.
+fn pack_cell(answer: CellAnswer) -> u64
+    requires { ⌜ answer .code < codeLimit ⌝ }
+    ensures { λ r. ⌜ r ≡ packedCell answer ⌝ }
+{
+    answer.code as u64 + present_bit(answer.present) + answer.value as u64 * UPPER_WORD
+}
+
+fn present_bit(present: bool) -> u64
+    ensures { λ r. ⌜ r ≡ presentBit present ⌝ ∗ ⌜ r ≤ codeLimit ⌝ }
+{
+    if present { PRESENT } else { 0 }
+}
+
+fn options_of(flags: u32, has_mask: u32, has_accumulator: u32, accumulator: u32) -> Options
+    ensures { λ r. ⌜ r ≡ optionsOf flags «has_mask» «has_accumulator» accumulator ⌝ }
+{
+    Options {
+        flags: flags,
+        has_mask: has_mask != 0,
+        has_accumulator: has_accumulator != 0,
+        accumulator: accumulator,
+    }
+}

@@ -1,0 +1,251 @@
+/*
+ * Calls every function of ostrubel.h at least once and compares the answers and the words. Prints "ok", or the line of
+ * the first difference. host/c/run.sh builds and runs it, from the repository's folder:
+ *   rt staticlib exports
+ *   gcc -std=c99 -Wall -Wextra -Werror -Iinclude -o target/c/test host/c/test.c target/staticlib/libexports.a
+ *   target/c/test
+ */
+#include <stdio.h>
+#include <stdlib.h>
+#include <string.h>
+
+#include "ostrubel.h"
+
+#define WORDS(x) (x), (sizeof(x) / sizeof((x)[0]))
+#define NO_MASK none, 0
+#define PLAIN 0, 0, 0, 0 /* no flags, no mask, no accumulator */
+
+#define CHECK(condition)                                                \
+    do {                                                                \
+        if (!(condition)) {                                             \
+            printf("failed at line %d: %s\n", __LINE__, #condition);    \
+            exit(1);                                                    \
+        }                                                               \
+    } while (0)
+
+/* The answer, and the words of x from the first on. */
+#define ACCEPTED(answer, n) CHECK((answer) == (uint64_t)(n) << 32)
+#define REFUSED(answer, code) CHECK((answer) == (uint64_t)(code))
+#define SAME(x, ...)                                                    \
+    do {                                                                \
+        const uint32_t expected[] = {__VA_ARGS__};                      \
+        CHECK(memcmp((x), expected, sizeof(expected)) == 0);            \
+    } while (0)
+
+static uint32_t work[OSTRUBEL_MIN_WORKSPACE_WORDS];
+static const uint32_t none[1] = {0};
+
+/* "The 1 by 4 strip with 10, 20, 40 at columns 0, 1, 3". */
+static const uint32_t strip[] = {2, 1, 4, 2, 0, 3, 3, 0, 1, 3, 3, 10, 20, 40};
+
+/* The 4 by 3 matrix of P1. */
+static const uint32_t matrix[] = {2, 4, 3, 5, 0, 2, 4, 6, 8, 8, 1, 2, 0, 1, 1, 2, 0, 1, 8, 3, 2, 9, 6, 3, 1, 0, 5};
+
+/* T and the mask of P7 to P12. */
+static const uint32_t result[] = {2, 1, 4, 2, 0, 2, 2, 1, 3, 2, 9, 9};
+static const uint32_t mask[] = {2, 1, 4, 2, 0, 3, 3, 0, 1, 3, 3, 1, 0, 5};
+
+/* Any words in the workspace, and whether a call left only zeros there. */
+static void fill_work(void) { memset(work, 0xa5, sizeof(work)); }
+
+static int work_cleared(void) {
+    for (size_t i = 0; i < OSTRUBEL_MIN_WORKSPACE_WORDS; i++) {
+        if (work[i] != 0) return 0;
+    }
+    return 1;
+}
+
+static void test_format(void) {
+    ACCEPTED(ostrubel_check(WORDS(strip)), 3);
+    ACCEPTED(ostrubel_check(WORDS(matrix)), 8);
+    REFUSED(ostrubel_check(strip, 13), OSTRUBEL_INVALID_FIRST);
+    REFUSED(ostrubel_check(none, 0), OSTRUBEL_INVALID_FIRST);
+
+    uint32_t buffer[10] = {7, 7, 7, 7, 7, 7, 7, 7, 7, 7};
+    REFUSED(ostrubel_new_empty(513, 3, WORDS(buffer)), OSTRUBEL_INVALID_SHAPE);
+    REFUSED(ostrubel_new_empty(4, 3, WORDS(buffer)), OSTRUBEL_INSUFFICIENT_SPACE);
+    SAME(buffer, 7, 7, 7, 7, 7, 7, 7, 7, 7, 7);
+    ACCEPTED(ostrubel_new_empty(2, 3, WORDS(buffer)), 0);
+    SAME(buffer, 2, 2, 3, 3, 0, 0, 0, 0, 0, 7);
+
+    uint64_t cell = ostrubel_read_cell(0, 1, WORDS(strip));
+    CHECK(ostrubel_code(cell) == OSTRUBEL_OK && ostrubel_present(cell) && ostrubel_value(cell) == 20);
+    cell = ostrubel_read_cell(3, 0, WORDS(matrix)); /* an entry 0 */
+    CHECK(ostrubel_code(cell) == OSTRUBEL_OK && ostrubel_present(cell) && ostrubel_value(cell) == 0);
+    CHECK(ostrubel_read_cell(0, 2, WORDS(strip)) == 0);
+    REFUSED(ostrubel_read_cell(0, 4, WORDS(strip)), OSTRUBEL_INDEX_OUT_OF_BOUNDS);
+    REFUSED(ostrubel_read_cell(0, 1, strip, 5), OSTRUBEL_INVALID_FIRST);
+}
+
+static void test_products(void) {
+    uint32_t c[16] = {0};
+    ACCEPTED(ostrubel_new_empty(1, 3, WORDS(c)), 0);
+    c[14] = 99; /* a spare word */
+    fill_work();
+    uint64_t answer = ostrubel_vxm(PLAIN, OSTRUBEL_PLUS, OSTRUBEL_PLUS, WORDS(strip), WORDS(matrix), NO_MASK, WORDS(c),
+                                   WORDS(work));
+    CHECK(ostrubel_code(answer) == OSTRUBEL_OK && ostrubel_entries(answer) == 3);
+    SAME(c, 2, 1, 3, 2, 0, 3, 3, 0, 1, 2, 3, 69, 84, 12, 99, 0);
+    CHECK(work_cleared());
+
+    /* the accumulator: PLUS of old C and the same again */
+    ACCEPTED(ostrubel_mxm(0, 0, 1, OSTRUBEL_PLUS, OSTRUBEL_PLUS, OSTRUBEL_PLUS, WORDS(strip), WORDS(matrix), NO_MASK,
+                          WORDS(c), WORDS(work)), 3);
+    SAME(c, 2, 1, 3, 2, 0, 3, 3, 0, 1, 2, 3, 138, 168, 24, 99, 0);
+
+    /* refusals: the codes in their order, C as it was and the workspace cleared */
+    fill_work();
+    REFUSED(ostrubel_mxm(32, 0, 1, 8, 4, 9, none, 0, none, 0, NO_MASK, WORDS(c), WORDS(work)),
+            OSTRUBEL_FLAGS_OUT_OF_RANGE);
+    CHECK(work_cleared());
+    REFUSED(ostrubel_mxm(PLAIN, OSTRUBEL_MINUS, OSTRUBEL_PLUS, WORDS(strip), WORDS(matrix), NO_MASK, WORDS(c),
+                         WORDS(work)), OSTRUBEL_UNKNOWN_OPERATOR);
+    REFUSED(ostrubel_mxm(PLAIN, OSTRUBEL_PLUS, OSTRUBEL_PLUS, WORDS(matrix), WORDS(matrix), NO_MASK, WORDS(c),
+                         WORDS(work)), OSTRUBEL_INVALID_SHAPE);
+    REFUSED(ostrubel_vxm(PLAIN, OSTRUBEL_PLUS, OSTRUBEL_PLUS, WORDS(strip), WORDS(matrix), NO_MASK, WORDS(c), work,
+                         OSTRUBEL_MIN_WORKSPACE_WORDS - 1), OSTRUBEL_WORKSPACE_TOO_SHORT);
+    SAME(c, 2, 1, 3, 2, 0, 3, 3, 0, 1, 2, 3, 138, 168, 24, 99, 0);
+}
+
+static void test_elementwise(void) {
+    uint32_t c[15] = {0};
+    const uint32_t lone[] = {2, 1, 4, 2, 0, 1, 1, 2, 1, 7};
+
+    ACCEPTED(ostrubel_new_empty(1, 4, WORDS(c)), 0);
+    ACCEPTED(ostrubel_ewise_mult(PLAIN, OSTRUBEL_MINUS, WORDS(strip), WORDS(strip), NO_MASK, WORDS(c), WORDS(work)), 3);
+    SAME(c, 2, 1, 4, 2, 0, 3, 3, 0, 1, 3, 3, 0, 0, 0);
+
+    /* four entries need 16 words */
+    REFUSED(ostrubel_ewise_add(PLAIN, OSTRUBEL_MINUS, WORDS(strip), WORDS(lone), NO_MASK, WORDS(c), WORDS(work)),
+            OSTRUBEL_INSUFFICIENT_SPACE);
+    SAME(c, 2, 1, 4, 2, 0, 3, 3, 0, 1, 3, 3, 0, 0, 0);
+    uint32_t wide[16] = {0};
+    ACCEPTED(ostrubel_new_empty(1, 4, WORDS(wide)), 0);
+    ACCEPTED(ostrubel_ewise_add(PLAIN, OSTRUBEL_MINUS, WORDS(strip), WORDS(lone), NO_MASK, WORDS(wide), WORDS(work)),
+             4);
+    SAME(wide, 2, 1, 4, 2, 0, 4, 4, 0, 1, 2, 3, 4, 10, 20, 7, 40);
+
+    /* P2 and P3 */
+    ACCEPTED(ostrubel_apply(PLAIN, OSTRUBEL_SCALAR_SECOND, OSTRUBEL_MINUS, 15, WORDS(strip), NO_MASK, WORDS(c),
+                            WORDS(work)), 3);
+    SAME(c, 2, 1, 4, 2, 0, 3, 3, 0, 1, 3, 3, 4294967291, 5, 25);
+    ACCEPTED(ostrubel_apply(PLAIN, OSTRUBEL_INDEX_UNARY, OSTRUBEL_COLINDEX, 0, WORDS(strip), NO_MASK, WORDS(c),
+                            WORDS(work)), 3);
+    SAME(c, 2, 1, 4, 2, 0, 3, 3, 0, 1, 3, 3, 0, 1, 3);
+
+    /* an index may repeat */
+    const uint32_t rows[] = {0};
+    const uint32_t cols[] = {3, 2, 3, 0};
+    ACCEPTED(ostrubel_extract(PLAIN, WORDS(strip), WORDS(rows), WORDS(cols), NO_MASK, WORDS(c), WORDS(work)), 3);
+    SAME(c, 2, 1, 4, 2, 0, 3, 3, 0, 2, 3, 3, 40, 40, 10);
+    REFUSED(ostrubel_extract(PLAIN, WORDS(strip), WORDS(cols), WORDS(rows), NO_MASK, WORDS(c), WORDS(work)),
+            OSTRUBEL_INDEX_OUT_OF_BOUNDS);
+}
+
+/* P7, P8, P9 and P11: has_mask and has_accumulator are any number but 0. */
+static void test_write_back(void) {
+    const uint32_t old[16] = {2, 1, 4, 2, 0, 3, 3, 0, 1, 2, 3, 1, 2, 3, 8, 8};
+    uint32_t c[16];
+
+    memcpy(c, old, sizeof(old));
+    ACCEPTED(ostrubel_apply(0, 1, 0, 77, OSTRUBEL_UNARY, OSTRUBEL_IDENTITY, 0, WORDS(result), WORDS(mask), WORDS(c),
+                            WORDS(work)), 3);
+    SAME(c, 2, 1, 4, 2, 0, 3, 3, 1, 2, 3, 3, 2, 3, 9, 8, 8);
+
+    memcpy(c, old, sizeof(old));
+    ACCEPTED(ostrubel_apply(OSTRUBEL_REPLACE, 256, 0, 0, OSTRUBEL_UNARY, OSTRUBEL_IDENTITY, 0, WORDS(result),
+                            WORDS(mask), WORDS(c), WORDS(work)), 1);
+    SAME(c, 2, 1, 4, 2, 0, 1, 1, 3, 1, 9, 3, 1, 2, 3, 8, 8);
+
+    memcpy(c, old, sizeof(old));
+    ACCEPTED(ostrubel_apply(OSTRUBEL_STRUCTURAL, 1, 0, 0, OSTRUBEL_UNARY, OSTRUBEL_IDENTITY, 0, WORDS(result),
+                            WORDS(mask), WORDS(c), WORDS(work)), 3);
+    SAME(c, 2, 1, 4, 2, 0, 3, 3, 1, 2, 3, 3, 9, 3, 9, 8, 8);
+
+    memcpy(c, old, sizeof(old));
+    ACCEPTED(ostrubel_apply(0, 2, 4294967295, OSTRUBEL_PLUS, OSTRUBEL_UNARY, OSTRUBEL_IDENTITY, 0, WORDS(result),
+                            WORDS(mask), WORDS(c), WORDS(work)), 4);
+    SAME(c, 2, 1, 4, 2, 0, 4, 4, 0, 1, 2, 3, 4, 1, 2, 3, 9);
+}
+
+static void test_store_cells(void) {
+    uint32_t store[32] = {0};
+    ACCEPTED(ostrubel_store_new_empty(2, 1, 4, WORDS(store)), 0);
+    SAME(store, 0, 0, 8, 2, 1, 4, 2, 0, 0, 0, 0, 0, 0, 0, 0, 0, 0);
+    ACCEPTED(ostrubel_store_set_cell(2, 0, 3, 40, WORDS(store)), 1);
+    ACCEPTED(ostrubel_store_set_cell(2, 0, 0, 10, WORDS(store)), 2);
+    ACCEPTED(ostrubel_store_set_cell(2, 0, 1, 20, WORDS(store)), 3);
+    SAME(store, 0, 0, 14, 2, 1, 4, 2, 0, 3, 3, 0, 1, 3, 3, 10, 20, 40, 0, 0, 0, 0, 0, 0);
+
+    uint64_t cell = ostrubel_store_read_cell(2, 0, 3, WORDS(store));
+    CHECK(ostrubel_code(cell) == OSTRUBEL_OK && ostrubel_present(cell) && ostrubel_value(cell) == 40);
+    CHECK(ostrubel_store_read_cell(2, 0, 2, WORDS(store)) == 0);
+    REFUSED(ostrubel_store_read_cell(8, 0, 0, WORDS(store)), OSTRUBEL_INVALID_STORE);
+    REFUSED(ostrubel_store_read_cell(3, 0, 0, WORDS(store)), OSTRUBEL_EMPTY_SLOT);
+    REFUSED(ostrubel_store_read_cell(2, 1, 0, WORDS(store)), OSTRUBEL_INDEX_OUT_OF_BOUNDS);
+
+    /* 22 of 32 words are in use: one of 2 rows and no entries fits, one of 4 rows does not */
+    REFUSED(ostrubel_store_new_empty(0, 4, 1, WORDS(store)), OSTRUBEL_INSUFFICIENT_SPACE);
+    ACCEPTED(ostrubel_store_new_empty(0, 2, 1, WORDS(store)), 0);
+    SAME(store, 9, 2, 2, 1, 3, 0, 0, 0, 0, 0, 0, 14, 2, 1, 4, 2, 0, 3, 3, 0, 1, 3, 3, 10, 20, 40, 0, 0, 0, 0, 0, 0);
+    ACCEPTED(ostrubel_store_clear_cell(2, 0, 1, WORDS(store)), 2);
+    ACCEPTED(ostrubel_store_clear_cell(2, 0, 1, WORDS(store)), 2);
+    ACCEPTED(ostrubel_store_drop(0, WORDS(store)), 0);
+    SAME(store, 0, 0, 12, 2, 1, 4, 2, 0, 2, 2, 0, 3, 2, 10, 40, 0, 0, 0, 0, 0, 0, 0, 0, 0, 0, 0, 0, 0, 0, 0, 0, 0);
+
+    /* words that are no store, and a store that is too short */
+    store[31] = 1;
+    REFUSED(ostrubel_store_drop(2, WORDS(store)), OSTRUBEL_INVALID_STORE);
+    CHECK(store[2] == 12 && store[31] == 1);
+    REFUSED(ostrubel_store_set_cell(2, 0, 0, 1, store, 7), OSTRUBEL_INVALID_STORE);
+}
+
+/* The six operations: slot 0 has the vector of document 01, slot 1 the matrix of P1, slot 2 is C. */
+static void test_store_operations(void) {
+    static uint32_t store[OSTRUBEL_MAX_STORE_WORDS];
+    store[0] = 14;
+    memcpy(store + 1, strip, sizeof(strip));
+    store[15] = 27;
+    memcpy(store + 16, matrix, sizeof(matrix));
+    uint32_t *c = store + 43;
+
+    REFUSED(ostrubel_store_vxm(PLAIN, OSTRUBEL_PLUS, OSTRUBEL_PLUS, 0, 1, 9, 2, WORDS(store), WORDS(work)),
+            OSTRUBEL_EMPTY_SLOT);
+    ACCEPTED(ostrubel_store_new_empty(2, 1, 3, WORDS(store)), 0);
+    fill_work();
+    ACCEPTED(ostrubel_store_vxm(PLAIN, OSTRUBEL_PLUS, OSTRUBEL_PLUS, 0, 1, 9, 2, WORDS(store), WORDS(work)), 3);
+    SAME(c, 14, 2, 1, 3, 2, 0, 3, 3, 0, 1, 2, 3, 69, 84, 12, 0);
+    CHECK(work_cleared());
+    ACCEPTED(ostrubel_store_mxm(0, 0, 1, OSTRUBEL_MINUS, OSTRUBEL_PLUS, OSTRUBEL_PLUS, 0, 1, 9, 2, WORDS(store),
+                                WORDS(work)), 3);
+    SAME(c, 14, 2, 1, 3, 2, 0, 3, 3, 0, 1, 2, 3, 0, 0, 0, 0);
+    REFUSED(ostrubel_store_mxm(0, 1, 0, 0, OSTRUBEL_PLUS, OSTRUBEL_PLUS, 0, 1, 9, 2, WORDS(store), WORDS(work)),
+            OSTRUBEL_INVALID_STORE);
+
+    /* one slot in several roles */
+    ACCEPTED(ostrubel_store_ewise_mult(PLAIN, OSTRUBEL_PLUS, 0, 0, 9, 0, WORDS(store), WORDS(work)), 3);
+    SAME(store, 14, 2, 1, 4, 2, 0, 3, 3, 0, 1, 3, 3, 20, 40, 80, 27);
+    ACCEPTED(ostrubel_store_ewise_add(PLAIN, OSTRUBEL_MINUS, 0, 0, 9, 0, WORDS(store), WORDS(work)), 3);
+    SAME(store, 14, 2, 1, 4, 2, 0, 3, 3, 0, 1, 3, 3, 0, 0, 0, 27);
+    ACCEPTED(ostrubel_store_apply(PLAIN, OSTRUBEL_INDEX_UNARY, OSTRUBEL_COLINDEX, 5, 0, 9, 0, WORDS(store),
+                                  WORDS(work)), 3);
+    SAME(store, 14, 2, 1, 4, 2, 0, 3, 3, 0, 1, 3, 3, 5, 6, 8, 27);
+
+    /* columns 2 and 1 of rows 0 and 3, into a C of 2 by 2 */
+    const uint32_t rows[] = {0, 3};
+    const uint32_t cols[] = {2, 1};
+    ACCEPTED(ostrubel_store_new_empty(2, 2, 2, WORDS(store)), 0);
+    ACCEPTED(ostrubel_store_extract(PLAIN, 1, 9, 2, WORDS(store), WORDS(rows), WORDS(cols), WORDS(work)), 3);
+    SAME(c, 15, 2, 2, 2, 3, 0, 2, 3, 3, 0, 1, 1, 3, 2, 3, 5, 0);
+}
+
+int main(void) {
+    test_format();
+    test_products();
+    test_elementwise();
+    test_write_back();
+    test_store_cells();
+    test_store_operations();
+    printf("ok\n");
+    return 0;
+}

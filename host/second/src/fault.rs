@@ -1,0 +1,105 @@
+//! Faults that can be planted in the model, to see that the comparison notices them.
+
+macro_rules! faults {
+    ($($name:ident: $text:literal,)*) => {
+        #[derive(Clone, Copy, PartialEq, Eq, Debug)]
+        pub enum Fault {
+            None,
+            $($name,)*
+        }
+
+        /// Every fault with a sentence about it. A fault's number is its position from 1.
+        pub const ALL: &[(Fault, &str)] = &[$((Fault::$name, $text),)*];
+    };
+}
+
+faults! {
+    // Operators.
+    FirstIsSecond: "FIRST gives y",
+    OnebIsFirst: "ONEB gives x",
+    PlusSaturates: "PLUS stops at the ends of the range",
+    MinusSwapped: "MINUS gives y - x",
+    MinusSaturates: "MINUS stops at the ends of the range",
+    TimesSaturates: "TIMES stops at the ends of the range",
+    MinUnsigned: "MIN compares unsigned words",
+    MaxUnsigned: "MAX compares unsigned words",
+    AinvSaturates: "AINV of the smallest value is the largest",
+    AbsSaturates: "ABS of the smallest value is the largest",
+    LnotOfNegative: "LNOT of a negative value is 1",
+    DiagIndexParse: "DIAGINDEX gives j - (i + s)",
+    IndexAsTransposed: "index operators see the transposed row and column",
+    ScalarSidesSwapped: "the scalar's side is swapped",
+    // Operations.
+    MonoidIsOperator: "products are added up with the multiplying operator if it is a monoid",
+    StripTransposed: "flag 8 transposes an n by 1 first input of a strip-times-sheet product",
+    SecondNotTransposed: "flag 16 is ignored",
+    UnionNegatesLoneRight: "a lone right-hand value of a MINUS union is negated",
+    ExtractListsSwapped: "the index lists of a square extract are swapped",
+    ZeroDropped: "a result of 0 is no entry",
+    // Write-back.
+    OldKeptInside: "without an accumulator an old entry stays inside the mask where T is empty",
+    MaskZeroIsTrue: "a stored 0 of the mask counts as true",
+    StructuralIgnored: "the structural flag is ignored",
+    ComplementNeedsMask: "complement without a mask is ignored",
+    ReplaceNeedsMask: "replace without a mask is ignored",
+    ReplaceIgnored: "replace is ignored",
+    AccumulatorSwapped: "the accumulator takes old C second",
+    AccumulatorForgetsOld: "with an accumulator an old entry goes where T is empty",
+    MaskTransposed: "a square mask is transposed with the first input",
+    // Refusals and their order.
+    Flag32Accepted: "flags of 32 are accepted",
+    MonoidMinusAccepted: "MINUS is accepted as a monoid",
+    AbsentAccumulatorRead: "an absent accumulator's number is looked at",
+    AbsentMaskRead: "an absent mask's words or place are looked at",
+    Code2Before1: "2 comes before 1",
+    Code3Before2: "3 comes before 2",
+    Code4Before3: "4 comes before 3",
+    Code5Before4: "5 comes before 4",
+    Code6Before5: "6 comes before 5",
+    Code7Before6: "7 comes before 6",
+    Code8Before7: "8 comes before 7",
+    Code9Before8: "9 comes before 8",
+    Code10Before9: "10 comes before 9",
+    Code11Before10: "11 comes before 10",
+    ListOf512Refused: "a list of 512 is refused",
+    ListOf513Accepted: "a list of 513 is answered with 8",
+    IndexAsStored: "indices are held against A as stored",
+    StoreCode1Before12: "1 comes before 12",
+    StoreCode2Before12: "2 comes before 12",
+    StoreCode13Before2: "13 comes before 2",
+    StoreCode7Before13: "7 comes before 13",
+    StoreCode9Before13: "9 comes before 13",
+    EmptyMaskAccepted: "an empty place as mask is taken for no mask",
+    ClearAbsentRefused: "clearing an empty cell is refused with 7",
+    DropAbsentRefused: "dropping an empty place is refused with 13",
+    // Counts and room.
+    EntriesOfT: "the answer counts T's entries",
+    TenOfT: "10 is given when T holds more than 2,048 entries",
+    EntriesBelow2048: "10 is given at 2,048 entries",
+    SetCountsExisting: "setting a present cell counts as one more entry for 10",
+    WorkOneLess: "a work buffer of 13,844 words is accepted",
+    RoomOneMore: "C's buffer needs one word more",
+    RoomOneLess: "a buffer of one word too few is not noticed in laying a sheet",
+    StoreRoomOldToo: "room on the store is counted with the old sheet",
+    StoreRoomOneMore: "the store needs one word more",
+    Store16385Accepted: "a store of 16,385 words is accepted",
+    StoreOf8Refused: "a store of 8 words is refused",
+    // The format.
+    Rows513Accepted: "513 rows are accepted",
+    Columns512Refused: "512 columns are refused",
+    Entries2049Accepted: "a sheet of 2,049 entries is valid",
+    EqualColumnsAccepted: "a column number may repeat within a row",
+    ColumnAtEndAccepted: "a column number may equal the number of columns",
+    FallingStartsAccepted: "row starts may fall",
+    LastStartFree: "the last row start may be below N",
+    SecondCountFree: "the count before the values is not looked at",
+    StoreTailFree: "words behind the store's last section are not looked at",
+    StoreCountLarger: "a section's count may be larger than its sheet",
+    // Writing.
+    SpareCleared: "words between the new and the old end of C are cleared",
+    LayClearsSpare: "laying a sheet clears the spare words",
+    WorkKeptOnRefusal: "a refused call leaves the work buffer",
+    WorkTailKept: "work words behind 13,845 stay",
+    StoreTailStale: "words behind the store's last section are not cleared",
+    RefusedLayDrops: "a lay that does not fit empties its place",
+}

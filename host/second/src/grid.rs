@@ -1,0 +1,182 @@
+//! A plain grid of cells, and how a sheet is written in words.
+
+use crate::fault::Fault;
+use std::collections::BTreeMap;
+
+pub const MAX_SIDE: u32 = 512;
+pub const MAX_ENTRIES: usize = 2048;
+
+#[derive(Clone, PartialEq, Eq, Debug)]
+pub struct Grid {
+    pub rows: u32,
+    pub cols: u32,
+    pub cells: BTreeMap<(u32, u32), i32>,
+}
+
+impl Grid {
+    pub fn empty(rows: u32, cols: u32) -> Self {
+        Grid { rows, cols, cells: BTreeMap::new() }
+    }
+
+    pub fn shape(&self) -> (u32, u32) {
+        (self.rows, self.cols)
+    }
+
+    pub fn get(&self, i: u32, j: u32) -> Option<i32> {
+        self.cells.get(&(i, j)).copied()
+    }
+
+    /// The number of words of its sheet.
+    pub fn size(&self) -> usize {
+        self.rows as usize + 2 * self.cells.len() + 7
+    }
+
+    pub fn transposed(&self) -> Self {
+        let cells = self.cells.iter().map(|(&(i, j), &value)| ((j, i), value)).collect();
+        Grid { rows: self.cols, cols: self.rows, cells }
+    }
+
+    pub fn transposed_if(&self, condition: bool) -> Self {
+        if condition {
+            self.transposed()
+        } else {
+            self.clone()
+        }
+    }
+
+    /// The one writing of the grid.
+    pub fn words(&self) -> Vec<u32> {
+        let count = self.cells.len() as u32;
+        let mut words = vec![2, self.rows, self.cols, self.rows + 1];
+        let mut in_row = vec![0; self.rows as usize];
+        for &(i, _) in self.cells.keys() {
+            in_row[i as usize] += 1;
+        }
+        let mut start = 0;
+        words.push(start);
+        for entries in in_row {
+            start += entries;
+            words.push(start);
+        }
+        words.push(count);
+        words.extend(self.cells.keys().map(|&(_, j)| j));
+        words.push(count);
+        words.extend(self.cells.values().map(|&value| value as u32));
+        words
+    }
+
+    /// The grid whose sheet stands at the front of the words, if there is one.
+    pub fn read(words: &[u32], fault: Fault) -> Option<Self> {
+        let word = |at: usize| words.get(at).copied();
+        if word(0)? != 2 {
+            return None;
+        }
+        let (rows, cols) = (word(1)?, word(2)?);
+        if !is_side(rows, fault) || !is_side(cols, fault) || !is_width(cols, fault) {
+            return None;
+        }
+        if word(3)? != rows + 1 {
+            return None;
+        }
+        let height = rows as usize;
+        let starts = words.get(4..5 + height)?;
+        let entries = word(5 + height)? as usize;
+        if entries > MAX_ENTRIES + usize::from(fault == Fault::Entries2049Accepted) {
+            return None;
+        }
+        let columns = words.get(6 + height..6 + height + entries)?;
+        if word(6 + height + entries)? as usize != entries && fault != Fault::SecondCountFree {
+            return None;
+        }
+        let values = words.get(7 + height + entries..7 + height + 2 * entries)?;
+
+        let last = starts[height] as usize;
+        if starts[0] != 0 || last > entries {
+            return None;
+        }
+        if last < entries && fault != Fault::LastStartFree {
+            return None;
+        }
+        let mut grid = Grid::empty(rows, cols);
+        for i in 0..height {
+            let (from, to) = (starts[i] as usize, starts[i + 1] as usize);
+            if from > to {
+                if fault == Fault::FallingStartsAccepted {
+                    continue;
+                }
+                return None;
+            }
+            let mut before = None;
+            for (&column, &value) in columns.get(from..to)?.iter().zip(values.get(from..to)?) {
+                if column >= cols + u32::from(fault == Fault::ColumnAtEndAccepted) {
+                    return None;
+                }
+                let rises = match before {
+                    None => true,
+                    Some(other) if fault == Fault::EqualColumnsAccepted => other <= column,
+                    Some(other) => other < column,
+                };
+                if !rises {
+                    return None;
+                }
+                before = Some(column);
+                grid.cells.insert((i as u32, column), value as i32);
+            }
+        }
+        Some(grid)
+    }
+}
+
+/// Whether a number of rows or columns is from 1 to 512.
+pub fn is_side(side: u32, fault: Fault) -> bool {
+    let most = MAX_SIDE + u32::from(fault == Fault::Rows513Accepted);
+    (1..=most).contains(&side)
+}
+
+/// Whether a number of columns is allowed beyond `is_side`.
+pub fn is_width(cols: u32, fault: Fault) -> bool {
+    !(fault == Fault::Columns512Refused && cols == MAX_SIDE)
+}
+
+#[cfg(test)]
+mod tests {
+    use super::*;
+
+    const STRIP: [u32; 14] = [2, 1, 4, 2, 0, 3, 3, 0, 1, 3, 3, 10, 20, 40];
+
+    #[test]
+    fn the_whole_strip() {
+        let mut strip = Grid::empty(1, 4);
+        strip.cells.extend([((0, 0), 10), ((0, 1), 20), ((0, 3), 40)]);
+        assert_eq!(strip.words(), STRIP);
+        assert_eq!(strip.size(), STRIP.len());
+        assert_eq!(Grid::read(&STRIP, Fault::None), Some(strip));
+    }
+
+    #[test]
+    fn a_negative_value() {
+        let mut grid = Grid::empty(1, 1);
+        grid.cells.insert((0, 0), -5);
+        assert_eq!(grid.words().last(), Some(&4_294_967_291));
+    }
+
+    #[test]
+    fn the_largest_sheet() {
+        let mut grid = Grid::empty(512, 512);
+        grid.cells.extend((0..2048).map(|k| ((k / 4, k % 4), 0)));
+        assert_eq!(grid.words().len(), 4615);
+        assert_eq!(Grid::read(&grid.words(), Fault::None), Some(grid));
+    }
+
+    #[test]
+    fn a_cut_or_changed_strip_is_no_sheet() {
+        for length in 0..STRIP.len() {
+            assert_eq!(Grid::read(&STRIP[..length], Fault::None), None);
+        }
+        for (at, word) in [(0, 3), (1, 0), (1, 513), (3, 3), (4, 1), (5, 2), (6, 4), (8, 0), (9, 4), (10, 2)] {
+            let mut words = STRIP;
+            words[at] = word;
+            assert_eq!(Grid::read(&words, Fault::None), None, "word {at} changed to {word}");
+        }
+    }
+}

@@ -1,0 +1,135 @@
+//! The model's calls on lent sheets.
+
+use crate::calls::*;
+use crate::fault::Fault;
+use crate::grid::Grid;
+use crate::model::{side_buffers, Model, Sheets};
+
+const ORDER: [u32; 11] = [1, 2, 3, 4, 5, 6, 7, 8, 9, 10, 11];
+
+impl Model {
+    pub fn lent(&self, call: &LentCall) -> Outcome {
+        match call {
+            LentCall::Check { words } => {
+                let answer = match Grid::read(words, self.fault) {
+                    Some(grid) => counted(0, grid.cells.len()),
+                    None => counted(3, 0),
+                };
+                one_buffer(answer, words.clone())
+            }
+            LentCall::NewEmpty { words, rows, cols } => self.lent_new_empty(words, *rows, *cols),
+            LentCall::ReadCell { words, i, j } => {
+                let answer = match Grid::read(words, self.fault) {
+                    None => counted(3, 0),
+                    Some(grid) if *i >= grid.rows || *j >= grid.cols => counted(7, 0),
+                    Some(grid) => present_or_absent(grid.get(*i, *j)),
+                };
+                one_buffer(answer, words.clone())
+            }
+            LentCall::Operation(call) => self.lent_operation(call),
+        }
+    }
+
+    fn lent_new_empty(&self, words: &[u32], rows: u32, cols: u32) -> Outcome {
+        if !self.is_shape(rows, cols) {
+            return one_buffer(counted(8, 0), words.to_vec());
+        }
+        let sheet = Grid::empty(rows, cols).words();
+        if sheet.len() > words.len() + usize::from(self.has(Fault::RoomOneLess)) {
+            return one_buffer(counted(11, 0), words.to_vec());
+        }
+        let mut after = words.to_vec();
+        for (at, word) in sheet.iter().enumerate().take(words.len()) {
+            after[at] = *word;
+        }
+        if self.has(Fault::LayClearsSpare) {
+            after.iter_mut().skip(sheet.len()).for_each(|word| *word = 0);
+        }
+        one_buffer(counted(0, 0), after)
+    }
+
+    fn lent_operation(&self, call: &LentOperation) -> Outcome {
+        let (answer, c) = self.lent_answer(call);
+        let mut buffers = Vec::new();
+        for (number, words) in call.inputs.iter().enumerate() {
+            buffers.push(Buffer::new(&format!("input {number}"), words.clone()));
+        }
+        buffers.push(Buffer::new("C", c));
+        buffers.extend(side_buffers(&call.operation, self.work_after(&call.work, answer)));
+        Outcome { answer, buffers }
+    }
+
+    /// The answer and the words of C's buffer.
+    fn lent_answer(&self, call: &LentOperation) -> (u64, Vec<u32>) {
+        let LentOperation { operation, options, inputs, .. } = call;
+        let a = Grid::read(&inputs[call.a], self.fault);
+        let b = Grid::read(&inputs[call.b], self.fault);
+        let mask = Grid::read(&inputs[call.mask], self.fault);
+        let c = Grid::read(&call.c, self.fault);
+
+        let mut applying = self.number_refusals(operation, options);
+        if a.is_none() {
+            applying.push(3);
+        }
+        if b.is_none() && operation.has_second() {
+            applying.push(4);
+        }
+        if mask.is_none() && (options.has_mask || self.has(Fault::AbsentMaskRead)) {
+            applying.push(5);
+        }
+        if c.is_none() {
+            applying.push(6);
+        }
+        if a.as_ref().is_some_and(|a| self.has_bad_list(operation, options, a)) {
+            applying.push(7);
+        }
+        if self.has_short_work(&call.work) {
+            applying.push(9);
+        }
+        let sheets_are_valid = !applying.iter().any(|code| (3..=6).contains(code));
+        if let (Some(a), Some(c), true) = (&a, &c, sheets_are_valid) {
+            let sheets = Sheets {
+                a,
+                b: b.as_ref().filter(|_| operation.has_second()),
+                mask: mask.as_ref().filter(|_| options.has_mask),
+                c,
+            };
+            if self.has_other_shapes(operation, options, &sheets) {
+                applying.push(8);
+            }
+            // There is a final C if nothing but the work buffer is wrong.
+            if applying.iter().all(|&code| code == 9) {
+                let result = self.final_c(operation, options, &sheets);
+                if self.has_too_many(&result) {
+                    applying.push(10);
+                }
+                if result.grid.size() + usize::from(self.has(Fault::RoomOneMore)) > call.c.len() {
+                    applying.push(11);
+                }
+                if applying.is_empty() {
+                    let words = self.written(&call.c, &result.grid, c.size());
+                    return (counted(0, self.count(&result)), words);
+                }
+            }
+        }
+        let code = self.first_refusal(&applying, &ORDER).unwrap_or(0);
+        (counted(code, 0), call.c.clone())
+    }
+
+    /// C's buffer with the sheet of the final C at its front.
+    fn written(&self, before: &[u32], grid: &Grid, old_size: usize) -> Vec<u32> {
+        let sheet = grid.words();
+        let mut after = before.to_vec();
+        if self.has(Fault::SpareCleared) && sheet.len() < old_size {
+            after[sheet.len()..old_size].fill(0);
+        }
+        // A planted fault may let a sheet pass that is too long.
+        let length = sheet.len().min(after.len());
+        after[..length].copy_from_slice(&sheet[..length]);
+        after
+    }
+}
+
+fn one_buffer(answer: u64, words: Vec<u32>) -> Outcome {
+    Outcome { answer, buffers: vec![Buffer::new("buffer", words)] }
+}

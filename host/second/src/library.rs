@@ -1,0 +1,127 @@
+//! Carries out calls by the library, and reports what it left in every lent word.
+
+use crate::calls::*;
+use crate::ffi;
+
+const GUARD: u32 = 0xA5C3_5A3C;
+const GUARDS: usize = 8;
+
+/// A lent buffer between guard words.
+struct Lent {
+    name: String,
+    words: Vec<u32>,
+    length: usize,
+}
+
+impl Lent {
+    fn new(name: &str, words: &[u32]) -> Self {
+        let mut guarded = vec![GUARD; words.len() + 2 * GUARDS];
+        guarded[GUARDS..GUARDS + words.len()].copy_from_slice(words);
+        Lent { name: name.to_string(), words: guarded, length: words.len() }
+    }
+
+    fn words(&self) -> &[u32] {
+        &self.words[GUARDS..GUARDS + self.length]
+    }
+
+    fn words_mut(&mut self) -> &mut [u32] {
+        &mut self.words[GUARDS..GUARDS + self.length]
+    }
+
+    /// The buffer after the call.
+    fn returned(self) -> Buffer {
+        let (front, behind) = (&self.words[..GUARDS], &self.words[GUARDS + self.length..]);
+        let overrun = front.iter().chain(behind).any(|&word| word != GUARD);
+        let words = self.words().to_vec();
+        Buffer { name: self.name, words, overrun }
+    }
+}
+
+fn lists(operation: &Operation) -> [Lent; 2] {
+    match operation {
+        Operation::Extract { rows, cols } => [Lent::new("list I", rows), Lent::new("list J", cols)],
+        _ => [Lent::new("list I", &[]), Lent::new("list J", &[])],
+    }
+}
+
+/// The work buffer and the index lists after the call, in the order of the model.
+fn side_buffers(operation: &Operation, work: Lent, lists: [Lent; 2]) -> Vec<Buffer> {
+    let mut buffers = vec![work.returned()];
+    if let Operation::Extract { .. } = operation {
+        buffers.extend(lists.map(Lent::returned));
+    }
+    buffers
+}
+
+pub fn lent(call: &LentCall) -> Outcome {
+    match call {
+        LentCall::Check { words } => {
+            let buffer = Lent::new("buffer", words);
+            let answer = ffi::check(buffer.words());
+            Outcome { answer, buffers: vec![buffer.returned()] }
+        }
+        LentCall::NewEmpty { words, rows, cols } => {
+            let mut buffer = Lent::new("buffer", words);
+            let answer = ffi::new_empty(buffer.words_mut(), *rows, *cols);
+            Outcome { answer, buffers: vec![buffer.returned()] }
+        }
+        LentCall::ReadCell { words, i, j } => {
+            let buffer = Lent::new("buffer", words);
+            let answer = ffi::read_cell(buffer.words(), *i, *j);
+            Outcome { answer, buffers: vec![buffer.returned()] }
+        }
+        LentCall::Operation(call) => lent_operation(call),
+    }
+}
+
+fn lent_operation(call: &LentOperation) -> Outcome {
+    let inputs: Vec<Lent> =
+        call.inputs.iter().enumerate().map(|(number, words)| Lent::new(&format!("input {number}"), words)).collect();
+    let lists = lists(&call.operation);
+    let mut c = Lent::new("C", &call.c);
+    let mut work = Lent::new("work buffer", &call.work.words());
+    let answer = ffi::operation(
+        &call.operation,
+        &call.options,
+        [call.a, call.b, call.mask].map(|role| inputs[role].words()),
+        [lists[0].words(), lists[1].words()],
+        c.words_mut(),
+        work.words_mut(),
+    );
+    let mut buffers: Vec<_> = inputs.into_iter().map(Lent::returned).collect();
+    buffers.push(c.returned());
+    buffers.extend(side_buffers(&call.operation, work, lists));
+    Outcome { answer, buffers }
+}
+
+/// Carries out one call on the store's words.
+pub fn store(words: &mut Vec<u32>, call: &StoreCall) -> Outcome {
+    let mut store = Lent::new("store", words);
+    let mut others = Vec::new();
+    let answer = match call {
+        StoreCall::NewEmpty { slot, rows, cols } => ffi::store_new_empty(store.words_mut(), *slot, *rows, *cols),
+        StoreCall::Drop { slot } => ffi::store_drop(store.words_mut(), *slot),
+        StoreCall::SetCell { slot, i, j, value } => ffi::store_set_cell(store.words_mut(), *slot, *i, *j, *value),
+        StoreCall::ClearCell { slot, i, j } => ffi::store_clear_cell(store.words_mut(), *slot, *i, *j),
+        StoreCall::ReadCell { slot, i, j } => ffi::store_read_cell(store.words(), *slot, *i, *j),
+        StoreCall::Operation(call) => {
+            let lists = lists(&call.operation);
+            let mut work = Lent::new("work buffer", &call.work.words());
+            let answer = ffi::store_operation(
+                store.words_mut(),
+                &call.operation,
+                &call.options,
+                [call.a, call.b, call.mask, call.c],
+                [lists[0].words(), lists[1].words()],
+                work.words_mut(),
+            );
+            others = side_buffers(&call.operation, work, lists);
+            answer
+        }
+    };
+    let store = store.returned();
+    words.clone_from(&store.words);
+    let mut buffers = vec![store];
+    buffers.extend(others);
+    Outcome { answer, buffers }
+}

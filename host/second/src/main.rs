@@ -1,0 +1,251 @@
+//! An independent second program: document 01 written again in plain Rust, from the papers and not
+//! from the library's code, compared with the library on random calls. After each call the answer
+//! and every word of every lent buffer are held against the model's.
+//!
+//! `calls` says what a call is; `operators`, `grid`, `model`, `lent` and `wall` are the model, with
+//! places for the planted faults of `fault`; `generate*` makes calls; `ffi` and `library` carry them
+//! out; `compare` finds differences; `shrink` and `describe` show a small failing case.
+//!
+//! The library is made by `rt staticlib exports` in the repository's root; then
+//! `cargo run --release -- --seed 1 --calls 200000` compares.
+
+mod calls;
+mod compare;
+mod describe;
+mod fault;
+mod ffi;
+mod generate;
+mod generate_lent;
+mod generate_store;
+mod grid;
+mod lent;
+mod library;
+mod model;
+mod operators;
+mod rng;
+mod shrink;
+mod wall;
+#[cfg(test)]
+mod worked_sheets;
+
+use calls::{code_of, LentCall, StoreList};
+use compare::{judge_lent, judge_list, see_lent, see_list, Seen};
+use fault::Fault;
+use model::{Model, SOUND};
+use rng::Rng;
+use std::collections::{BTreeMap, BTreeSet};
+use std::process::ExitCode;
+use std::time::Instant;
+
+const USAGE: &str = "\
+second [--seed N] [--calls N] [--lists N] [--faults] [--fault N]
+
+Compares the library with a model on random calls.
+  --seed N    the seed of all random choices (1)
+  --calls N   calls on lent sheets (200000; 40000 with --faults)
+  --lists N   lists of calls on a store, of about 15 calls (a twentieth of the calls)
+  --faults    plants each fault in the model and demands that it is noticed
+  --fault N   plants one fault, and shows the shrunk case that notices it";
+
+struct Arguments {
+    seed: u64,
+    calls: u64,
+    lists: u64,
+    faults: bool,
+    fault: Fault,
+}
+
+fn arguments() -> Result<Arguments, String> {
+    let (mut seed, mut calls, mut lists, mut faults, mut planted) = (1, None, None, false, Fault::None);
+    let mut given = std::env::args().skip(1);
+    while let Some(name) = given.next() {
+        let mut number = || -> Result<u64, String> {
+            let text = given.next().ok_or(format!("{name} wants a number"))?;
+            text.parse().map_err(|_| format!("{name} wants a number and not {text}"))
+        };
+        match name.as_str() {
+            "--seed" => seed = number()?,
+            "--calls" => calls = Some(number()?),
+            "--lists" => lists = Some(number()?),
+            "--faults" => faults = true,
+            "--fault" => {
+                let number = number()?;
+                let position = usize::try_from(number).ok().and_then(|number| number.checked_sub(1));
+                let entry = position.and_then(|position| fault::ALL.get(position));
+                planted = entry.ok_or(format!("faults go from 1 to {}", fault::ALL.len()))?.0;
+            }
+            _ => return Err(USAGE.to_string()),
+        }
+    }
+    let calls = calls.unwrap_or(if faults { 40_000 } else { 200_000 });
+    Ok(Arguments { seed, calls, lists: lists.unwrap_or(calls / 20), faults, fault: planted })
+}
+
+fn main() -> ExitCode {
+    if std::env::args().skip(1).any(|argument| argument == "--help") {
+        println!("{USAGE}");
+        return ExitCode::SUCCESS;
+    }
+    match arguments() {
+        Err(text) => {
+            eprintln!("{text}");
+            ExitCode::from(2)
+        }
+        Ok(arguments) if arguments.faults => plant_faults(&arguments),
+        Ok(arguments) => compare_all(&arguments),
+    }
+}
+
+fn make_call(seed: u64, number: u64) -> LentCall {
+    generate_lent::lent_call(&mut Rng::of_case(seed, 1, number))
+}
+
+fn make_list(seed: u64, number: u64) -> StoreList {
+    generate_store::store_list(&mut Rng::of_case(seed, 2, number))
+}
+
+/// What was seen of one function of the library.
+#[derive(Default)]
+struct Count {
+    codes: BTreeMap<u32, u64>,
+    accepted_flags: BTreeSet<u32>,
+    accepted_numbers: BTreeSet<(u32, u32)>,
+}
+
+/// How often each answer was given, by function.
+#[derive(Default)]
+struct Counts(BTreeMap<&'static str, Count>);
+
+impl Counts {
+    fn add(&mut self, seen: &Seen) {
+        let code = code_of(seen.outcome.answer);
+        let count = self.0.entry(seen.name).or_default();
+        *count.codes.entry(code).or_default() += 1;
+        if let (0, Some((flags, numbers))) = (code, seen.chosen) {
+            count.accepted_flags.insert(flags);
+            count.accepted_numbers.insert(numbers);
+        }
+    }
+
+    fn total(&self) -> u64 {
+        self.0.values().flat_map(|count| count.codes.values()).sum()
+    }
+
+    fn print(&self) {
+        for (name, count) in &self.0 {
+            let accepted = count.codes.get(&0).copied().unwrap_or(0);
+            let refused = count.codes.iter().filter(|(code, _)| **code != 0);
+            let refused: Vec<String> = refused.map(|(code, count)| format!("{code}: {count}")).collect();
+            let (flags, numbers) = (count.accepted_flags.len(), count.accepted_numbers.len());
+            let chosen = match flags {
+                0 => String::new(),
+                _ => format!(" ({flags} sums of flags, {numbers} choices of operators)"),
+            };
+            println!("  {name}: accepted {accepted}{chosen}; refused {}", refused.join(", "));
+        }
+    }
+}
+
+fn compare_all(arguments: &Arguments) -> ExitCode {
+    let &Arguments { seed, calls, lists, fault, .. } = arguments;
+    let model = Model { fault };
+    let begin = Instant::now();
+    let mut counts = Counts::default();
+    for number in 0..calls {
+        let call = make_call(seed, number);
+        let seen = see_lent(&call);
+        if !judge_lent(model, &call, &seen).is_empty() {
+            report_call(model, seed, number, call);
+            return ExitCode::FAILURE;
+        }
+        counts.add(&seen);
+    }
+    let lent_seconds = begin.elapsed().as_secs_f64();
+    for number in 0..lists {
+        let list = make_list(seed, number);
+        let seen = see_list(&list);
+        if judge_list(model, &list, &seen).is_some() {
+            report_list(model, seed, number, list);
+            return ExitCode::FAILURE;
+        }
+        seen.iter().for_each(|seen| counts.add(seen));
+    }
+    counts.print();
+    let total = counts.total();
+    println!("seed {seed}: {calls} calls on lent sheets in {lent_seconds:.1} s,");
+    println!(
+        "{lists} lists with {} calls on a store in {:.1} s: no disagreement",
+        total - calls,
+        begin.elapsed().as_secs_f64() - lent_seconds
+    );
+    ExitCode::SUCCESS
+}
+
+fn report_call(model: Model, seed: u64, number: u64, call: LentCall) {
+    println!("seed {seed}, call {number}: the model and the library disagree; the case, made small:");
+    let fails = |call: &LentCall| !judge_lent(model, call, &see_lent(call)).is_empty();
+    let small = shrink::lent_call(call, fails);
+    describe::lent_call(&small).iter().for_each(|line| println!("{line}"));
+    judge_lent(model, &small, &see_lent(&small)).iter().for_each(|line| println!("{line}"));
+}
+
+fn report_list(model: Model, seed: u64, number: u64, list: StoreList) {
+    println!("seed {seed}, list {number}: the model and the library disagree; the case, made small:");
+    let fails = |list: &StoreList| judge_list(model, list, &see_list(list)).is_some();
+    let small = shrink::store_list(list, fails);
+    describe::store_list(&small).iter().for_each(|line| println!("{line}"));
+    if let Some((call, lines)) = judge_list(model, &small, &see_list(&small)) {
+        println!("at call {call}:");
+        lines.iter().for_each(|line| println!("{line}"));
+    }
+}
+
+/// Runs calls and lists until each faulty model has disagreed with the library.
+fn plant_faults(arguments: &Arguments) -> ExitCode {
+    let &Arguments { seed, calls, lists, .. } = arguments;
+    let begin = Instant::now();
+    let mut noticed: Vec<Option<String>> = vec![None; fault::ALL.len()];
+    let mut sound = true;
+    for number in 0..calls.max(lists) {
+        if noticed.iter().all(Option::is_some) {
+            break;
+        }
+        if number < calls {
+            let call = make_call(seed, number);
+            let seen = see_lent(&call);
+            let differs = |fault| !judge_lent(Model { fault }, &call, &seen).is_empty();
+            sound &= !differs(SOUND.fault);
+            note(&mut noticed, differs, &format!("call {number}"));
+        }
+        if number < lists {
+            let list = make_list(seed, number);
+            let seen = see_list(&list);
+            let differs = |fault| judge_list(Model { fault }, &list, &seen).is_some();
+            sound &= !differs(SOUND.fault);
+            note(&mut noticed, differs, &format!("list {number}"));
+        }
+    }
+    for (number, ((_, text), place)) in fault::ALL.iter().zip(&noticed).enumerate() {
+        let place = place.as_deref().unwrap_or("NOT NOTICED");
+        println!("  {:>2} {text}: {place}", number + 1);
+    }
+    let count = noticed.iter().flatten().count();
+    let seconds = begin.elapsed().as_secs_f64();
+    println!("seed {seed}: {} faults tried, {count} noticed, in {seconds:.1} s", noticed.len());
+    if !sound {
+        println!("the model without a fault disagrees with the library too");
+    }
+    if sound && count == noticed.len() {
+        ExitCode::SUCCESS
+    } else {
+        ExitCode::FAILURE
+    }
+}
+
+fn note(noticed: &mut [Option<String>], differs: impl Fn(Fault) -> bool, place: &str) {
+    for (entry, (fault, _)) in noticed.iter_mut().zip(fault::ALL) {
+        if entry.is_none() && differs(*fault) {
+            *entry = Some(place.to_string());
+        }
+    }
+}

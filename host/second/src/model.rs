@@ -1,0 +1,357 @@
+//! Document 01 on plain grids: T, the write-back, and when a call is refused.
+
+use crate::calls::*;
+use crate::fault::Fault;
+use crate::grid::{is_side, is_width, Grid, MAX_ENTRIES};
+use crate::operators::{binary, index_unary, is_binary, is_index_unary, is_monoid, is_unary, unary};
+use std::collections::{BTreeMap, BTreeSet};
+
+/// The model, with at most one planted fault.
+#[derive(Clone, Copy)]
+pub struct Model {
+    pub fault: Fault,
+}
+
+pub const SOUND: Model = Model { fault: Fault::None };
+
+/// The grids of an operation; `b` and `mask` are there if the call has them.
+pub struct Sheets<'a> {
+    pub a: &'a Grid,
+    pub b: Option<&'a Grid>,
+    pub mask: Option<&'a Grid>,
+    pub c: &'a Grid,
+}
+
+/// The final C of an operation, and the number of entries of T.
+pub struct Final {
+    pub grid: Grid,
+    pub entries_of_t: usize,
+}
+
+impl Model {
+    pub fn has(&self, fault: Fault) -> bool {
+        self.fault == fault
+    }
+
+    // T.
+
+    /// The first and second input as transposed.
+    fn inputs(&self, operation: &Operation, options: &Options, sheets: &Sheets) -> (Grid, Grid) {
+        let first = match operation {
+            Operation::Vxm { .. } => {
+                let turn = self.has(Fault::StripTransposed) && sheets.a.cols == 1 && options.has(TRANSPOSE_FIRST);
+                sheets.a.transposed_if(turn)
+            }
+            _ => sheets.a.transposed_if(options.has(TRANSPOSE_FIRST)),
+        };
+        let second = match sheets.b {
+            Some(b) => b.transposed_if(options.has(TRANSPOSE_SECOND) && !self.has(Fault::SecondNotTransposed)),
+            None => Grid::empty(1, 1),
+        };
+        (first, second)
+    }
+
+    /// T's shape, or none if the inputs' shapes disagree.
+    pub fn shape_of_t(&self, operation: &Operation, options: &Options, sheets: &Sheets) -> Option<(u32, u32)> {
+        let (first, second) = self.inputs(operation, options, sheets);
+        match operation {
+            Operation::Mxm { .. } => (first.cols == second.rows).then_some((first.rows, second.cols)),
+            Operation::Vxm { .. } => (first.rows == 1 && first.cols == second.rows).then_some((1, second.cols)),
+            Operation::EwiseMult { .. } | Operation::EwiseAdd { .. } => {
+                (first.shape() == second.shape()).then_some(first.shape())
+            }
+            Operation::Apply { .. } => Some(first.shape()),
+            Operation::Extract { rows, cols } => Some((rows.len() as u32, cols.len() as u32)),
+        }
+    }
+
+    /// T of an operation whose numbers, lists and shapes are in order.
+    pub fn result(&self, operation: &Operation, options: &Options, sheets: &Sheets) -> Grid {
+        let fault = self.fault;
+        let (first, second) = self.inputs(operation, options, sheets);
+        let cells: BTreeMap<(u32, u32), i32> = match operation {
+            Operation::Mxm { monoid, op } | Operation::Vxm { monoid, op } => {
+                let add = match fault {
+                    Fault::MonoidIsOperator if is_monoid(*op, Fault::None) => *op,
+                    _ => *monoid,
+                };
+                self.product(&first, &second, add, *op)
+            }
+            Operation::EwiseMult { op } => {
+                let both = first.cells.iter().filter_map(|(&at, &x)| second.cells.get(&at).map(|&y| (at, x, y)));
+                both.map(|(at, x, y)| (at, binary(*op, x, y, fault))).collect()
+            }
+            Operation::EwiseAdd { op } => {
+                let mut cells = self.union(&first.cells, &second.cells, *op);
+                if fault == Fault::UnionNegatesLoneRight && *op == 4 {
+                    for (at, value) in cells.iter_mut() {
+                        if !first.cells.contains_key(at) {
+                            *value = value.wrapping_neg();
+                        }
+                    }
+                }
+                cells
+            }
+            Operation::Apply { kind, op, scalar } => {
+                let turn = options.has(TRANSPOSE_FIRST);
+                let value = |&(i, j): &(u32, u32), x: i32| self.applied(*kind, *op, *scalar as i32, (i, j), x, turn);
+                let stored = &sheets.a.cells;
+                let cells = stored.iter().map(|(at, &x)| (*at, value(at, x))).collect();
+                let result = Grid { cells, ..*sheets.a };
+                result.transposed_if(turn).cells
+            }
+            Operation::Extract { rows, cols } => {
+                let (mut rows, mut cols) = (rows, cols);
+                if fault == Fault::ExtractListsSwapped && rows.len() == cols.len() && first.rows == first.cols {
+                    std::mem::swap(&mut rows, &mut cols);
+                }
+                extracted(&first, rows, cols)
+            }
+        };
+        let (rows, cols) = self.shape_of_t(operation, options, sheets).unwrap_or((1, 1));
+        let mut t = Grid { rows, cols, cells };
+        if fault == Fault::ZeroDropped {
+            t.cells.retain(|_, value| *value != 0);
+        }
+        t
+    }
+
+    fn product(&self, first: &Grid, second: &Grid, monoid: u32, op: u32) -> BTreeMap<(u32, u32), i32> {
+        let mut cells: BTreeMap<(u32, u32), i32> = BTreeMap::new();
+        for (&(i, k), &x) in &first.cells {
+            for (&(_, j), &y) in second.cells.range((k, 0)..(k + 1, 0)) {
+                let term = binary(op, x, y, self.fault);
+                cells.entry((i, j)).and_modify(|sum| *sum = binary(monoid, *sum, term, self.fault)).or_insert(term);
+            }
+        }
+        cells
+    }
+
+    fn union(
+        &self,
+        left: &BTreeMap<(u32, u32), i32>,
+        right: &BTreeMap<(u32, u32), i32>,
+        op: u32,
+    ) -> BTreeMap<(u32, u32), i32> {
+        let mut cells = left.clone();
+        for (&at, &y) in right {
+            cells.entry(at).and_modify(|x| *x = binary(op, *x, y, self.fault)).or_insert(y);
+        }
+        cells
+    }
+
+    fn applied(&self, kind: u32, op: u32, scalar: i32, at: (u32, u32), x: i32, turned: bool) -> i32 {
+        let fault = self.fault;
+        let scalar_first = (kind == 1) != (fault == Fault::ScalarSidesSwapped);
+        match kind {
+            0 => unary(op, x, fault),
+            1 | 2 if scalar_first => binary(op, scalar, x, fault),
+            1 | 2 => binary(op, x, scalar, fault),
+            _ if fault == Fault::IndexAsTransposed && turned => index_unary(op, at.1, at.0, scalar, fault),
+            _ => index_unary(op, at.0, at.1, scalar, fault),
+        }
+    }
+
+    // Write-back.
+
+    fn is_inside(&self, options: &Options, sheets: &Sheets, at: (u32, u32)) -> bool {
+        let Some(mask) = sheets.mask else {
+            return !options.has(COMPLEMENT) || self.has(Fault::ComplementNeedsMask);
+        };
+        let turn = self.has(Fault::MaskTransposed) && mask.rows == mask.cols && options.has(TRANSPOSE_FIRST);
+        let at = if turn { (at.1, at.0) } else { at };
+        let structural = options.has(STRUCTURAL) && !self.has(Fault::StructuralIgnored);
+        let chosen = match mask.get(at.0, at.1) {
+            None => false,
+            Some(value) => structural || value != 0 || self.has(Fault::MaskZeroIsTrue),
+        };
+        chosen != options.has(COMPLEMENT)
+    }
+
+    pub fn write_back(&self, options: &Options, sheets: &Sheets, t: &Grid) -> Grid {
+        let c = sheets.c;
+        let z = match options.has_accumulator {
+            false => t.cells.clone(),
+            true if self.has(Fault::AccumulatorSwapped) => self.union(&t.cells, &c.cells, options.accumulator),
+            true => self.union(&c.cells, &t.cells, options.accumulator),
+        };
+        let replace = options.has(REPLACE)
+            && !self.has(Fault::ReplaceIgnored)
+            && !(self.has(Fault::ReplaceNeedsMask) && sheets.mask.is_none());
+        // Elsewhere neither C nor T has an entry, and so neither has the final C.
+        let places: BTreeSet<(u32, u32)> = c.cells.keys().chain(t.cells.keys()).copied().collect();
+        let mut result = Grid::empty(c.rows, c.cols);
+        for at in places {
+            let old = c.cells.get(&at).copied();
+            let cell = if self.is_inside(options, sheets, at) {
+                match (z.get(&at).copied(), options.has_accumulator) {
+                    (None, false) if self.has(Fault::OldKeptInside) => old,
+                    (Some(_), true) if self.has(Fault::AccumulatorForgetsOld) && !t.cells.contains_key(&at) => None,
+                    (new, _) => new,
+                }
+            } else if replace {
+                None
+            } else {
+                old
+            };
+            if let Some(value) = cell {
+                result.cells.insert(at, value);
+            }
+        }
+        result
+    }
+
+    // Refusals.
+
+    /// Whether refusal 2 applies.
+    fn has_unknown_number(&self, operation: &Operation, options: &Options) -> bool {
+        let unknown = match *operation {
+            Operation::Mxm { monoid, op } | Operation::Vxm { monoid, op } => {
+                !is_monoid(monoid, self.fault) || !is_binary(op)
+            }
+            Operation::EwiseMult { op } | Operation::EwiseAdd { op } => !is_binary(op),
+            Operation::Apply { kind, op, .. } => match kind {
+                0 => !is_unary(op),
+                1 | 2 => !is_binary(op),
+                3 => !is_index_unary(op),
+                _ => true,
+            },
+            Operation::Extract { .. } => false,
+        };
+        let accumulates = options.has_accumulator || self.has(Fault::AbsentAccumulatorRead);
+        unknown || accumulates && !is_binary(options.accumulator)
+    }
+
+    /// Refusals 1 and 2, which look at numbers alone.
+    pub fn number_refusals(&self, operation: &Operation, options: &Options) -> Vec<u32> {
+        let mut refusals = Vec::new();
+        if options.flags > 31 + u32::from(self.has(Fault::Flag32Accepted)) {
+            refusals.push(1);
+        }
+        if self.has_unknown_number(operation, options) {
+            refusals.push(2);
+        }
+        refusals
+    }
+
+    /// Whether refusal 7 applies to an operation.
+    pub fn has_bad_list(&self, operation: &Operation, options: &Options, a: &Grid) -> bool {
+        let Operation::Extract { rows, cols } = operation else {
+            return false;
+        };
+        let a = a.transposed_if(options.has(TRANSPOSE_FIRST) && !self.has(Fault::IndexAsStored));
+        let longest = match self.fault {
+            Fault::ListOf512Refused => 511,
+            Fault::ListOf513Accepted => 513,
+            _ => 512,
+        };
+        let bad =
+            |list: &[u32], side: u32| !(1..=longest).contains(&list.len()) || list.iter().any(|&index| index >= side);
+        bad(rows, a.rows) || bad(cols, a.cols)
+    }
+
+    /// Whether refusal 8 applies to an operation whose sheets are all there.
+    pub fn has_other_shapes(&self, operation: &Operation, options: &Options, sheets: &Sheets) -> bool {
+        let shape = sheets.c.shape();
+        let mask_agrees = sheets.mask.is_none_or(|mask| mask.shape() == shape);
+        self.shape_of_t(operation, options, sheets) != Some(shape) || !mask_agrees
+    }
+
+    /// Whether refusal 9 applies.
+    pub fn has_short_work(&self, work: &Work) -> bool {
+        work.length < WORK_WORDS - usize::from(self.has(Fault::WorkOneLess))
+    }
+
+    pub fn final_c(&self, operation: &Operation, options: &Options, sheets: &Sheets) -> Final {
+        let t = self.result(operation, options, sheets);
+        Final { grid: self.write_back(options, sheets, &t), entries_of_t: t.cells.len() }
+    }
+
+    /// Whether refusal 10 applies.
+    pub fn has_too_many(&self, result: &Final) -> bool {
+        let entries = match self.fault {
+            Fault::TenOfT => result.entries_of_t,
+            _ => result.grid.cells.len(),
+        };
+        entries > MAX_ENTRIES - usize::from(self.has(Fault::EntriesBelow2048))
+    }
+
+    pub fn count(&self, result: &Final) -> usize {
+        match self.fault {
+            Fault::EntriesOfT => result.entries_of_t,
+            _ => result.grid.cells.len(),
+        }
+    }
+
+    pub fn is_shape(&self, rows: u32, cols: u32) -> bool {
+        is_side(rows, self.fault) && is_side(cols, self.fault) && is_width(cols, self.fault)
+    }
+
+    /// The refusal that is given of those that apply, in the order of the table.
+    pub fn first_refusal(&self, applying: &[u32], order: &[u32]) -> Option<u32> {
+        let on_store = order.contains(&12);
+        // A planted fault puts one number before another.
+        let moved = match self.fault {
+            Fault::Code2Before1 => Some((2, 1)),
+            Fault::Code3Before2 if !on_store => Some((3, 2)),
+            Fault::Code4Before3 if !on_store => Some((4, 3)),
+            Fault::Code5Before4 if !on_store => Some((5, 4)),
+            Fault::Code6Before5 if !on_store => Some((6, 5)),
+            Fault::Code7Before6 if !on_store => Some((7, 6)),
+            Fault::Code8Before7 => Some((8, 7)),
+            Fault::Code9Before8 => Some((9, 8)),
+            Fault::Code10Before9 => Some((10, 9)),
+            Fault::Code11Before10 => Some((11, 10)),
+            Fault::StoreCode1Before12 if on_store => Some((1, 12)),
+            Fault::StoreCode2Before12 if on_store => Some((2, 12)),
+            Fault::StoreCode13Before2 if on_store => Some((13, 2)),
+            Fault::StoreCode7Before13 if on_store => Some((7, 13)),
+            Fault::StoreCode9Before13 if on_store => Some((9, 13)),
+            _ => None,
+        };
+        let mut order = order.to_vec();
+        if let Some((code, other)) = moved {
+            order.retain(|&number| number != code);
+            let at = order.iter().position(|&number| number == other).unwrap_or(0);
+            order.insert(at, code);
+        }
+        order.into_iter().find(|code| applying.contains(code))
+    }
+
+    /// The work buffer after a call with this answer.
+    pub fn work_after(&self, work: &Work, answer: u64) -> Vec<u32> {
+        if self.has(Fault::WorkKeptOnRefusal) && code_of(answer) != 0 {
+            return work.words();
+        }
+        let mut after = vec![0; work.length];
+        if self.has(Fault::WorkTailKept) && work.length > WORK_WORDS {
+            after[WORK_WORDS..].copy_from_slice(&work.words()[WORK_WORDS..]);
+        }
+        after
+    }
+}
+
+fn extracted(a: &Grid, rows: &[u32], cols: &[u32]) -> BTreeMap<(u32, u32), i32> {
+    let mut cells = BTreeMap::new();
+    for (i, &row) in rows.iter().enumerate() {
+        if a.cells.range((row, 0)..(row + 1, 0)).next().is_none() {
+            continue;
+        }
+        for (j, &col) in cols.iter().enumerate() {
+            if let Some(value) = a.get(row, col) {
+                cells.insert((i as u32, j as u32), value);
+            }
+        }
+    }
+    cells
+}
+
+/// The work buffer and the index lists of an operation after the call.
+pub fn side_buffers(operation: &Operation, work: Vec<u32>) -> Vec<Buffer> {
+    let mut buffers = vec![Buffer::new("work buffer", work)];
+    if let Operation::Extract { rows, cols } = operation {
+        buffers.push(Buffer::new("list I", rows.clone()));
+        buffers.push(Buffer::new("list J", cols.clone()));
+    }
+    buffers
+}

@@ -1,0 +1,317 @@
+//! The wall of eight plain grids, and the store's words.
+
+use crate::calls::*;
+use crate::fault::Fault;
+use crate::grid::{Grid, MAX_ENTRIES};
+use crate::model::{side_buffers, Model, Sheets};
+
+pub const SLOTS: usize = 8;
+pub const MAX_STORE: usize = 16_384;
+
+const ORDER: [u32; 9] = [12, 1, 2, 13, 7, 8, 9, 10, 11];
+
+/// Eight grids and the store's length.
+#[derive(Clone, PartialEq, Eq, Debug)]
+pub struct Wall {
+    pub length: usize,
+    pub slots: [Option<Grid>; SLOTS],
+}
+
+impl Wall {
+    pub fn fresh(length: usize) -> Self {
+        Wall { length, slots: Default::default() }
+    }
+
+    /// 8 plus the sizes of all grids.
+    pub fn room(&self) -> usize {
+        SLOTS + self.slots.iter().flatten().map(Grid::size).sum::<usize>()
+    }
+
+    /// 8 plus the sizes of all grids but one.
+    fn room_beside(&self, slot: usize) -> usize {
+        self.room() - self.slots[slot].as_ref().map_or(0, Grid::size)
+    }
+
+    /// The words of the sections, without the zeros behind them.
+    fn sections(&self) -> Vec<u32> {
+        let mut words = Vec::new();
+        for slot in &self.slots {
+            match slot {
+                None => words.push(0),
+                Some(grid) => {
+                    words.push(grid.size() as u32);
+                    words.extend(grid.words());
+                }
+            }
+        }
+        words
+    }
+
+    /// The one writing of the grids.
+    pub fn words(&self) -> Vec<u32> {
+        let mut words = self.sections();
+        words.resize(self.length, 0);
+        words
+    }
+
+    /// The wall that the words are the writing of, if they are a store.
+    pub fn read(words: &[u32], fault: Fault) -> Option<Self> {
+        let least = SLOTS + usize::from(fault == Fault::StoreOf8Refused);
+        let most = MAX_STORE + usize::from(fault == Fault::Store16385Accepted);
+        if !(least..=most).contains(&words.len()) {
+            return None;
+        }
+        let mut wall = Wall::fresh(words.len());
+        let mut rest = words;
+        for slot in &mut wall.slots {
+            let (&count, behind) = rest.split_first()?;
+            let section = behind.get(..count as usize)?;
+            rest = &behind[section.len()..];
+            if count != 0 {
+                let grid = Grid::read(section, fault)?;
+                if grid.size() != section.len() && fault != Fault::StoreCountLarger {
+                    return None;
+                }
+                *slot = Some(grid);
+            }
+        }
+        let tail_is_zero = rest.iter().all(|&word| word == 0);
+        (tail_is_zero || fault == Fault::StoreTailFree).then_some(wall)
+    }
+}
+
+/// A store's words beside the wall that they are the writing of, if they are a store.
+#[derive(Clone)]
+pub struct StoreState {
+    pub words: Vec<u32>,
+    pub wall: Option<Wall>,
+}
+
+impl StoreState {
+    pub fn new(words: &[u32], fault: Fault) -> Self {
+        StoreState { words: words.to_vec(), wall: Wall::read(words, fault) }
+    }
+}
+
+impl Model {
+    /// Carries out one call on the store.
+    pub fn store(&self, state: &mut StoreState, call: &StoreCall) -> Outcome {
+        let before = state.wall.clone();
+        let answer = self.store_answer(state.wall.as_mut(), call);
+        if let (Some(wall), true) = (&state.wall, state.wall != before) {
+            let mut words = wall.words();
+            if self.has(Fault::StoreTailStale) {
+                let end = wall.sections().len();
+                words.truncate(end);
+                words.extend(state.words.iter().skip(end));
+            }
+            // A planted fault may let sheets pass that do not fit.
+            words.resize(state.words.len(), 0);
+            state.words = words;
+        }
+        let mut buffers = vec![Buffer::new("store", state.words.clone())];
+        if let StoreCall::Operation(call) = call {
+            buffers.extend(side_buffers(&call.operation, self.work_after(&call.work, answer)));
+        }
+        Outcome { answer, buffers }
+    }
+
+    fn store_answer(&self, wall: Option<&mut Wall>, call: &StoreCall) -> u64 {
+        if let StoreCall::Operation(call) = call {
+            return self.store_operation(wall, call);
+        }
+        let (StoreCall::NewEmpty { slot, .. }
+        | StoreCall::Drop { slot }
+        | StoreCall::SetCell { slot, .. }
+        | StoreCall::ClearCell { slot, .. }
+        | StoreCall::ReadCell { slot, .. }
+        | StoreCall::Operation(StoreOperation { a: slot, .. })) = call;
+        let slot = *slot;
+        let Some(wall) = wall.filter(|_| slot < SLOTS) else {
+            return counted(12, 0);
+        };
+        match call {
+            StoreCall::NewEmpty { rows, cols, .. } => self.store_new_empty(wall, slot, *rows, *cols),
+            StoreCall::Drop { .. } => {
+                if self.has(Fault::DropAbsentRefused) && wall.slots[slot].is_none() {
+                    return counted(13, 0);
+                }
+                wall.slots[slot] = None;
+                counted(0, 0)
+            }
+            StoreCall::SetCell { i, j, value, .. } => self.store_set_cell(wall, slot, (*i, *j), *value as i32),
+            StoreCall::ClearCell { i, j, .. } => match &mut wall.slots[slot] {
+                None => counted(13, 0),
+                Some(grid) if *i >= grid.rows || *j >= grid.cols => counted(7, 0),
+                Some(grid) => {
+                    let was_there = grid.cells.remove(&(*i, *j)).is_some();
+                    if self.has(Fault::ClearAbsentRefused) && !was_there {
+                        return counted(7, 0);
+                    }
+                    counted(0, grid.cells.len())
+                }
+            },
+            StoreCall::ReadCell { i, j, .. } => match &wall.slots[slot] {
+                None => counted(13, 0),
+                Some(grid) if *i >= grid.rows || *j >= grid.cols => counted(7, 0),
+                Some(grid) => present_or_absent(grid.get(*i, *j)),
+            },
+            StoreCall::Operation(_) => unreachable!("answered above"),
+        }
+    }
+
+    /// Whether a sheet of this size fits in the place's stead.
+    fn fits(&self, wall: &Wall, slot: usize, size: usize) -> bool {
+        let beside = match self.fault {
+            Fault::StoreRoomOldToo => wall.room(),
+            Fault::StoreRoomOneMore => wall.room_beside(slot) + 1,
+            _ => wall.room_beside(slot),
+        };
+        beside + size <= wall.length
+    }
+
+    fn store_new_empty(&self, wall: &mut Wall, slot: usize, rows: u32, cols: u32) -> u64 {
+        if !self.is_shape(rows, cols) {
+            return counted(8, 0);
+        }
+        let grid = Grid::empty(rows, cols);
+        if !self.fits(wall, slot, grid.size()) {
+            if self.has(Fault::RefusedLayDrops) {
+                wall.slots[slot] = None;
+            }
+            return counted(11, 0);
+        }
+        wall.slots[slot] = Some(grid);
+        counted(0, 0)
+    }
+
+    fn store_set_cell(&self, wall: &mut Wall, slot: usize, at: (u32, u32), value: i32) -> u64 {
+        let Some(mut grid) = wall.slots[slot].clone() else {
+            return counted(13, 0);
+        };
+        if at.0 >= grid.rows || at.1 >= grid.cols {
+            return counted(7, 0);
+        }
+        let one_more = grid.cells.len() + 1;
+        grid.cells.insert(at, value);
+        let entries = if self.has(Fault::SetCountsExisting) { one_more } else { grid.cells.len() };
+        if entries > MAX_ENTRIES {
+            return counted(10, 0);
+        }
+        if !self.fits(wall, slot, grid.size()) {
+            return counted(11, 0);
+        }
+        let entries = grid.cells.len();
+        wall.slots[slot] = Some(grid);
+        counted(0, entries)
+    }
+
+    fn store_operation(&self, wall: Option<&mut Wall>, call: &StoreOperation) -> u64 {
+        let StoreOperation { operation, options, .. } = call;
+        let mut applying = self.number_refusals(operation, options);
+        let mut roles = vec![call.a, call.c];
+        if operation.has_second() {
+            roles.push(call.b);
+        }
+        if options.has_mask || self.has(Fault::AbsentMaskRead) {
+            roles.push(call.mask);
+        }
+        let wall = wall.filter(|_| roles.iter().all(|&slot| slot < SLOTS));
+        let Some(wall) = wall else {
+            applying.push(12);
+            return counted(self.first_refusal(&applying, &ORDER).unwrap_or(0), 0);
+        };
+        if self.has(Fault::EmptyMaskAccepted) {
+            roles.retain(|&slot| slot != call.mask || wall.slots[slot].is_some());
+        }
+        if roles.iter().any(|&slot| wall.slots[slot].is_none()) {
+            applying.push(13);
+        }
+        let a = wall.slots[call.a].as_ref();
+        if a.is_some_and(|a| self.has_bad_list(operation, options, a)) {
+            applying.push(7);
+        }
+        if self.has_short_work(&call.work) {
+            applying.push(9);
+        }
+        if let (Some(a), Some(c), false) = (a, &wall.slots[call.c], applying.contains(&13)) {
+            let b = if operation.has_second() { wall.slots[call.b].as_ref() } else { None };
+            let mask = if options.has_mask { wall.slots[call.mask].as_ref() } else { None };
+            let sheets = Sheets { a, b, mask, c };
+            if self.has_other_shapes(operation, options, &sheets) {
+                applying.push(8);
+            }
+            // There is a final C if nothing but the work buffer is wrong.
+            if applying.iter().all(|&code| code == 9) {
+                let result = self.final_c(operation, options, &sheets);
+                if self.has_too_many(&result) {
+                    applying.push(10);
+                }
+                if !self.fits(wall, call.c, result.grid.size()) {
+                    applying.push(11);
+                }
+                if applying.is_empty() {
+                    let answer = counted(0, self.count(&result));
+                    wall.slots[call.c] = Some(result.grid);
+                    return answer;
+                }
+            }
+        }
+        counted(self.first_refusal(&applying, &ORDER).unwrap_or(0), 0)
+    }
+}
+
+#[cfg(test)]
+mod tests {
+    use super::*;
+    use crate::model::SOUND;
+
+    fn answers(state: &mut StoreState, calls: &[StoreCall]) -> Vec<u64> {
+        calls.iter().map(|call| SOUND.store(state, call).answer).collect()
+    }
+
+    #[test]
+    fn lengths_of_a_fresh_store() {
+        for (length, valid) in [(0, false), (7, false), (8, true), (16_384, true), (16_385, false)] {
+            let state = StoreState::new(&vec![0; length], SOUND.fault);
+            assert_eq!(state.wall.is_some(), valid, "{length} words");
+        }
+    }
+
+    #[test]
+    fn room_is_exact() {
+        // 8 words and a sheet of 1 row with 1 entry, in place 1.
+        let calls = [
+            StoreCall::NewEmpty { slot: 1, rows: 1, cols: 4 },
+            StoreCall::SetCell { slot: 1, i: 0, j: 3, value: 5 },
+            StoreCall::SetCell { slot: 1, i: 0, j: 3, value: 6 },
+            StoreCall::SetCell { slot: 1, i: 0, j: 2, value: 6 },
+            StoreCall::ReadCell { slot: 1, i: 0, j: 3 },
+            StoreCall::ClearCell { slot: 1, i: 0, j: 2 },
+        ];
+        let mut state = StoreState::new(&[0; 18], SOUND.fault);
+        let expected =
+            [counted(0, 0), counted(0, 1), counted(0, 1), counted(11, 0), present_or_absent(Some(6)), counted(0, 1)];
+        assert_eq!(answers(&mut state, &calls), expected);
+        assert_eq!(state.words, [0, 10, 2, 1, 4, 2, 0, 1, 1, 3, 1, 6, 0, 0, 0, 0, 0, 0]);
+
+        let mut state = StoreState::new(&[0; 17], SOUND.fault);
+        assert_eq!(answers(&mut state, &calls[..2]), [counted(0, 0), counted(11, 0)]);
+    }
+
+    #[test]
+    fn refusals_of_cell_calls() {
+        let mut state = StoreState::new(&[0; 30], SOUND.fault);
+        let calls = [
+            StoreCall::NewEmpty { slot: 8, rows: 0, cols: 1 },
+            StoreCall::NewEmpty { slot: 0, rows: 513, cols: 1 },
+            StoreCall::NewEmpty { slot: 0, rows: 512, cols: 1 },
+            StoreCall::ClearCell { slot: 0, i: 0, j: 0 },
+            StoreCall::Drop { slot: 0 },
+            StoreCall::NewEmpty { slot: 0, rows: 2, cols: 2 },
+            StoreCall::ReadCell { slot: 0, i: 0, j: 2 },
+        ];
+        let codes: Vec<u32> = answers(&mut state, &calls).into_iter().map(code_of).collect();
+        assert_eq!(codes, [12, 8, 11, 13, 0, 0, 7]);
+    }
+}

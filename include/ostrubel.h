@@ -1,0 +1,232 @@
+/*
+ * Ostrubel: sparse whole-number matrices with GraphBLAS operations, for C (C99) and C++.
+ *
+ * Buffers. All matrices, stores, index lists and workspaces are buffers of uint32_t that the caller owns, passed as a
+ * pointer and the number of words. Any words may be in them: what is no valid matrix or store is refused. A pointer is
+ * to that many words also where a call does not look at them; with a count of 0 it is the address of any uint32_t. A
+ * buffer that a call writes (not const) may not overlap another buffer of the same call; those that are only read may.
+ *
+ * A matrix of R rows, C columns and N entries takes R + 2N + 7 words: 2, R, C; R+1 and the row starts; N and the column
+ * numbers; N and the values, in two's complement (-5 is 4294967291). R and C are 1 to 512, N is 0 to 2,048. Words after
+ * it are spare, and an accepted call leaves those that it does not need as they were.
+ *
+ * A store has eight slots, 0 to 7, each empty or with a matrix, in one buffer of 8 to 16,384 words: slot by slot a
+ * count of words and the matrix, then zeros. All zeros is a store with eight empty slots. A write needs room for 8 words
+ * and all matrices as they are after the call.
+ *
+ * Answers. Each call returns one number: take it apart by the functions below. A call that is accepted has the code 0.
+ * A refused call has the lowest code that applies (on a store 12 comes first, and 13 between 2 and 7), changes no word
+ * but the workspace's, and its entries or value are 0. The workspace is all zeros after every call that has one.
+ */
+#ifndef OSTRUBEL_H
+#define OSTRUBEL_H
+
+#include <stddef.h>
+#include <stdint.h>
+
+#ifdef __cplusplus
+extern "C" {
+#endif
+
+/* Sizes, in words of 32 bits. */
+#define OSTRUBEL_MAX_MATRIX_WORDS 4615 /* the largest matrix: 512 rows, 2,048 entries */
+#define OSTRUBEL_MIN_WORKSPACE_WORDS 13845
+#define OSTRUBEL_MIN_STORE_WORDS 8
+#define OSTRUBEL_MAX_STORE_WORDS 16384
+
+/* Limits. An index list has 1 to 512 indexes. */
+#define OSTRUBEL_MAX_ROWS 512
+#define OSTRUBEL_MAX_COLS 512
+#define OSTRUBEL_MAX_ENTRIES 2048
+#define OSTRUBEL_MAX_INDEXES 512
+#define OSTRUBEL_SLOTS 8
+
+/* Codes of answers. */
+enum {
+    OSTRUBEL_OK = 0,
+    OSTRUBEL_FLAGS_OUT_OF_RANGE = 1,   /* flags above 31 */
+    OSTRUBEL_UNKNOWN_OPERATOR = 2,     /* no such operator, monoid or accumulator */
+    OSTRUBEL_INVALID_FIRST = 3,        /* the first input is no valid matrix; also the one to check or read */
+    OSTRUBEL_INVALID_SECOND = 4,       /* the second input is no valid matrix */
+    OSTRUBEL_INVALID_MASK = 5,         /* the mask is no valid matrix */
+    OSTRUBEL_INVALID_OUTPUT = 6,       /* old C is no valid matrix */
+    OSTRUBEL_INDEX_OUT_OF_BOUNDS = 7,  /* an index list shorter than 1 or longer than 512; an index, row or column past
+                                          A (as transposed) or past the matrix named */
+    OSTRUBEL_INVALID_SHAPE = 8,        /* rows or columns outside 1 to 512; shapes of inputs, mask, C and result
+                                          disagree; no vector (one row) where one is due */
+    OSTRUBEL_WORKSPACE_TOO_SHORT = 9,  /* a workspace under 13,845 words */
+    OSTRUBEL_TOO_MANY_ENTRIES = 10,    /* the final C, or the matrix a cell is set in, would have over 2,048 entries */
+    OSTRUBEL_INSUFFICIENT_SPACE = 11,  /* the final C, a new matrix or the store does not fit its buffer */
+    OSTRUBEL_INVALID_STORE = 12,       /* the length or the words are no store's, or a slot above 7 */
+    OSTRUBEL_EMPTY_SLOT = 13           /* a slot that must have a matrix is empty */
+};
+
+/* Flags; they add up. */
+enum {
+    OSTRUBEL_REPLACE = 1,          /* outside the mask C loses its entries */
+    OSTRUBEL_COMPLEMENT = 2,       /* the mask is complemented; with no mask, no position is inside */
+    OSTRUBEL_STRUCTURAL = 4,       /* an entry of the mask counts whatever its value, also 0 */
+    OSTRUBEL_TRANSPOSE_FIRST = 8,  /* the first input is transposed (not the vector of vxm) */
+    OSTRUBEL_TRANSPOSE_SECOND = 16 /* the second input is transposed */
+};
+
+/* Binary operators on x and y, also accumulators (x is old C's value). Sums, differences and products wrap modulo 2^32;
+   MIN and MAX are signed. PLUS, TIMES, MIN and MAX are the monoids. */
+enum {
+    OSTRUBEL_FIRST = 0,
+    OSTRUBEL_SECOND = 1,
+    OSTRUBEL_ONEB = 2,
+    OSTRUBEL_PLUS = 3,
+    OSTRUBEL_MINUS = 4,
+    OSTRUBEL_TIMES = 5,
+    OSTRUBEL_MIN = 6,
+    OSTRUBEL_MAX = 7
+};
+
+/* Kinds of apply, and the operators of the kinds that are not binary. */
+enum {
+    OSTRUBEL_UNARY = 0,         /* a unary operator; the scalar is not looked at */
+    OSTRUBEL_SCALAR_FIRST = 1,  /* a binary operator with x = scalar */
+    OSTRUBEL_SCALAR_SECOND = 2, /* a binary operator with y = scalar */
+    OSTRUBEL_INDEX_UNARY = 3    /* an index operator, by the row i and the column j of the matrix as stored */
+};
+enum {
+    OSTRUBEL_IDENTITY = 0,
+    OSTRUBEL_AINV = 1, /* -x */
+    OSTRUBEL_ABS = 2,
+    OSTRUBEL_LNOT = 3, /* 1 where x is 0, else 0 */
+    OSTRUBEL_ONE = 4
+};
+enum {
+    OSTRUBEL_ROWINDEX = 0, /* i + scalar */
+    OSTRUBEL_COLINDEX = 1, /* j + scalar */
+    OSTRUBEL_DIAGINDEX = 2 /* j - i + scalar */
+};
+
+/* The code of any answer. */
+static inline uint32_t ostrubel_code(uint64_t answer) { return (uint32_t)(answer & 255); }
+
+/* The entries of the matrix that was written or checked. */
+static inline uint32_t ostrubel_entries(uint64_t answer) { return (uint32_t)(answer >> 32); }
+
+/* Of a read: 1 where the cell is present, 0 where it is absent or the read was refused. */
+static inline int ostrubel_present(uint64_t answer) { return (int)((answer >> 8) & 1); }
+
+/* Of a read: the word of the cell's value; 0 where the cell is not present. */
+static inline uint32_t ostrubel_value(uint64_t answer) { return (uint32_t)(answer >> 32); }
+
+/* ---- Matrices in buffers of their own ---- */
+
+/* Whether the words begin with a valid matrix. Refused by 3. */
+uint64_t ostrubel_check(const uint32_t *words, size_t words_len);
+
+/* An empty matrix at the front of the buffer, whatever was there: rows + 7 words. Refused by 8, 11. */
+uint64_t ostrubel_new_empty(uint32_t rows, uint32_t cols, uint32_t *buffer, size_t buffer_len);
+
+/* The cell at row i and column j. Refused by 3, 7. */
+uint64_t ostrubel_read_cell(uint32_t i, uint32_t j, const uint32_t *words, size_t words_len);
+
+/*
+ * The six operations. Each works out a result T and writes it back: with an accumulator Z is the union of old C and T
+ * under it, else Z is T; inside the mask C takes Z, outside C keeps its entry, or loses it under OSTRUBEL_REPLACE.
+ * A position is inside where the mask has an entry other than 0; with no mask every position is inside.
+ *   flags            a sum of flags
+ *   has_mask         0: no mask, and its words are not looked at; else there is one
+ *   has_accumulator  0: no accumulator, and its number is not looked at; else there is one
+ *   accumulator      a binary operator
+ *   c                a valid matrix in a buffer that may be longer; at most 4,615 words are needed
+ *   work             at least 13,845 words, any words; all zeros after the call
+ * The answer's entries are those of the final C. Refused by 1 to 11: 4 only with a second input, 5 only with a mask, 7
+ * only by extract.
+ */
+
+/* C gets A times B: op multiplies, the monoid adds up. */
+uint64_t ostrubel_mxm(uint32_t flags, uint32_t has_mask, uint32_t has_accumulator, uint32_t accumulator,
+                      uint32_t monoid, uint32_t op, const uint32_t *a, size_t a_len, const uint32_t *b, size_t b_len,
+                      const uint32_t *mask, size_t mask_len, uint32_t *c, size_t c_len, uint32_t *work,
+                      size_t work_len);
+
+/* C gets u times A, where u has one row. */
+uint64_t ostrubel_vxm(uint32_t flags, uint32_t has_mask, uint32_t has_accumulator, uint32_t accumulator,
+                      uint32_t monoid, uint32_t op, const uint32_t *u, size_t u_len, const uint32_t *a, size_t a_len,
+                      const uint32_t *mask, size_t mask_len, uint32_t *c, size_t c_len, uint32_t *work,
+                      size_t work_len);
+
+/* Where both A and B have an entry: op of the two. */
+uint64_t ostrubel_ewise_mult(uint32_t flags, uint32_t has_mask, uint32_t has_accumulator, uint32_t accumulator,
+                             uint32_t op, const uint32_t *a, size_t a_len, const uint32_t *b, size_t b_len,
+                             const uint32_t *mask, size_t mask_len, uint32_t *c, size_t c_len, uint32_t *work,
+                             size_t work_len);
+
+/* Where both A and B have an entry: op of the two; where one has: its value. */
+uint64_t ostrubel_ewise_add(uint32_t flags, uint32_t has_mask, uint32_t has_accumulator, uint32_t accumulator,
+                            uint32_t op, const uint32_t *a, size_t a_len, const uint32_t *b, size_t b_len,
+                            const uint32_t *mask, size_t mask_len, uint32_t *c, size_t c_len, uint32_t *work,
+                            size_t work_len);
+
+/* An operator of a kind, with a scalar, on every entry of A. */
+uint64_t ostrubel_apply(uint32_t flags, uint32_t has_mask, uint32_t has_accumulator, uint32_t accumulator,
+                        uint32_t kind, uint32_t op, uint32_t scalar, const uint32_t *a, size_t a_len,
+                        const uint32_t *mask, size_t mask_len, uint32_t *c, size_t c_len, uint32_t *work,
+                        size_t work_len);
+
+/* At (i, j) the cell of A at row is[i] and column js[j]. The lists have no count in front. */
+uint64_t ostrubel_extract(uint32_t flags, uint32_t has_mask, uint32_t has_accumulator, uint32_t accumulator,
+                          const uint32_t *a, size_t a_len, const uint32_t *is, size_t is_len, const uint32_t *js,
+                          size_t js_len, const uint32_t *mask, size_t mask_len, uint32_t *c, size_t c_len,
+                          uint32_t *work, size_t work_len);
+
+/* ---- Matrices in the slots of a store ---- */
+
+/* An empty matrix in a slot, whatever was there. Refused by 12, 8, 11. */
+uint64_t ostrubel_store_new_empty(size_t slot, uint32_t rows, uint32_t cols, uint32_t *store, size_t store_len);
+
+/* A slot becomes empty; its words serve others. Answers 0 entries. Refused by 12. */
+uint64_t ostrubel_store_drop(size_t slot, uint32_t *store, size_t store_len);
+
+/* The cell at row i and column j takes a value. Answers the matrix's entries. Refused by 12, 13, 7, 10, 11. */
+uint64_t ostrubel_store_set_cell(size_t slot, uint32_t i, uint32_t j, uint32_t value, uint32_t *store,
+                                 size_t store_len);
+
+/* The cell becomes absent, or stays so. Answers the matrix's entries. Refused by 12, 13, 7. */
+uint64_t ostrubel_store_clear_cell(size_t slot, uint32_t i, uint32_t j, uint32_t *store, size_t store_len);
+
+/* The cell at row i and column j. Refused by 12, 13, 7. */
+uint64_t ostrubel_store_read_cell(size_t slot, uint32_t i, uint32_t j, const uint32_t *store, size_t store_len);
+
+/*
+ * The six operations by slots, with options, operators and workspace as above. One slot may have several roles: all are
+ * read before C is written. The slot of a mask is not looked at where has_mask is 0. Refused by 12, then 1, 2, 13, and 7
+ * to 11; 7 only by extract.
+ */
+
+uint64_t ostrubel_store_mxm(uint32_t flags, uint32_t has_mask, uint32_t has_accumulator, uint32_t accumulator,
+                            uint32_t monoid, uint32_t op, size_t a, size_t b, size_t mask, size_t c, uint32_t *store,
+                            size_t store_len, uint32_t *work, size_t work_len);
+
+uint64_t ostrubel_store_vxm(uint32_t flags, uint32_t has_mask, uint32_t has_accumulator, uint32_t accumulator,
+                            uint32_t monoid, uint32_t op, size_t u, size_t a, size_t mask, size_t c, uint32_t *store,
+                            size_t store_len, uint32_t *work, size_t work_len);
+
+uint64_t ostrubel_store_ewise_mult(uint32_t flags, uint32_t has_mask, uint32_t has_accumulator, uint32_t accumulator,
+                                   uint32_t op, size_t a, size_t b, size_t mask, size_t c, uint32_t *store,
+                                   size_t store_len, uint32_t *work, size_t work_len);
+
+uint64_t ostrubel_store_ewise_add(uint32_t flags, uint32_t has_mask, uint32_t has_accumulator, uint32_t accumulator,
+                                  uint32_t op, size_t a, size_t b, size_t mask, size_t c, uint32_t *store,
+                                  size_t store_len, uint32_t *work, size_t work_len);
+
+uint64_t ostrubel_store_apply(uint32_t flags, uint32_t has_mask, uint32_t has_accumulator, uint32_t accumulator,
+                              uint32_t kind, uint32_t op, uint32_t scalar, size_t a, size_t mask, size_t c,
+                              uint32_t *store, size_t store_len, uint32_t *work, size_t work_len);
+
+uint64_t ostrubel_store_extract(uint32_t flags, uint32_t has_mask, uint32_t has_accumulator, uint32_t accumulator,
+                                size_t a, size_t mask, size_t c, uint32_t *store, size_t store_len,
+                                const uint32_t *is, size_t is_len, const uint32_t *js, size_t js_len, uint32_t *work,
+                                size_t work_len);
+
+#ifdef __cplusplus
+}
+#endif
+
+#endif
