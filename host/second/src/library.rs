@@ -2,6 +2,7 @@
 
 use crate::calls::*;
 use crate::ffi;
+use ostrubel::calls as library;
 
 const GUARD: u32 = 0xA5C3_5A3C;
 const GUARDS: usize = 8;
@@ -57,17 +58,17 @@ pub fn lent(call: &LentCall) -> Outcome {
     match call {
         LentCall::Check { words } => {
             let buffer = Lent::new("buffer", words);
-            let answer = ffi::check(buffer.words());
+            let answer = library::check(buffer.words());
             Outcome { answer, buffers: vec![buffer.returned()] }
         }
         LentCall::NewEmpty { words, rows, cols } => {
             let mut buffer = Lent::new("buffer", words);
-            let answer = ffi::new_empty(buffer.words_mut(), *rows, *cols);
+            let answer = library::new_empty(*rows, *cols, buffer.words_mut());
             Outcome { answer, buffers: vec![buffer.returned()] }
         }
         LentCall::ReadCell { words, i, j } => {
             let buffer = Lent::new("buffer", words);
-            let answer = ffi::read_cell(buffer.words(), *i, *j);
+            let answer = library::read_cell(*i, *j, buffer.words());
             Outcome { answer, buffers: vec![buffer.returned()] }
         }
         LentCall::Operation(call) => lent_operation(call),
@@ -99,11 +100,11 @@ pub fn store(words: &mut Vec<u32>, call: &StoreCall) -> Outcome {
     let mut store = Lent::new("store", words);
     let mut others = Vec::new();
     let answer = match call {
-        StoreCall::NewEmpty { slot, rows, cols } => ffi::store_new_empty(store.words_mut(), *slot, *rows, *cols),
-        StoreCall::Drop { slot } => ffi::store_drop(store.words_mut(), *slot),
-        StoreCall::SetCell { slot, i, j, value } => ffi::store_set_cell(store.words_mut(), *slot, *i, *j, *value),
-        StoreCall::ClearCell { slot, i, j } => ffi::store_clear_cell(store.words_mut(), *slot, *i, *j),
-        StoreCall::ReadCell { slot, i, j } => ffi::store_read_cell(store.words(), *slot, *i, *j),
+        StoreCall::NewEmpty { slot, rows, cols } => library::store_new_empty(*slot, *rows, *cols, store.words_mut()),
+        StoreCall::Drop { slot } => library::store_drop(*slot, store.words_mut()),
+        StoreCall::SetCell { slot, i, j, value } => library::store_set_cell(*slot, *i, *j, *value, store.words_mut()),
+        StoreCall::ClearCell { slot, i, j } => library::store_clear_cell(*slot, *i, *j, store.words_mut()),
+        StoreCall::ReadCell { slot, i, j } => library::store_read_cell(*slot, *i, *j, store.words()),
         StoreCall::Operation(call) => {
             let lists = lists(&call.operation);
             let mut work = Lent::new("work buffer", &call.work.words());

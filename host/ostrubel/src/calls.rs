@@ -1,0 +1,149 @@
+//! The library's calls as `include/ostrubel.h` has them, on slices, with answers as numbers.
+//!
+//! This is the only unsafe code. What the header asks of a caller is given by the types: a slice's pointer is aligned,
+//! not null and to as many words as it says, and a buffer that is written overlaps no other, since it is borrowed
+//! mutably. Any numbers and any words may be passed.
+
+mod c {
+    extern "C" {
+        pub fn ostrubel_check(words: *const u32, n: usize) -> u64;
+        pub fn ostrubel_new_empty(rows: u32, cols: u32, buffer: *mut u32, n: usize) -> u64;
+        pub fn ostrubel_read_cell(i: u32, j: u32, words: *const u32, n: usize) -> u64;
+        pub fn ostrubel_store_new_empty(slot: usize, rows: u32, cols: u32, store: *mut u32, n: usize) -> u64;
+        pub fn ostrubel_store_drop(slot: usize, store: *mut u32, n: usize) -> u64;
+        pub fn ostrubel_store_set_cell(slot: usize, i: u32, j: u32, value: u32, store: *mut u32, n: usize) -> u64;
+        pub fn ostrubel_store_clear_cell(slot: usize, i: u32, j: u32, store: *mut u32, n: usize) -> u64;
+        pub fn ostrubel_store_read_cell(slot: usize, i: u32, j: u32, store: *const u32, n: usize) -> u64;
+    }
+}
+
+/// The options of an operation, as numbers. The fields are those of the header.
+#[derive(Clone, Copy, Debug, Default, PartialEq, Eq)]
+pub struct OptionNumbers {
+    pub flags: u32,
+    pub has_mask: u32,
+    pub has_accumulator: u32,
+    pub accumulator: u32,
+}
+
+/// Whether the words begin with a valid matrix.
+pub fn check(words: &[u32]) -> u64 {
+    unsafe { c::ostrubel_check(words.as_ptr(), words.len()) }
+}
+
+/// An empty matrix at the front of the buffer.
+pub fn new_empty(rows: u32, cols: u32, buffer: &mut [u32]) -> u64 {
+    unsafe { c::ostrubel_new_empty(rows, cols, buffer.as_mut_ptr(), buffer.len()) }
+}
+
+/// The cell at row i and column j.
+pub fn read_cell(i: u32, j: u32, words: &[u32]) -> u64 {
+    unsafe { c::ostrubel_read_cell(i, j, words.as_ptr(), words.len()) }
+}
+
+/// An empty matrix in a slot.
+pub fn store_new_empty(slot: usize, rows: u32, cols: u32, store: &mut [u32]) -> u64 {
+    unsafe { c::ostrubel_store_new_empty(slot, rows, cols, store.as_mut_ptr(), store.len()) }
+}
+
+/// A slot becomes empty.
+pub fn store_drop(slot: usize, store: &mut [u32]) -> u64 {
+    unsafe { c::ostrubel_store_drop(slot, store.as_mut_ptr(), store.len()) }
+}
+
+/// The cell at row i and column j takes a value.
+pub fn store_set_cell(slot: usize, i: u32, j: u32, value: u32, store: &mut [u32]) -> u64 {
+    unsafe { c::ostrubel_store_set_cell(slot, i, j, value, store.as_mut_ptr(), store.len()) }
+}
+
+/// The cell at row i and column j becomes absent.
+pub fn store_clear_cell(slot: usize, i: u32, j: u32, store: &mut [u32]) -> u64 {
+    unsafe { c::ostrubel_store_clear_cell(slot, i, j, store.as_mut_ptr(), store.len()) }
+}
+
+/// The cell at row i and column j of a slot's matrix.
+pub fn store_read_cell(slot: usize, i: u32, j: u32, store: &[u32]) -> u64 {
+    unsafe { c::ostrubel_store_read_cell(slot, i, j, store.as_ptr(), store.len()) }
+}
+
+/// An operation on lent matrices and on a store: the C functions and a safe function for each. In brackets: its
+/// numbers, its inputs as slices, its inputs as slots, its index lists.
+macro_rules! operation {
+    (
+        $(#[$about:meta])* $lent:ident $c_lent:ident $store:ident $c_store:ident,
+        [$($number:ident),*], [$($input:ident $count:ident),*], [$($slot:ident),*], [$($list:ident $length:ident),*]
+    ) => {
+        extern "C" {
+            fn $c_lent(
+                flags: u32, has_mask: u32, has_accumulator: u32, accumulator: u32, $($number: u32,)*
+                $($input: *const u32, $count: usize,)* $($list: *const u32, $length: usize,)*
+                mask: *const u32, mask_n: usize, c: *mut u32, c_n: usize, work: *mut u32, work_n: usize,
+            ) -> u64;
+            fn $c_store(
+                flags: u32, has_mask: u32, has_accumulator: u32, accumulator: u32, $($number: u32,)*
+                $($slot: usize,)* mask: usize, c: usize, store: *mut u32, store_n: usize,
+                $($list: *const u32, $length: usize,)* work: *mut u32, work_n: usize,
+            ) -> u64;
+        }
+
+        $(#[$about])*
+        ///
+        /// On lent matrices.
+        #[allow(clippy::too_many_arguments)]
+        pub fn $lent(
+            options: OptionNumbers, $($number: u32,)* $($input: &[u32],)* $($list: &[u32],)*
+            mask: &[u32], c: &mut [u32], work: &mut [u32],
+        ) -> u64 {
+            let OptionNumbers { flags, has_mask, has_accumulator, accumulator } = options;
+            unsafe {
+                $c_lent(
+                    flags, has_mask, has_accumulator, accumulator, $($number,)*
+                    $($input.as_ptr(), $input.len(),)* $($list.as_ptr(), $list.len(),)*
+                    mask.as_ptr(), mask.len(), c.as_mut_ptr(), c.len(), work.as_mut_ptr(), work.len(),
+                )
+            }
+        }
+
+        $(#[$about])*
+        ///
+        /// On the matrices in the slots of a store.
+        #[allow(clippy::too_many_arguments)]
+        pub fn $store(
+            options: OptionNumbers, $($number: u32,)* $($slot: usize,)* mask: usize, c: usize, store: &mut [u32],
+            $($list: &[u32],)* work: &mut [u32],
+        ) -> u64 {
+            let OptionNumbers { flags, has_mask, has_accumulator, accumulator } = options;
+            unsafe {
+                $c_store(
+                    flags, has_mask, has_accumulator, accumulator, $($number,)* $($slot,)* mask, c,
+                    store.as_mut_ptr(), store.len(), $($list.as_ptr(), $list.len(),)* work.as_mut_ptr(), work.len(),
+                )
+            }
+        }
+    };
+}
+
+operation!(
+    /// C gets A times B: op multiplies, the monoid adds up.
+    mxm ostrubel_mxm store_mxm ostrubel_store_mxm, [monoid, op], [a a_n, b b_n], [a, b], []
+);
+operation!(
+    /// C gets u times A, where u has one row.
+    vxm ostrubel_vxm store_vxm ostrubel_store_vxm, [monoid, op], [u u_n, a a_n], [u, a], []
+);
+operation!(
+    /// Where both A and B have an entry: op of the two.
+    ewise_mult ostrubel_ewise_mult store_ewise_mult ostrubel_store_ewise_mult, [op], [a a_n, b b_n], [a, b], []
+);
+operation!(
+    /// Where both A and B have an entry: op of the two; where one has: its value.
+    ewise_add ostrubel_ewise_add store_ewise_add ostrubel_store_ewise_add, [op], [a a_n, b b_n], [a, b], []
+);
+operation!(
+    /// An operator of a kind, with a scalar, on every entry of A.
+    apply ostrubel_apply store_apply ostrubel_store_apply, [kind, op, scalar], [a a_n], [a], []
+);
+operation!(
+    /// At (i, j) the cell of A at row is[i] and column js[j].
+    extract ostrubel_extract store_extract ostrubel_store_extract, [], [a a_n], [a], [is is_n, js js_n]
+);
