@@ -3,8 +3,8 @@
  *
  * Buffers. All matrices, stores, index lists and workspaces are buffers of uint32_t that the caller owns, passed as a
  * pointer and the number of words. Any words may be in them: what is no valid matrix or store is refused. A pointer is
- * to that many words also where a call does not look at them; with a count of 0 it is the address of any uint32_t. A
- * buffer that a call writes (not const) may not overlap another buffer of the same call; those that are only read may.
+ * to that many words also where a call does not look at them; with a count of 0 it is any aligned address but not null.
+ * A buffer that a call writes (not const) may not overlap another buffer of the same call; those that are only read may.
  *
  * A matrix of R rows, C columns and N entries takes R + 2N + 7 words: 2, R, C; R+1 and the row starts; N and the column
  * numbers; N and the values, in two's complement (-5 is 4294967291). R and C are 1 to 512, N is 0 to 2,048. Words after
@@ -14,7 +14,8 @@
  * count of words and the matrix, then zeros. All zeros is a store with eight empty slots. A write needs room for 8 words
  * and all matrices as they are after the call.
  *
- * Answers. Each call returns one number: take it apart by the functions below. A call that is accepted has the code 0.
+ * Answers. Each call returns one number: take it apart by the functions below. A call that is accepted has the code 0;
+ * only ostrubel_row_view has no code.
  * A refused call has the lowest code that applies (on a store 12 comes first, and 13 between 2 and 7), changes no word
  * but the workspace's, and its entries or value are 0. The workspace is all zeros after every call that has one.
  */
@@ -103,7 +104,7 @@ enum {
     OSTRUBEL_DIAGINDEX = 2 /* j - i + scalar */
 };
 
-/* The code of any answer. */
+/* The code of any answer but a row view's. */
 static inline uint32_t ostrubel_code(uint64_t answer) { return (uint32_t)(answer & 255); }
 
 /* The entries of the matrix that was written or checked. */
@@ -115,6 +116,13 @@ static inline int ostrubel_present(uint64_t answer) { return (int)((answer >> 8)
 /* Of a read: the word of the cell's value; 0 where the cell is not present. */
 static inline uint32_t ostrubel_value(uint64_t answer) { return (uint32_t)(answer >> 32); }
 
+/* Of a row view: 1 where the part lies in the second matrix, 0 where it lies in the first. */
+static inline int ostrubel_in_second(uint64_t answer) { return (int)(answer & 1); }
+
+/* Of a row view: the word of that matrix at which the part begins, and how many words it has. */
+static inline uint32_t ostrubel_part_from(uint64_t answer) { return (uint32_t)(answer >> 32); }
+static inline uint32_t ostrubel_part_count(uint64_t answer) { return (uint32_t)((answer >> 8) & 0xFFFFFF); }
+
 /* ---- Matrices in buffers of their own ---- */
 
 /* Whether the words begin with a valid matrix. Refused by 3. */
@@ -125,6 +133,15 @@ uint64_t ostrubel_new_empty(uint32_t rows, uint32_t cols, uint32_t *buffer, size
 
 /* The cell at row i and column j. Refused by 3, 7. */
 uint64_t ostrubel_read_cell(uint32_t i, uint32_t j, const uint32_t *words, size_t words_len);
+
+/*
+ * Row i over two matrices of one shape: where the part lies that is shown. It lies in the first matrix where that row has
+ * an entry, otherwise in the second. values: 0 for the row's column numbers, else for its values. This answer has no code:
+ * take it apart by ostrubel_in_second, ostrubel_part_from and ostrubel_part_count. Where either matrix is not valid, the
+ * shapes differ or there is no row i, the answer is 0: no words.
+ */
+uint64_t ostrubel_row_view(uint32_t i, uint32_t values, const uint32_t *first, size_t first_len,
+                           const uint32_t *second, size_t second_len);
 
 /*
  * The six operations. Each works out a result T and writes it back: with an accumulator Z is the union of old C and T

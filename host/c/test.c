@@ -1,9 +1,6 @@
 /*
  * Calls every function of ostrubel.h at least once and compares the answers and the words. Prints "ok", or the line of
- * the first difference. host/c/run.sh builds and runs it, from the repository's folder:
- *   rt staticlib exports
- *   gcc -std=c99 -Wall -Wextra -Werror -Iinclude -o target/c/test host/c/test.c target/staticlib/libexports.a
- *   target/c/test
+ * the first difference. host/c/run.sh builds and runs it.
  */
 #include <stdio.h>
 #include <stdlib.h>
@@ -75,6 +72,21 @@ static void test_format(void) {
     CHECK(ostrubel_read_cell(0, 2, WORDS(strip)) == 0);
     REFUSED(ostrubel_read_cell(0, 4, WORDS(strip)), OSTRUBEL_INDEX_OUT_OF_BOUNDS);
     REFUSED(ostrubel_read_cell(0, 1, strip, 5), OSTRUBEL_INVALID_FIRST);
+}
+
+static void test_row_view(void) {
+    /* 2 by 4 each: row 0 is 1:9, 3:9 in the first; row 1 is empty there and 0:5 in the second */
+    static const uint32_t first[] = {2, 2, 4, 3, 0, 2, 2, 2, 1, 3, 2, 9, 9};
+    static const uint32_t second[] = {2, 2, 4, 3, 0, 1, 2, 2, 2, 0, 2, 7, 5};
+    uint64_t part = ostrubel_row_view(0, 0, WORDS(first), WORDS(second));
+    CHECK(!ostrubel_in_second(part) && ostrubel_part_from(part) == 8 && ostrubel_part_count(part) == 2);
+    part = ostrubel_row_view(0, 1, WORDS(first), WORDS(second));
+    CHECK(!ostrubel_in_second(part) && ostrubel_part_from(part) == 11 && ostrubel_part_count(part) == 2);
+    part = ostrubel_row_view(1, 4294967295, WORDS(first), WORDS(second));
+    CHECK(ostrubel_in_second(part) && ostrubel_part_count(part) == 1 && second[ostrubel_part_from(part)] == 5);
+    CHECK(ostrubel_row_view(2, 0, WORDS(first), WORDS(second)) == 0);
+    CHECK(ostrubel_row_view(0, 0, WORDS(first), WORDS(strip)) == 0);
+    CHECK(ostrubel_row_view(0, 0, WORDS(first), second, 12) == 0);
 }
 
 static void test_products(void) {
@@ -241,6 +253,7 @@ static void test_store_operations(void) {
 
 int main(void) {
     test_format();
+    test_row_view();
     test_products();
     test_elementwise();
     test_write_back();

@@ -1,46 +1,49 @@
 //! Builds the proved library's static archive by the project's own command, and links it.
 //!
-//! `rt staticlib exports` proves what has changed since it was last proved, which can take minutes. Where
-//! `OSTRUBEL_LIB_DIR` names a folder, the archive there is linked and nothing is built.
+//! `host/library.sh` proves and builds what has changed, which can take minutes. Where `OSTRUBEL_LIB_DIR` names a folder
+//! by its absolute path, the archive there is linked and nothing is built.
 
 use std::env;
+use std::fs;
 use std::path::{Path, PathBuf};
 use std::process::{exit, Command};
 
+const ARCHIVE: &str = "libexports.a";
+
 fn main() {
     println!("cargo:rerun-if-env-changed=OSTRUBEL_LIB_DIR");
-    let folder = match env::var_os("OSTRUBEL_LIB_DIR") {
-        Some(folder) => PathBuf::from(folder),
-        None => build_archive(),
+    let archive = match env::var_os("OSTRUBEL_LIB_DIR") {
+        Some(folder) if !folder.is_empty() => {
+            let archive = PathBuf::from(folder).join(ARCHIVE);
+            println!("cargo:rerun-if-changed={}", archive.display());
+            archive
+        }
+        _ => build_archive(),
     };
-    let archive = folder.join("libexports.a");
-    println!("cargo:rerun-if-changed={}", archive.display());
-    if !archive.is_file() {
-        fail(&format!("{} is not there", archive.display()));
+    // A copy of its own: the gate removes target/.
+    let folder = PathBuf::from(env::var_os("OUT_DIR").unwrap_or_default());
+    if let Err(error) = fs::copy(&archive, folder.join(ARCHIVE)) {
+        fail(&format!("{} cannot be copied: {error}", archive.display()));
     }
     println!("cargo:rustc-link-search=native={}", folder.display());
     println!("cargo:rustc-link-lib=static=exports");
 }
 
-/// The folder of the archive, which is made again where the crates have changed.
+/// The archive, made again where the crates have changed.
 fn build_archive() -> PathBuf {
-    let here = PathBuf::from(env::var_os("CARGO_MANIFEST_DIR").unwrap_or_default());
-    let root = here.join("../..");
-    for input in ["crates", "crates.txt"] {
+    let root = Path::new(&env::var_os("CARGO_MANIFEST_DIR").unwrap_or_default()).join("../..");
+    for input in ["crates", "crates.txt", "host/library.sh"] {
         println!("cargo:rerun-if-changed={}", root.join(input).display());
     }
-    match Command::new("rt").args(["staticlib", "exports"]).current_dir(&root).output() {
-        Err(error) => fail(&format!("rt, the command of the Rattle toolchain, cannot be run: {error}")),
-        Ok(output) if !output.status.success() => {
-            eprintln!("{}{}", String::from_utf8_lossy(&output.stdout), String::from_utf8_lossy(&output.stderr));
-            fail("`rt staticlib exports` failed");
-        }
+    match Command::new("sh").arg(root.join("host/library.sh")).output() {
+        Err(error) => fail(&format!("host/library.sh cannot be run: {error}")),
+        Ok(output) if !output.status.success() => fail(&String::from_utf8_lossy(&output.stderr)),
         Ok(_) => {}
     }
-    Path::new(&root).join("target/staticlib")
+    root.join("target/staticlib").join(ARCHIVE)
 }
 
 fn fail(message: &str) -> ! {
-    eprintln!("{message}.");
+    eprintln!("{}", message.trim_end());
     exit(1);
 }

@@ -8,7 +8,7 @@ use lib.ListN.{length, take, drop, replicate, length-append, length-drop, length
 use mir.Syntax.{w64}
 use mir.Val.{Fits}
 use lib.Seq.{length-take-le, take-at, drop-at, take-append-le}
-use Rattle.limits.specs.Limits.{maxRows, maxCols, maxEntries}
+use Rattle.limits.specs.Limits.{maxCols, maxEntries}
 use Rattle.grid.specs.Grid.{Grid}
 use Rattle.grid.specs.Entries.{column, value, gather, flatten, entryCount}
 use Rattle.grid.proofs.Gather.{gather-length, flatten-next, flatten-grows}
@@ -81,7 +81,7 @@ module _ (call : Call) (a b m c is js : List ℕ) where
     buffers = b;
   }
 
-  module _ (first second : Bool) (w tc tv oc ov : List ℕ) (rows n i : ℕ)
+  module _ {first second : Bool} {w tc tv oc ov : List ℕ} {rows n i : ℕ}
       (p : Progress call a b m c is js first second w tc tv oc ov rows n i) where
     pub region-length : length (take maxMatrixWords w) ≡ maxMatrixWords
     region-length = length-take-le maxMatrixWords w (omega (arith, p .space))
@@ -93,7 +93,7 @@ module _ (call : Call) (a b m c is js : List ℕ) where
     counter-fits l = record { fits = omega (arith, p .rows-are, p .ready .inputs .output .header .row-range .most) }
 
     -- row i, left in the buffers
-    module _ (l : i < rows) (k : ℕ) (oc′ ov′ : List ℕ) (h : Holds (layout.cols c) (g .cell i) k oc′ ov′) where
+    module _ (l : i < rows) {k : ℕ} {oc′ ov′ : List ℕ} (h : Holds (layout.cols c) (g .cell i) k oc′ ov′) where
       columns-are : take k oc′ ≡ gather column (g .cols) (g .cell i)
       columns-are = rw final-cols (h .columns)
 

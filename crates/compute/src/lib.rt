@@ -21,7 +21,8 @@ ghost use Rattle.operations.specs.WriteBacks.{writeBack};
 ghost use Rattle.operations.specs.Calls.{transposeFirst, writeBackOf};
 ghost use Rattle.requests.specs.Refusal.{lentFinal};
 ghost use Rattle.requests.specs.Inputs.{Ready};
-ghost use Rattle.compute.specs.Computing.{MaskRow, OldRow, secondFlag, Sources, RowBuffers, Progress, Advanced, Computed};
+ghost use Rattle.compute.specs.Computing.{MaskRow, OldRow, secondFlag, Sources, RowBuffers};
+ghost use Rattle.compute.specs.Computing.{Progress, Advanced, Computed};
 
 const FIRST_AT: usize = MAX_MATRIX_WORDS;
 
@@ -137,7 +138,8 @@ fn write_row(
     requires { ⌜ OldRow w (now mask) (now c) (now tc) (now tv) i ⌝ }
     requires { ⌜ (cols (now c) ≤ length (now oc)) × (cols (now c) ≤ length (now ov)) ⌝ }
     ensures { λ r. ⌜ Holds (cols (now (c .entry)))
-        (λ j. writeBack w (cellOf (now (mask .entry)) i j) (cellOf (now (c .entry)) i j) (lookup (now (tc .entry)) (now (tv .entry)) j))
+        (λ j. writeBack w (cellOf (now (mask .entry)) i j) (cellOf (now (c .entry)) i j)
+        (lookup (now (tc .entry)) (now (tv .entry)) j))
         r (now (oc .exit)) (now (ov .exit)) ⌝ }
 {
     let has_mask = w.has_mask;
@@ -178,7 +180,8 @@ fn final_row<'a>(
     requires { ⌜ (first ≡ transposeFirst call) × (second ≡ secondFlag call) ⌝ ∗ ⌜ workspaceWords ≤ length (now work) ⌝ }
     requires { ⌜ i < rows (now c) ⌝ ∗ ⌜ RowBuffers (now tc) (now tv) (now oc) (now ov) ⌝ }
     ensures { λ r. ⌜ Holds (cols (now (c .entry)))
-        (lentFinal call (now (a .entry)) (now (b .entry)) (now (mask .entry)) (now (c .entry)) (now (is .entry)) (now (js .entry)) .cell i)
+        (lentFinal call (now (a .entry)) (now (b .entry)) (now (mask .entry)) (now (c .entry))
+        (now (is .entry)) (now (js .entry)) .cell i)
         r (now (oc .exit)) (now (ov .exit)) ⌝ }
 {
     let x = choose(first, &work[FIRST_AT..SECOND_AT], a);

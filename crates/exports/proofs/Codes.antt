@@ -1,4 +1,4 @@
--- Every code that a call answers is below `codeLimit`: packing and `Unpacking` cite it.
+-- Every code that a call answers is below `codeLimit`, and every place is small: packing and `Unpacking` cite it.
 use Prim.Native.Nat.{ℕ, _<_}
 use mathlib.Core.Path.{_≡_, ap}
 use mathlib.Core.Bool.{Bool, true, false, cond, not}
@@ -27,8 +27,11 @@ use Rattle.encoding.specs.Encode.{gridSize}
 use Rattle.create.specs.Create.{createAnswer}
 use Rattle.cells.specs.declared.CellAnswer.{CellAnswer}
 use Rattle.cells.specs.Read.{foundAnswer, refusedRead, readAnswer}
+use Rattle.row_view.specs.declared.Section.{Section}
+use Rattle.row_view.specs.View.{rowView, placeOf}
+use Rattle.row_view.proofs.Bounds.{view-within}
 use Rattle.operations.specs.declared.Call.{Call}
-use Rattle.requests.specs.Cases.{Case, given, lowest, numberCases, agreementCases, outputCases, firstOf, answerFor}
+use Rattle.requests.specs.Cases.{Case, given, firstApplying, numberCases, agreementCases, outputCases, firstOf, answerFor}
 use Rattle.requests.specs.Refusal.{matrixCases, inputRefusal, outputRefusal, lentRefusal, lentFinal}
 use Rattle.calls.specs.Completion.{lentAnswer}
 use Rattle.slots.specs.Valid.{storeValid}
@@ -66,7 +69,7 @@ use Rattle.model.specs.Steps.{
   reply,
 }
 use Rattle.model.specs.Stores.{modelOf, noStore, replyOn}
-use Rattle.exports.specs.Packing.{codeLimit}
+use Rattle.exports.specs.Packing.{codeLimit, SmallPlace}
 
 abbrev Small : ℕ → Type 0
 Small code = code < codeLimit
@@ -90,7 +93,7 @@ either-read : (b : Bool) (x y : CellAnswer) → SmallRead x → SmallRead y → 
 either-read true x y p q = p
 either-read false x y p q = q
 
--- ---- the lowest of cases whose numbers are all small
+-- ---- the first of cases whose numbers are all small
 abbrev AllSmall : List Case → Type 0
 AllSmall [] = Unit {0}
 AllSmall (x ∷ xs) = Small (x .number) × AllSmall xs
@@ -99,9 +102,9 @@ all-append : (xs ys : List Case) → AllSmall xs → AllSmall ys → AllSmall (x
 all-append [] ys h k = k
 all-append (x ∷ xs) ys h k = (h .0, all-append xs ys (h .1) k)
 
-lowest-small : (xs : List Case) → AllSmall xs → Small (lowest xs)
-lowest-small [] h = omega arith
-lowest-small (x ∷ xs) h = either (x .applies) (x .number) (lowest xs) (h .0) (lowest-small xs (h .1))
+applying-small : (xs : List Case) → AllSmall xs → Small (firstApplying xs)
+applying-small [] h = omega arith
+applying-small (x ∷ xs) h = either (x .applies) (x .number) (firstApplying xs) (h .0) (applying-small xs (h .1))
 
 answer-small : (code : ℕ) (g : Grid) → Small code → SmallAnswer (answerFor code g)
 answer-small code g h = either-answer (eqb code 0) (accepted (entryCount g)) (refused code) (omega arith) h
@@ -143,6 +146,12 @@ read-small s i j =
     either-read (valid s) (cond inside cell (refusedRead indexOutOfBounds)) (refusedRead invalidFirst)
     (either-read inside cell (refusedRead indexOutOfBounds) (found-small (cellOf s i j)) (omega arith)) (omega arith)
 
+-- a place lies within the largest matrix
+pub place-small : (section : Section) (a b : List ℕ) (i : ℕ) → SmallPlace (placeOf (rowView section a b i))
+place-small section a b i =
+    let h = view-within section a b i in
+    record { count = omega (arith, h .count); from = omega (arith, h .from) }
+
 module _ (call : Call) (a b m c is js : List ℕ) (work : ℕ) where
   matrices : AllSmall (matrixCases call a b m c)
   matrices = (omega arith, (omega arith, (omega arith, (omega arith, tt))))
@@ -151,7 +160,7 @@ module _ (call : Call) (a b m c is js : List ℕ) (work : ℕ) where
   unfolding inputRefusal
   input-small =
       let agreed = agreementCases call (gridOf a) (gridOf b) (gridOf m) (gridOf c) is js work in
-      lowest-small (numberCases call ++ (matrixCases call a b m c ++ agreed))
+      applying-small (numberCases call ++ (matrixCases call a b m c ++ agreed))
       (all-append (numberCases call) (matrixCases call a b m c ++ agreed) (numbers call)
       (all-append (matrixCases call a b m c) agreed matrices
       (agreements call (gridOf a) (gridOf b) (gridOf m) (gridOf c) is js work)))
@@ -162,7 +171,7 @@ module _ (call : Call) (a b m c is js : List ℕ) (work : ℕ) where
       let g = lentFinal call a b m c is js in
       let first = inputRefusal call a b m c is js work in
       either (eqb first 0) (outputRefusal g (length c)) first
-      (lowest-small (outputCases g (gridSize g) (length c)) (outputs g (gridSize g) (length c))) input-small
+      (applying-small (outputCases g (gridSize g) (length c)) (outputs g (gridSize g) (length c))) input-small
 
   pub lent-small : SmallAnswer (lentAnswer call a b m c is js work)
   lent-small = answer-small (lentRefusal call a b m c is js work) (lentFinal call a b m c is js) refusal-small
@@ -179,7 +188,7 @@ module _ (n : ℕ) (m : Model) where
   new-empty-small : (k r c : ℕ) → Small (newEmptyRefusal n m k r c)
   unfolding newEmptyRefusal
   new-empty-small k r c =
-      lowest-small (
+      applying-small (
       noSlot k
       ∷ given invalidShape (not (inRange maxRows r and inRange maxCols c))
       ∷ given insufficientSpace (ltb n (wordsNeeded (laid m k r c)))
@@ -188,20 +197,20 @@ module _ (n : ℕ) (m : Model) where
 
   drop-small : (k : ℕ) → Small (dropRefusal k)
   unfolding dropRefusal
-  drop-small k = lowest-small (noSlot k ∷ []) (omega arith, tt)
+  drop-small k = applying-small (noSlot k ∷ []) (omega arith, tt)
 
   set-small : (k i j v : ℕ) → Small (setRefusal n m k i j v)
   unfolding setRefusal
   set-small k i j v =
       let g = withValue m k i j v in
       let needed = wordsNeeded (set m k (holding g)) in
-      lowest-small (noSlot k ∷ noGrid m k ∷ noCell (gridAt m k) i j ∷ outputCases g needed n)
+      applying-small (noSlot k ∷ noGrid m k ∷ noCell (gridAt m k) i j ∷ outputCases g needed n)
       (omega arith, (omega arith, (omega arith, outputs g needed n)))
 
   cell-small : (k i j : ℕ) → Small (cellRefusal m k i j)
   unfolding cellRefusal
   cell-small k i j =
-      lowest-small (noSlot k ∷ noGrid m k ∷ noCell (gridAt m k) i j ∷ [])
+      applying-small (noSlot k ∷ noGrid m k ∷ noCell (gridAt m k) i j ∷ [])
       (omega arith, (omega arith, (omega arith, tt)))
 
   operation-small : (o : Operate) → Small (operationRefusal n m o)
@@ -212,7 +221,7 @@ module _ (n : ℕ) (m : Model) where
       (gridAt m (r .output)) (o .is) (o .js) (o .work) in
       let written = outputCases (operated m o) (wordsNeeded (afterOperation m o)) n in
       let vacancies = roleCases (noGrid m) r in
-      lowest-small (roleCases noSlot r ++ (numberCases (o .call) ++ (vacancies ++ (agreed ++ written))))
+      applying-small (roleCases noSlot r ++ (numberCases (o .call) ++ (vacancies ++ (agreed ++ written))))
       (all-append (roleCases noSlot r) (numberCases (o .call) ++ (vacancies ++ (agreed ++ written)))
       (roles-small noSlot r (λ k. omega arith))
       (all-append (numberCases (o .call)) (vacancies ++ (agreed ++ written)) (numbers (o .call))

@@ -1,5 +1,6 @@
 -- What a caller takes out of an answer is what was packed: the code is the remainder by 256, the entries or the value
--- are the upper word, and bit 8 says whether a cell is present. One theorem for each kind of exported call.
+-- are the upper word, and bit 8 says whether a cell is present; of a place the lowest bit says which matrix, the three
+-- bytes above the lowest how many words, and the upper word from where on. One theorem for each kind of exported call.
 use Prim.Native.Nat.{ℕ, _+_, _*_, _<_, _%_, _/_}
 use mathlib.Core.Path.{_≡_, refl, ap}
 use mathlib.Core.Bool.{Bool, true, false, cond}
@@ -10,14 +11,27 @@ use Rattle.answers.specs.declared.Answer.{Answer}
 use Rattle.matrix.specs.Valid.{checkAnswer}
 use Rattle.cells.specs.declared.CellAnswer.{CellAnswer}
 use Rattle.cells.specs.Read.{readAnswer}
+use Rattle.row_view.specs.declared.Section.{Section}
+use Rattle.row_view.specs.declared.Place.{Place}
+use Rattle.row_view.specs.View.{rowView, placeOf}
 use Rattle.operations.specs.declared.Call.{Call}
 use Rattle.model.specs.Calls.{StoreCall}
-use Rattle.exports.specs.Packing.{codeLimit, upperWord, presentBit, packed, packedCell}
+use Rattle.exports.specs.Packing.{
+  codeLimit,
+  upperWord,
+  presentBit,
+  packed,
+  packedCell,
+  secondBit,
+  packedPlace,
+  SmallPlace,
+}
 use Rattle.exports.specs.Exported.{LentCreated, LentCompleted, StorePerformed, StoreRead}
 use Rattle.exports.proofs.Codes.{
   check-small,
   create-small,
   read-small,
+  place-small,
   lent-small,
   store-small,
   store-read-small,
@@ -32,6 +46,11 @@ pub record UnpackedCell (r : ℕ) (a : CellAnswer) : Type 0 where
   pub code : r % codeLimit ≡ a .code
   pub present : r / codeLimit % 2 ≡ cond (a .present) 1 0
   pub value : r / upperWord ≡ a .value
+
+pub record UnpackedPlace (r : ℕ) (p : Place) : Type 0 where
+  pub in-second : r % 2 ≡ secondBit (p .«in_second»)
+  pub count : r / codeLimit % 16777216 ≡ p .count
+  pub from : r / upperWord ≡ p .from
 
 unpacked : (r : ℕ) (a : Answer) → r ≡ packed a → a .code < codeLimit → Unpacked r a
 unpacked r a e h = record { code = omega arith; entries = omega arith }
@@ -55,11 +74,37 @@ unpacked-cell r a e h = record {
     value true e = omega arith
     value false e = omega arith
 
+unpacked-place : (p : Place) → SmallPlace p → UnpackedPlace (packedPlace p) p
+unpacked-place p h = record {
+  in-second = in-second (p .«in_second»);
+  count = count (p .«in_second»);
+  from = from (p .«in_second»);
+}
+  where
+    packed-as : Bool → ℕ
+    packed-as b = secondBit b + p .count * codeLimit + p .from * upperWord
+
+    in-second : (b : Bool) → packed-as b % 2 ≡ secondBit b
+    in-second true = omega arith
+    in-second false = omega arith
+
+    count : (b : Bool) → packed-as b / codeLimit % 16777216 ≡ p .count
+    count true = omega (arith, h .count)
+    count false = omega (arith, h .count)
+
+    from : (b : Bool) → packed-as b / upperWord ≡ p .from
+    from true = omega (arith, h .count)
+    from false = omega (arith, h .count)
+
 pub check-unpacked : (s : List ℕ) → Unpacked (packed (checkAnswer s)) (checkAnswer s)
 check-unpacked s = unpacked (packed (checkAnswer s)) (checkAnswer s) refl (check-small s)
 
 pub read-unpacked : (s : List ℕ) (i j : ℕ) → UnpackedCell (packedCell (readAnswer s i j)) (readAnswer s i j)
 read-unpacked s i j = unpacked-cell (packedCell (readAnswer s i j)) (readAnswer s i j) refl (read-small s i j)
+
+pub view-unpacked : (section : Section) (a b : List ℕ) (i : ℕ)
+    → UnpackedPlace (packedPlace (placeOf (rowView section a b i))) (placeOf (rowView section a b i))
+view-unpacked section a b i = unpacked-place (placeOf (rowView section a b i)) (place-small section a b i)
 
 pub created-unpacked : (w : List ℕ) (rows cols r : ℕ) (w′ : List ℕ) (h : LentCreated w rows cols r w′)
     → Unpacked r (h .answer)

@@ -1,11 +1,13 @@
 -- What an exported call answers and leaves: the call's own definitions, with the answer in one number r.
 use Prim.Native.Nat.{ℕ}
 use mathlib.Core.Path.{_≡_}
-use mathlib.Core.Bool.{not}
+use mathlib.Core.Bool.{not, cond}
 use mathlib.Core.List.{List}
 use lib.Dec.{eqb}
 use Rattle.answers.specs.declared.Answer.{Answer}
 use Rattle.cells.specs.declared.CellAnswer.{CellAnswer}
+use Rattle.row_view.specs.declared.Section.{Section}
+use Rattle.row_view.specs.declared.Section.the-variants.{Columns, Values}
 use Rattle.create.specs.Create.{Created}
 use Rattle.operations.specs.declared.Call.{Call}
 use Rattle.call_codes.specs.declared.Options.{Options}
@@ -22,6 +24,10 @@ optionsOf flags mask accumulated number = record {
   «has_accumulator» = not (eqb accumulated 0);
   accumulator = number;
 }
+
+-- column numbers or values: 0 asks for the column numbers, any other number for the values
+abbrev pub sectionOf : ℕ → Section
+sectionOf values = cond (eqb values 0) Columns Values
 
 -- an empty matrix in a lent buffer
 pub record LentCreated (w : List ℕ) (rows cols r : ℕ) (w′ : List ℕ) : Type 0 where

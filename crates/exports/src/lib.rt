@@ -6,20 +6,26 @@
 use answers::Answer;
 use call_codes::Options;
 use cells::CellAnswer;
+use row_view::Place;
+use row_view::Section;
 ghost use mathlib.Core.Path.{_≡_};
 ghost use mathlib.Core.List.{[]};
 ghost use Prim.Native.Nat.{_<_, _≤_};
 ghost use lib.ListN.{length, replicate};
 ghost use Rattle.matrix.specs.Valid.{checkAnswer};
 ghost use Rattle.cells.specs.Read.{readAnswer};
+ghost use Rattle.row_view.specs.View.{rowView, placeOf};
 ghost use Rattle.call_codes.specs.Decoding.{mxmCall, vxmCall, ewiseMultCall, ewiseAddCall, applyCall, extractCall};
 ghost use Rattle.model.specs.Calls.{newEmpty, dropSlot, setCell, clearCell, readCell, operation};
 ghost use Rattle.model.specs.Calls.{mxm, vxm, ewiseMult, ewiseAdd, apply, extract};
-ghost use Rattle.exports.specs.Packing.{packed, packedCell, presentBit, codeLimit};
-ghost use Rattle.exports.specs.Exported.{optionsOf, LentCreated, LentCompleted, StorePerformed, StoreRead};
+ghost use Rattle.exports.specs.Packing.{packed, packedCell, presentBit, packedPlace, secondBit, SmallPlace, codeLimit};
+ghost use Rattle.exports.specs.Exported.{optionsOf, sectionOf, LentCreated, LentCompleted, StorePerformed, StoreRead};
 
 // In the answer of a read, what stands for a cell that is present.
 const PRESENT: u64 = 256;
+
+// In the answer of a look at a row, what a word of the part counts.
+const COUNT_UNIT: u64 = 256;
 
 // In an answer, what 1 in the upper word counts.
 const UPPER_WORD: u64 = 4294967296;
@@ -46,6 +52,16 @@ pub extern "C" fn ostrubel_read_cell(i: u32, j: u32, words: &[u32]) -> u64
     ensures { λ r. ⌜ r ≡ packedCell (readAnswer (now (words .entry)) i j) ⌝ }
 {
     pack_cell(cells::read_cell(words, i, j))
+}
+
+// "Look at one row over two sheets": where the part that is shown lies; the column numbers where `values` is 0, else
+// the values.
+#[no_mangle]
+pub extern "C" fn ostrubel_row_view(i: u32, values: u32, first: &[u32], second: &[u32]) -> u64
+    ensures { λ r. ⌜ r ≡ packedPlace (placeOf (rowView (sectionOf values) (now (first .entry))
+        (now (second .entry)) i)) ⌝ }
+{
+    pack_place(row_view::place_shown(first, second, i, section_of(values)))
 }
 
 // "Product": C gets A times B, by a monoid and an operator.
@@ -407,6 +423,30 @@ fn present_bit(present: bool) -> u64
     ensures { λ r. ⌜ r ≡ presentBit present ⌝ ∗ ⌜ r ≤ codeLimit ⌝ }
 {
     if present { PRESENT } else { 0 }
+}
+
+// The matrix in the lowest byte, the count in the rest of the lower word, where the part begins in the upper.
+fn pack_place(place: Place) -> u64
+    requires { ⌜ SmallPlace place ⌝ }
+    ensures { λ r. ⌜ r ≡ packedPlace place ⌝ }
+{
+    second_bit(place.in_second) + place.count as u64 * COUNT_UNIT + place.from as u64 * UPPER_WORD
+}
+
+fn second_bit(in_second: bool) -> u64
+    ensures { λ r. ⌜ r ≡ secondBit «in_second» ⌝ ∗ ⌜ r ≤ 1 ⌝ }
+{
+    if in_second { 1 } else { 0 }
+}
+
+fn section_of(values: u32) -> Section
+    ensures { λ r. ⌜ r ≡ sectionOf values ⌝ }
+{
+    if values == 0 {
+        Section::Columns
+    } else {
+        Section::Values
+    }
 }
 
 fn options_of(flags: u32, has_mask: u32, has_accumulator: u32, accumulator: u32) -> Options

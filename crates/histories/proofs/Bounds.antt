@@ -22,7 +22,7 @@ use Rattle.matrix.proofs.Facts.{range-facts}
 use Rattle.encoding.specs.Encode.{gridSize, Within}
 use Rattle.create.proofs.Empty.{empty-count}
 use Rattle.operations.specs.Calls.{callFinal}
-use Rattle.requests.specs.Cases.{Case, lowest, numberCases, agreementCases, outputCases}
+use Rattle.requests.specs.Cases.{Case, firstApplying, numberCases, agreementCases, outputCases}
 use Rattle.requests.proofs.Cases.{later}
 use Rattle.model.specs.Model.{Slot, vacant, holding, Model, slotOf, isVacant, gridIn, gridAt, slotSize, sizes, wordsNeeded}
 use Rattle.model.specs.Calls.{
@@ -53,7 +53,7 @@ use Rattle.model.specs.Steps.{
   operationRefusal,
   next,
 }
-use Rattle.histories.proofs.Steps.{lowest-tail}
+use Rattle.histories.proofs.Steps.{applying-tail}
 
 abbrev pub WithinSlot : Slot → Type 0
 WithinSlot vacant = Unit {0}
@@ -201,14 +201,14 @@ module _ (n : ℕ) (m : Model) (h : Fitting n m) where
       let outputs = outputCases g (wordsNeeded (afterOperation m o)) n in
       let vacancies = roleCases (noGrid m) (o .roles) in
       let t₁ =
-      lowest-tail (roleCases noSlot (o .roles)) (numberCases (o .call) ++ (vacancies ++ (agreements ++ outputs)))
+      applying-tail (roleCases noSlot (o .roles)) (numberCases (o .call) ++ (vacancies ++ (agreements ++ outputs)))
       (refl, (refl, (refl, (refl, tt)))) z in
-      let t₂ = lowest-tail (numberCases (o .call)) (vacancies ++ (agreements ++ outputs)) (refl, (refl, tt)) t₁ in
+      let t₂ = applying-tail (numberCases (o .call)) (vacancies ++ (agreements ++ outputs)) (refl, (refl, tt)) t₁ in
       let v₁ = later (isVacant (slotOf m (o .roles .first))) 13 _ refl t₂ in
       let v₂ = later (isVacant (slotOf m (o .roles .second))) 13 _ refl (v₁ .rest) in
       let v₃ = later (isVacant (slotOf m (o .roles .mask))) 13 _ refl (v₂ .rest) in
       let v₄ = later (isVacant (slotOf m c)) 13 _ refl (v₃ .rest) in
-      let t₃ = lowest-tail agreements outputs (refl, (refl, (refl, tt))) (v₄ .rest) in
+      let t₃ = applying-tail agreements outputs (refl, (refl, (refl, tt))) (v₄ .rest) in
       let h₁ = later (ltb maxEntries (entryCount g)) 10 _ refl t₃ in
       let h₂ = later (ltb n (wordsNeeded (afterOperation m o))) 11 0 refl (h₁ .rest) in
       put-fits c (holding g) (shaped c g (v₄ .here) refl refl (ltb-false _ _ (h₁ .here))) (ltb-false _ _ (h₂ .here))

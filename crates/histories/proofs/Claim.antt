@@ -16,12 +16,15 @@ use Rattle.histories.specs.Lists.{
   call,
   Follows,
   Claim,
+  Resumed,
 }
+use Rattle.slots.proofs.Facts.{store-facts}
+use Rattle.model.proofs.Held.{model-written}
 use Rattle.histories.proofs.Alike.{alike-written}
 use Rattle.histories.proofs.Steps.{reply-same, next-same}
 use Rattle.histories.proofs.Bounds.{Fitting, next-fits}
 use Rattle.histories.proofs.Told.{told}
-use Rattle.histories.proofs.Stored.{Written, written-model, fresh-fits, fresh-written}
+use Rattle.histories.proofs.Stored.{Written, written-model, fresh-fits, fresh-written, held-fits}
 
 -- one call goes as the model goes
 record Once (n : ℕ) (m : Model) (c : StoreCall) (r : Reply) (s : List ℕ) : Type 0 where
@@ -58,3 +61,8 @@ follows {n} {m} a b f e (call {c = c} t ts) =
 
 pub claim : Claim
 claim n a b cs rs s r = follows a b (fresh-fits n a) (fresh-written n a) r
+
+pub resumed : Resumed
+resumed s v cs rs s′ r =
+    let h = store-facts s v in
+    follows (h .least) (h .most) (held-fits s h) (sym (model-written s h)) r

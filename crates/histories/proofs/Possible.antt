@@ -74,6 +74,10 @@ writes : (s : List ℕ) (c : StoreCall) → wrote (answerIn (replyOn s c)) ≡ r
     → Performed s c (wrote (answerIn (replyOn s c))) (wordsAfter s c)
 writes s c e = record { answer-is = e; words-are = refl }
 
+-- a step is enough, whatever it answers and leaves
+stepped : {s s′ : List ℕ} {c : StoreCall} {r : Reply} → Step s c r s′ → Possible s c
+stepped h = record { answer = _; after = _; step = h }
+
 -- an operation, with a workspace of zeros
 abbrev zeros : ℕ → List ℕ
 zeros n = replicate n 0
@@ -82,67 +86,46 @@ operates : (κ₂ : Lfts 2) (κ₄ : Lfts 4) (s : List ℕ) (x : OperationCall) 
 unfolding replyOn reply
 operates κ₂ κ₄ s (mxm o monoid op a b m c w) =
     rw (← (length-replicate {A = ℕ} w 0))
-    (record {
-      answer = _;
-      after = _;
-      step = mxm-step (zeros w) (zeros (length (zeros w))) somewhere somewhere κ₂
-          (writes s (operation (mxm o monoid op a b m c (length (zeros w)))) (wrote-either (storeValid s) _ _), refl);
-    })
+    (stepped
+    (mxm-step (zeros w) (zeros (length (zeros w))) somewhere somewhere κ₂
+    (writes s (operation (mxm o monoid op a b m c (length (zeros w)))) (wrote-either (storeValid s) _ _), refl)))
 operates κ₂ κ₄ s (vxm o monoid op u a m c w) =
     rw (← (length-replicate {A = ℕ} w 0))
-    (record {
-      answer = _;
-      after = _;
-      step = vxm-step (zeros w) (zeros (length (zeros w))) somewhere somewhere κ₂
-          (writes s (operation (vxm o monoid op u a m c (length (zeros w)))) (wrote-either (storeValid s) _ _), refl);
-    })
+    (stepped
+    (vxm-step (zeros w) (zeros (length (zeros w))) somewhere somewhere κ₂
+    (writes s (operation (vxm o monoid op u a m c (length (zeros w)))) (wrote-either (storeValid s) _ _), refl)))
 operates κ₂ κ₄ s (ewiseMult o op a b m c w) =
     rw (← (length-replicate {A = ℕ} w 0))
-    (record {
-      answer = _;
-      after = _;
-      step = ewise-mult-step (zeros w) (zeros (length (zeros w))) somewhere somewhere κ₂
-          (writes s (operation (ewiseMult o op a b m c (length (zeros w)))) (wrote-either (storeValid s) _ _), refl);
-    })
+    (stepped
+    (ewise-mult-step (zeros w) (zeros (length (zeros w))) somewhere somewhere κ₂
+    (writes s (operation (ewiseMult o op a b m c (length (zeros w)))) (wrote-either (storeValid s) _ _), refl)))
 operates κ₂ κ₄ s (ewiseAdd o op a b m c w) =
     rw (← (length-replicate {A = ℕ} w 0))
-    (record {
-      answer = _;
-      after = _;
-      step = ewise-add-step (zeros w) (zeros (length (zeros w))) somewhere somewhere κ₂
-          (writes s (operation (ewiseAdd o op a b m c (length (zeros w)))) (wrote-either (storeValid s) _ _), refl);
-    })
+    (stepped
+    (ewise-add-step (zeros w) (zeros (length (zeros w))) somewhere somewhere κ₂
+    (writes s (operation (ewiseAdd o op a b m c (length (zeros w)))) (wrote-either (storeValid s) _ _), refl)))
 operates κ₂ κ₄ s (apply o kind op scalar a m c w) =
     rw (← (length-replicate {A = ℕ} w 0))
-    (record {
-      answer = _;
-      after = _;
-      step = apply-step (zeros w) (zeros (length (zeros w))) somewhere somewhere κ₂
-          (writes s (operation (apply o kind op scalar a m c (length (zeros w)))) (wrote-either (storeValid s) _ _), refl);
-    })
+    (stepped
+    (apply-step (zeros w) (zeros (length (zeros w))) somewhere somewhere κ₂
+    (writes s (operation (apply o kind op scalar a m c (length (zeros w)))) (wrote-either (storeValid s) _ _), refl)))
 operates κ₂ κ₄ s (extract o a is js m c w) =
     rw (← (length-replicate {A = ℕ} w 0))
-    (record {
-      answer = _;
-      after = _;
-      step = extract-step (zeros w) (zeros (length (zeros w))) somewhere somewhere somewhere somewhere κ₄
-          (writes s (operation (extract o a is js m c (length (zeros w)))) (wrote-either (storeValid s) _ _), refl);
-    })
+    (stepped
+    (extract-step (zeros w) (zeros (length (zeros w))) somewhere somewhere somewhere somewhere κ₄
+    (writes s (operation (extract o a is js m c (length (zeros w)))) (wrote-either (storeValid s) _ _), refl)))
 
 pub possible : Lfts 1 → Lfts 2 → Lfts 4 → (s : List ℕ) (c : StoreCall) → Possible s c
 unfolding replyOn reply
 possible κ₁ κ₂ κ₄ s (newEmpty k r c) =
-    record { answer = _; after = _; step = new-empty-step somewhere κ₁ (writes s (newEmpty k r c) (wrote-either (storeValid s) _ _)) }
+    stepped (new-empty-step somewhere κ₁ (writes s (newEmpty k r c) (wrote-either (storeValid s) _ _)))
 possible κ₁ κ₂ κ₄ s (dropSlot k) =
-    record { answer = _; after = _; step = drop-slot-step somewhere κ₁ (writes s (dropSlot k) (wrote-either (storeValid s) _ _)) }
+    stepped (drop-slot-step somewhere κ₁ (writes s (dropSlot k) (wrote-either (storeValid s) _ _)))
 possible κ₁ κ₂ κ₄ s (setCell k i j v) =
-    record { answer = _; after = _; step = set-cell-step somewhere κ₁ (writes s (setCell k i j v) (wrote-either (storeValid s) _ _)) }
+    stepped (set-cell-step somewhere κ₁ (writes s (setCell k i j v) (wrote-either (storeValid s) _ _)))
 possible κ₁ κ₂ κ₄ s (clearCell k i j) =
-    record { answer = _; after = _; step = clear-cell-step somewhere κ₁ (writes s (clearCell k i j) (wrote-either (storeValid s) _ _)) }
+    stepped (clear-cell-step somewhere κ₁ (writes s (clearCell k i j) (wrote-either (storeValid s) _ _)))
 possible κ₁ κ₂ κ₄ s (readCell k i j) =
-    record {
-      answer = _;
-      after = _;
-      step = read-cell-step {answer = cellIn (replyOn s (readCell k i j))} somewhere κ₁ (found-either (storeValid s) _ _);
-    }
+    stepped
+    (read-cell-step {answer = cellIn (replyOn s (readCell k i j))} somewhere κ₁ (found-either (storeValid s) _ _))
 possible κ₁ κ₂ κ₄ s (operation x) = operates κ₂ κ₄ s x

@@ -3,7 +3,7 @@ use Rattle.histories.specs.Promise.{Met, Free, Cleared, Promise}
 use Rattle.histories.proofs.Told.{told}
 use Rattle.histories.proofs.Kept.{kept}
 use Rattle.histories.proofs.Possible.{possible}
-use Rattle.histories.proofs.Claim.{claim}
+use Rattle.histories.proofs.Claim.{claim, resumed}
 use Rattle.store_cells.proofs.new_empty.Met as new-empty-met
 use Rattle.store_cells.proofs.drop_slot.Met as drop-slot-met
 use Rattle.store_cells.proofs.set_cell.Met as set-cell-met
@@ -65,4 +65,5 @@ promise = record {
   cleared = cleared;
   possible = possible;
   every = claim;
+  resumed = resumed;
 }

@@ -27,8 +27,8 @@ use Rattle.operations.proofs.Same.{indexes-same, shapes-same, final-same}
 use Rattle.matrix.specs.Layout.{workspaceWords}
 use Rattle.cells.specs.Read.{foundAnswer, refusedRead}
 use Rattle.cells.specs.declared.CellAnswer.{CellAnswer}
-use Rattle.requests.specs.Cases.{Case, given, lowest, numberCases, agreementCases, outputCases, answerFor}
-use Rattle.requests.proofs.Cases.{later, Numbered, lowest-rest, lowest-none}
+use Rattle.requests.specs.Cases.{Case, given, firstApplying, numberCases, agreementCases, outputCases, answerFor}
+use Rattle.requests.proofs.Cases.{later, Numbered, applying-rest, applying-none}
 use Rattle.model.specs.Model.{Slot, vacant, holding, Model, slotOf, isVacant, gridAt, wordsNeeded}
 use Rattle.model.specs.Calls.{
   Operate,
@@ -80,19 +80,21 @@ use Rattle.histories.proofs.Alike.{
 }
 
 -- cases that come after others matter only where none of these applies
-lowest-after : (xs ys zs : List Case) → (lowest xs ≡ 0 → lowest ys ≡ lowest zs) → lowest (xs ++ ys) ≡ lowest (xs ++ zs)
-lowest-after [] ys zs f = f refl
-lowest-after (x ∷ xs) ys zs f = go (x .applies) f (λ g. lowest-after xs ys zs g)
+applying-after : (xs ys zs : List Case) → (firstApplying xs ≡ 0 → firstApplying ys ≡ firstApplying zs)
+    → firstApplying (xs ++ ys) ≡ firstApplying (xs ++ zs)
+applying-after [] ys zs f = f refl
+applying-after (x ∷ xs) ys zs f = go (x .applies) f (λ g. applying-after xs ys zs g)
   where
-    go : (b : Bool) → (cond b (x .number) (lowest xs) ≡ 0 → lowest ys ≡ lowest zs)
-        → ((lowest xs ≡ 0 → lowest ys ≡ lowest zs) → lowest (xs ++ ys) ≡ lowest (xs ++ zs))
-        → cond b (x .number) (lowest (xs ++ ys)) ≡ cond b (x .number) (lowest (xs ++ zs))
+    go : (b : Bool) → (cond b (x .number) (firstApplying xs) ≡ 0 → firstApplying ys ≡ firstApplying zs)
+        → ((firstApplying xs ≡ 0 → firstApplying ys ≡ firstApplying zs)
+        → firstApplying (xs ++ ys) ≡ firstApplying (xs ++ zs))
+        → cond b (x .number) (firstApplying (xs ++ ys)) ≡ cond b (x .number) (firstApplying (xs ++ zs))
     go true f r = refl
     go false f r = r f
 
 -- where no case applies, none of the later ones does
-pub lowest-tail : (xs ys : List Case) → Numbered xs → lowest (xs ++ ys) ≡ 0 → lowest ys ≡ 0
-lowest-tail xs ys k h = sym (lowest-rest xs ys k (lowest-none xs ys k h)) ∙ h
+pub applying-tail : (xs ys : List Case) → Numbered xs → firstApplying (xs ++ ys) ≡ 0 → firstApplying ys ≡ 0
+applying-tail xs ys k h = sym (applying-rest xs ys k (applying-none xs ys k h)) ∙ h
 
 -- 10 and 11 by the numbers that they look at
 abbrev counted : ℕ → ℕ → ℕ → List Case
@@ -168,15 +170,15 @@ module _ (n : ℕ) (m m′ : Model) (a : Alike m m′) where
   unfolding setRefusal
   set-same k i j v =
       let e = output-same k (withValue m k i j v) (withValue m′ k i j v) (changed k i j (Present v)) in
-      ap (λ (x : Case). lowest (noSlot k ∷ x ∷ noCell (gridAt m k) i j ∷ outputsOf m k i j v)) (no-grid k)
-      ∙ ap (λ (x : Case). lowest (noSlot k ∷ noGrid m′ k ∷ x ∷ outputsOf m k i j v)) (no-cell k i j)
-      ∙ ap (λ (x : List Case). lowest (noSlot k ∷ noGrid m′ k ∷ noCell (gridAt m′ k) i j ∷ x)) e
+      ap (λ (x : Case). firstApplying (noSlot k ∷ x ∷ noCell (gridAt m k) i j ∷ outputsOf m k i j v)) (no-grid k)
+      ∙ ap (λ (x : Case). firstApplying (noSlot k ∷ noGrid m′ k ∷ x ∷ outputsOf m k i j v)) (no-cell k i j)
+      ∙ ap (λ (x : List Case). firstApplying (noSlot k ∷ noGrid m′ k ∷ noCell (gridAt m′ k) i j ∷ x)) e
 
   cell-same : (k i j : ℕ) → cellRefusal m k i j ≡ cellRefusal m′ k i j
   unfolding cellRefusal
   cell-same k i j =
-      ap (λ (x : Case). lowest (noSlot k ∷ x ∷ noCell (gridAt m k) i j ∷ [])) (no-grid k)
-      ∙ ap (λ (x : Case). lowest (noSlot k ∷ noGrid m′ k ∷ x ∷ [])) (no-cell k i j)
+      ap (λ (x : Case). firstApplying (noSlot k ∷ x ∷ noCell (gridAt m k) i j ∷ [])) (no-grid k)
+      ∙ ap (λ (x : Case). firstApplying (noSlot k ∷ noGrid m′ k ∷ x ∷ [])) (no-cell k i j)
 
   -- a read: a cell that is looked at is within the grid
   read-same : (k i j : ℕ) → readAnswer (cellRefusal m k i j) m k i j ≡ readAnswer (cellRefusal m′ k i j) m′ k i j
@@ -227,7 +229,7 @@ module _ (n : ℕ) (m m′ : Model) (a : Alike m m′) where
         ∙ ap (by (indexes m′)) (shapes-same (o .call) _ _ _ _ _ _ _ _ (o .is) (o .js) first second mask output)
 
     -- the final C, where 7 and 8 do not apply
-    operated-same : lowest (agreements m′) ≡ 0 → Same (operated m o) (operated m′ o)
+    operated-same : firstApplying (agreements m′) ≡ 0 → Same (operated m o) (operated m′ o)
     operated-same z =
         let h₇ = later _ 7 _ refl z in
         let h₈ = later _ 8 _ refl (h₇ .rest) in
@@ -244,7 +246,7 @@ module _ (n : ℕ) (m m′ : Model) (a : Alike m m′) where
         cc
 
     abbrev refusal : List Case → List Case → ℕ
-    refusal xs ys = lowest (roleCases noSlot (o .roles) ++ (numberCases (o .call) ++ (xs ++ ys)))
+    refusal xs ys = firstApplying (roleCases noSlot (o .roles) ++ (numberCases (o .call) ++ (xs ++ ys)))
 
     -- the cases from 7, 13 and 1 on, with the outputs of either model
     abbrev fromSeven : Model → List Case
@@ -261,20 +263,21 @@ module _ (n : ℕ) (m m′ : Model) (a : Alike m m′) where
     operation-same =
         ap (λ (xs : List Case). refusal xs (agreements m ++ outputs m)) roles-same
         ∙ ap (λ (ys : List Case). refusal (roleCases (noGrid m′) (o .roles)) (ys ++ outputs m)) agreements-same
-        ∙ lowest-after (roleCases noSlot (o .roles)) (fromNumbers m) (fromNumbers m′)
-        (λ z. lowest-after (numberCases (o .call)) (fromVacancy m) (fromVacancy m′)
-        (λ y. lowest-after (roleCases (noGrid m′) (o .roles)) (fromSeven m) (fromSeven m′)
-        (λ x. lowest-after (agreements m′) (outputs m) (outputs m′)
-        (λ w. ap lowest (output-same (o .roles .output) (operated m o) (operated m′ o) (operated-same w))))))
+        ∙ applying-after (roleCases noSlot (o .roles)) (fromNumbers m) (fromNumbers m′)
+        (λ z. applying-after (numberCases (o .call)) (fromVacancy m) (fromVacancy m′)
+        (λ y. applying-after (roleCases (noGrid m′) (o .roles)) (fromSeven m) (fromSeven m′)
+        (λ x. applying-after (agreements m′) (outputs m) (outputs m′)
+        (λ w. ap firstApplying (output-same (o .roles .output) (operated m o) (operated m′ o) (operated-same w))))))
 
     -- where there is none, 7 to 9 do not apply
-    none-agrees : operationRefusal n m o ≡ 0 → lowest (agreements m′) ≡ 0
+    none-agrees : operationRefusal n m o ≡ 0 → firstApplying (agreements m′) ≡ 0
     unfolding operationRefusal
     none-agrees z =
-        let h₁ = lowest-tail (roleCases noSlot (o .roles)) (fromNumbers m′) (refl, (refl, (refl, (refl, tt)))) (sym operation-same ∙ z) in
-        let h₂ = lowest-tail (numberCases (o .call)) (fromVacancy m′) (refl, (refl, tt)) h₁ in
-        let h₃ = lowest-tail (roleCases (noGrid m′) (o .roles)) (fromSeven m′) (refl, (refl, (refl, (refl, tt)))) h₂ in
-        lowest-none (agreements m′) (outputs m′) (refl, (refl, (refl, tt))) h₃
+        let h₀ = sym operation-same ∙ z in
+        let h₁ = applying-tail (roleCases noSlot (o .roles)) (fromNumbers m′) (refl, (refl, (refl, (refl, tt)))) h₀ in
+        let h₂ = applying-tail (numberCases (o .call)) (fromVacancy m′) (refl, (refl, tt)) h₁ in
+        let h₃ = applying-tail (roleCases (noGrid m′) (o .roles)) (fromSeven m′) (refl, (refl, (refl, (refl, tt)))) h₂ in
+        applying-none (agreements m′) (outputs m′) (refl, (refl, (refl, tt))) h₃
 
     after-same : operationRefusal n m o ≡ 0 → Alike (afterOperation m o) (afterOperation m′ o)
     after-same z = alike-set m m′ (o .roles .output) _ _ a (operated-same (none-agrees z))

@@ -1,30 +1,33 @@
 -- The writing of a model: a store, whose model agrees with it.
-use Prim.Native.Nat.{ℕ, zero, suc, _+_, _≤_, _<_}
+use Prim.Native.Nat.{ℕ, zero, suc, _+_, _-_, _≤_, _<_}
 use native.Mathlib.Omega.{arith}
+use native.Mathlib.Decide.{ℕ-discrete}
 use mathlib.Core.Path.{_≡_, refl, sym, ap, _∙_}
 use mathlib.Core.Bool.{Bool, true, false, cond}
 use mathlib.Core.List.{List, [], _∷_, _++_, append-nil, map}
-use lib.ListN.{length, getD, replicate, length-map, length-replicate, List·getD-map}
+use lib.ListN.{length, getD, replicate, length-append, length-map, length-replicate, List·getD-map}
 use lib.Dec.{eqb}
-use borrow.Author.Tests.{ne-eqb}
+use borrow.Author.Tests.{eq-eqb, ne-eqb}
 use Rattle.limits.specs.Limits.{slotCount, maxStoreWords}
 use Rattle.grid.specs.Grid.{Grid, Same}
 use Rattle.grid.specs.Entries.{entryCount}
 use Rattle.matrix.specs.Layout.{gridOf, entries, size, sizeOf}
 use Rattle.matrix.specs.Valid.{valid}
-use Rattle.matrix.proofs.Facts.{matrix-facts}
+use Rattle.matrix.proofs.Facts.{matrix-facts, matrix-made}
 use Rattle.encoding.specs.Encode.{encode, Within}
-use Rattle.encoding.proofs.Canonical.{encode-length, encode-entries, encode-valid, encode-same}
+use Rattle.encoding.proofs.Canonical.{encode-length, encode-entries, encode-valid, encode-same, valid-within}
 use Rattle.encoding.proofs.Encoded.{encode-rows}
-use Rattle.slots.specs.Sections.{Slots, written, writing, slotsOf}
+use Rattle.slots.specs.Sections.{Slots, total, written, writing, slotsOf}
 use Rattle.slots.specs.Valid.{contentsValid, storeValid}
-use Rattle.slots.proofs.Facts.{empty-valid, held-made}
+use Rattle.slots.specs.Facts.{Store}
+use Rattle.slots.proofs.Facts.{empty-valid, held-made, held-facts}
+use Rattle.slots.proofs.Sections.{slot-count, rewritten}
 use Rattle.slots.proofs.Written.{written-length}
 use Rattle.slots.proofs.ReadBack.{writing-slots, writing-length, writing-valid}
 use Rattle.slots.proofs.Stored.{fresh-writing}
 use Rattle.model.specs.Model.{Slot, vacant, holding, Model, fresh, slotOf, contents, allContents, modelWriting, wordsNeeded}
 use Rattle.model.specs.Stores.{slotHeld, modelOf}
-use Rattle.model.proofs.Held.{sizes-total}
+use Rattle.model.proofs.Held.{sizes-total, model-contents}
 use Rattle.histories.proofs.Alike.{Alike, AlikeSlots}
 use Rattle.histories.proofs.Bounds.{WithinSlot, Fitting}
 
@@ -95,3 +98,40 @@ fresh-fits n a = record {
 pub fresh-written : (n : ℕ) → slotCount ≤ n → replicate n 0 ≡ modelWriting n fresh
 unfolding modelWriting
 fresh-written n a = sym (fresh-writing n a)
+
+-- the model that a store holds fits it: each slot is within the limits
+held-within : (x : List ℕ) → contentsValid x ≡ true → WithinSlot (slotHeld x)
+held-within x v = go (ℕ-discrete (length x) 0)
+  where
+    go : Dec (length x ≡ 0) → WithinSlot (slotHeld x)
+    go (yes e) = rw (eq-eqb _ _ e) tt
+    go (no n) = rw (ne-eqb _ _ n) (valid-within x (matrix-made x (held-facts x v n .matrix)))
+
+all-within : (w : Slots) → ((k : ℕ) → k < length w → contentsValid (getD w k []) ≡ true)
+    → (k : ℕ) → WithinSlot (slotOf (map slotHeld w) k)
+all-within [] f k = tt
+all-within (x ∷ w) f zero = held-within x (f 0 (omega arith))
+all-within (x ∷ w) f (suc k) = all-within w (λ j l. f (suc j) (omega arith)) k
+
+-- and its writing is as long as the store
+held-room : (s : List ℕ) → Store s → wordsNeeded (modelOf s) ≤ length s
+unfolding writing
+held-room s h =
+    let w = slotsOf s in
+    let c = slot-count s in
+    let l = written-length w in
+    let t = sizes-total (modelOf s) ∙ ap total (model-contents s h) in
+    let e = length-append (written w) (replicate (length s - length (written w)) 0) in
+    let z = length-replicate {A = ℕ} (length s - length (written w)) 0 in
+    let r = ap length (rewritten s (h .sections)) in
+    omega (arith, c, l, t, e, z, r)
+
+pub held-fits : (s : List ℕ) → Store s → Fitting (length s) (modelOf s)
+unfolding modelOf
+held-fits s h =
+    let c = slot-count s in
+    record {
+      slots = length-map (slotsOf s) slotHeld ∙ c;
+      within = all-within (slotsOf s) (λ k l. h .contents k (omega arith));
+      room = held-room s h;
+    }

@@ -4,6 +4,7 @@
 -- it returns. A step of a list is a call of one of the functions, on the words that the step before left.
 use Prim.Native.Nat.{ℕ, _≤_}
 use mathlib.Core.Path.{_≡_}
+use mathlib.Core.Bool.{true}
 use mathlib.Core.List.{List, [], _∷_}
 use lib.ListN.{length, replicate}
 use contract.Lifetimes.{Lfts}
@@ -12,6 +13,7 @@ use Rattle.limits.specs.Limits.{slotCount, maxStoreWords}
 use Rattle.answers.specs.declared.Answer.{Answer}
 use Rattle.cells.specs.declared.CellAnswer.{CellAnswer}
 use Rattle.call_codes.specs.declared.Options.{Options}
+use Rattle.slots.specs.Valid.{storeValid}
 use Rattle.model.specs.Model.{Model, fresh, modelWriting}
 use Rattle.model.specs.Calls.{
   mxm,
@@ -31,6 +33,7 @@ use Rattle.model.specs.Calls.{
   wrote,
   found,
 }
+use Rattle.model.specs.Stores.{modelOf}
 use Rattle.model.specs.Histories.{replies, modelAfter}
 use Rattle.store_cells.proofs.new_empty.Reads as new-empty-reads
 use Rattle.store_cells.proofs.drop_slot.Reads as drop-slot-reads
@@ -52,8 +55,9 @@ pub record Address : Type 0 where
 abbrev pub lent : Address → List ℕ → RefT (List ℕ)
 lent p s = record { ptr = p .pointer; name = p .name; now = s }
 
--- One call on the words s: its reply and the words s′ after it are what the contract of its function tells a caller. Index
--- lists, and the words that a read is lent, are borrowed by `&` and stay. "Each call brings index lists and a work buffer of its own where it has them, with any words in them."
+-- One call on the words s: its reply and the words s′ after it are what the contract of its function tells a caller.
+-- Index lists, and the words that a read is lent, are borrowed by `&` and stay. "Each call brings index lists and a work
+-- buffer of its own where it has them, with any words in them."
 pub data Step : List ℕ → StoreCall → Reply → List ℕ → Type 0 where
   new-empty-step : {s s′ : List ℕ} {k r c : ℕ} {answer : Answer} (p : Address) (κs : Lfts 1)
       → new-empty-reads.Learnt κs (lent p s, (k, (r, (c, tt)))) answer (lent p s′, (k, (r, (c, tt))))
@@ -70,27 +74,33 @@ pub data Step : List ℕ → StoreCall → Reply → List ℕ → Type 0 where
   read-cell-step : {s : List ℕ} {k i j : ℕ} {answer : CellAnswer} (p : Address) (κs : Lfts 1)
       → read-cell-reads.Learnt κs (lent p s, (k, (i, (j, tt)))) answer (lent p s, (k, (i, (j, tt))))
       → Step s (readCell k i j) (found answer) s
-  mxm-step : {s s′ : List ℕ} (w w′ : List ℕ) {o : Options} {monoid op a b m c : ℕ} {answer : Answer} (p q : Address) (κs : Lfts 2)
+  mxm-step : {s s′ : List ℕ} (w w′ : List ℕ) {o : Options} {monoid op a b m c : ℕ} {answer : Answer}
+      (p q : Address) (κs : Lfts 2)
       → mxm-reads.Learnt κs (lent p s, (o, (monoid, (op, (a, (b, (m, (c, (lent q w, tt))))))))) answer
       (lent p s′, (o, (monoid, (op, (a, (b, (m, (c, (lent q w′, tt)))))))))
       → Step s (operation (mxm o monoid op a b m c (length w))) (wrote answer) s′
-  vxm-step : {s s′ : List ℕ} (w w′ : List ℕ) {o : Options} {monoid op u a m c : ℕ} {answer : Answer} (p q : Address) (κs : Lfts 2)
+  vxm-step : {s s′ : List ℕ} (w w′ : List ℕ) {o : Options} {monoid op u a m c : ℕ} {answer : Answer}
+      (p q : Address) (κs : Lfts 2)
       → vxm-reads.Learnt κs (lent p s, (o, (monoid, (op, (u, (a, (m, (c, (lent q w, tt))))))))) answer
       (lent p s′, (o, (monoid, (op, (u, (a, (m, (c, (lent q w′, tt)))))))))
       → Step s (operation (vxm o monoid op u a m c (length w))) (wrote answer) s′
-  ewise-mult-step : {s s′ : List ℕ} (w w′ : List ℕ) {o : Options} {op a b m c : ℕ} {answer : Answer} (p q : Address) (κs : Lfts 2)
+  ewise-mult-step : {s s′ : List ℕ} (w w′ : List ℕ) {o : Options} {op a b m c : ℕ} {answer : Answer}
+      (p q : Address) (κs : Lfts 2)
       → ewise-mult-reads.Learnt κs (lent p s, (o, (op, (a, (b, (m, (c, (lent q w, tt)))))))) answer
       (lent p s′, (o, (op, (a, (b, (m, (c, (lent q w′, tt))))))))
       → Step s (operation (ewiseMult o op a b m c (length w))) (wrote answer) s′
-  ewise-add-step : {s s′ : List ℕ} (w w′ : List ℕ) {o : Options} {op a b m c : ℕ} {answer : Answer} (p q : Address) (κs : Lfts 2)
+  ewise-add-step : {s s′ : List ℕ} (w w′ : List ℕ) {o : Options} {op a b m c : ℕ} {answer : Answer}
+      (p q : Address) (κs : Lfts 2)
       → ewise-add-reads.Learnt κs (lent p s, (o, (op, (a, (b, (m, (c, (lent q w, tt)))))))) answer
       (lent p s′, (o, (op, (a, (b, (m, (c, (lent q w′, tt))))))))
       → Step s (operation (ewiseAdd o op a b m c (length w))) (wrote answer) s′
-  apply-step : {s s′ : List ℕ} (w w′ : List ℕ) {o : Options} {kind op scalar a m c : ℕ} {answer : Answer} (p q : Address) (κs : Lfts 2)
+  apply-step : {s s′ : List ℕ} (w w′ : List ℕ) {o : Options} {kind op scalar a m c : ℕ} {answer : Answer}
+      (p q : Address) (κs : Lfts 2)
       → apply-reads.Learnt κs (lent p s, (o, (kind, (op, (scalar, (a, (m, (c, (lent q w, tt))))))))) answer
       (lent p s′, (o, (kind, (op, (scalar, (a, (m, (c, (lent q w′, tt)))))))))
       → Step s (operation (apply o kind op scalar a m c (length w))) (wrote answer) s′
-  extract-step : {s s′ : List ℕ} (w w′ : List ℕ) {o : Options} {a m c : ℕ} {is js : List ℕ} {answer : Answer} (p q x y : Address) (κs : Lfts 4)
+  extract-step : {s s′ : List ℕ} (w w′ : List ℕ) {o : Options} {a m c : ℕ} {is js : List ℕ} {answer : Answer}
+      (p q x y : Address) (κs : Lfts 4)
       → extract-reads.Learnt κs (lent p s, (o, (a, (lent x is, (lent y js, (m, (c, (lent q w, tt)))))))) answer
       (lent p s′, (o, (a, (lent x is, (lent y js, (m, (c, (lent q w′, tt))))))))
       → Step s (operation (extract o a is js m c (length w))) (wrote answer) s′
@@ -110,3 +120,8 @@ pub record Follows (n : ℕ) (m : Model) (cs : List StoreCall) (rs : List Reply)
 abbrev pub Claim : Type 0
 Claim = (n : ℕ) → slotCount ≤ n → n ≤ maxStoreWords
     → (cs : List StoreCall) (rs : List Reply) (s : List ℕ) → Runs (replicate n 0) cs rs s → Follows n fresh cs rs s
+
+-- the same from any store, as from one that was kept in a file: the list goes as the model goes that its words hold
+abbrev pub Resumed : Type 0
+Resumed = (s : List ℕ) → storeValid s ≡ true
+    → (cs : List StoreCall) (rs : List Reply) (s′ : List ℕ) → Runs s cs rs s′ → Follows (length s) (modelOf s) cs rs s′

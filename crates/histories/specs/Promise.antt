@@ -32,7 +32,7 @@ use Rattle.store_calls.proofs.apply.Reads as apply-reads
 use Rattle.store_calls.proofs.apply.Statement as apply-statement
 use Rattle.store_calls.proofs.extract.Reads as extract-reads
 use Rattle.store_calls.proofs.extract.Statement as extract-statement
-use Rattle.histories.specs.Lists.{Address, lent, Step, Claim}
+use Rattle.histories.specs.Lists.{Address, lent, Step, Claim, Resumed}
 
 -- each function's code meets its contract
 pub record Met : Type 3 where
@@ -90,7 +90,8 @@ pub record Cleared : Type 0 where
       → apply-reads.Learnt κs (lent p s, (o, (kind, (op, (scalar, (a, (m, (c, (lent q w, tt))))))))) answer
       (lent p s′, (o, (kind, (op, (scalar, (a, (m, (c, (lent q w′, tt)))))))))
       → w′ ≡ replicate (length w) 0
-  pub extract : (κs : Lfts 4) (p q x y : Address) (s s′ w w′ : List ℕ) (o : Options) (a m c : ℕ) (is js : List ℕ) (answer : Answer)
+  pub extract : (κs : Lfts 4) (p q x y : Address) (s s′ w w′ : List ℕ) (o : Options) (a m c : ℕ) (is js : List ℕ)
+      (answer : Answer)
       → extract-reads.Learnt κs (lent p s, (o, (a, (lent x is, (lent y js, (m, (c, (lent q w, tt)))))))) answer
       (lent p s′, (o, (a, (lent x is, (lent y js, (m, (c, (lent q w′, tt))))))))
       → w′ ≡ replicate (length w) 0
@@ -117,5 +118,6 @@ pub record Promise : Type 3 where
   pub cleared : Cleared
   -- there is a step of every call on any words
   pub possible : Lfts 1 → Lfts 2 → Lfts 4 → (s : List ℕ) (c : StoreCall) → Possible s c
-  -- every list of calls
+  -- every list of calls, on a fresh store and on any
   pub every : Claim
+  pub resumed : Resumed

@@ -9,7 +9,7 @@ use Rattle.answers.specs.declared.Answer.{Answer}
 use Rattle.answers.specs.Refusals.{invalidStore, refused, unlessRefused}
 use Rattle.grid.specs.Grid.{Grid}
 use Rattle.encoding.specs.Encode.{encode}
-use Rattle.requests.specs.Cases.{lowest, outputCases, answerFor}
+use Rattle.requests.specs.Cases.{firstApplying, outputCases, answerFor}
 use Rattle.slots.specs.Sections.{writing, slotsOf}
 use Rattle.slots.specs.Valid.{storeValid}
 use Rattle.model.specs.Model.{holding, wordsNeeded, modelWriting}
@@ -19,7 +19,7 @@ use Rattle.model.specs.Stores.{modelOf}
 
 -- 10 and 11 of a grid that takes the place of what slot k holds
 unfoldable pub placeRefusal : List ℕ → ℕ → Grid → ℕ
-placeRefusal s k g = lowest (outputCases g (wordsNeeded (set (modelOf s) k (holding g))) (length s))
+placeRefusal s k g = firstApplying (outputCases g (wordsNeeded (set (modelOf s) k (holding g))) (length s))
 
 pub record Placed (s : List ℕ) (k : ℕ) (g : Grid) (answer : Answer) (s′ : List ℕ) : Type 0 where
   pub answer-is : answer ≡ answerFor (placeRefusal s k g) g

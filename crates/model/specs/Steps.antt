@@ -23,7 +23,7 @@ use Rattle.matrix.specs.Valid.{inRange}
 use Rattle.cells.specs.declared.CellAnswer.{CellAnswer}
 use Rattle.cells.specs.Read.{foundAnswer, refusedRead}
 use Rattle.operations.specs.Calls.{callFinal}
-use Rattle.requests.specs.Cases.{Case, given, lowest, numberCases, agreementCases, outputCases, answerFor}
+use Rattle.requests.specs.Cases.{Case, given, firstApplying, numberCases, agreementCases, outputCases, answerFor}
 use Rattle.model.specs.Model.{holding, vacant, Model, slotOf, isVacant, gridAt, wordsNeeded}
 use Rattle.model.specs.declared.Roles.{Roles}
 use Rattle.model.specs.Calls.{
@@ -62,7 +62,7 @@ abbrev pub laid : Model → ℕ → ℕ → ℕ → Model
 laid m k r c = set m k (holding (emptyGrid r c))
 
 unfoldable pub newEmptyRefusal : ℕ → Model → ℕ → ℕ → ℕ → ℕ
-newEmptyRefusal n m k r c = lowest (
+newEmptyRefusal n m k r c = firstApplying (
     noSlot k
     ∷ given invalidShape (not (inRange maxRows r and inRange maxCols c))
     ∷ given insufficientSpace (ltb n (wordsNeeded (laid m k r c)))
@@ -70,7 +70,7 @@ newEmptyRefusal n m k r c = lowest (
 
 -- ---- drop: "empties the place", and "answers 0 and 0"
 unfoldable pub dropRefusal : ℕ → ℕ
-dropRefusal k = lowest (noSlot k ∷ [])
+dropRefusal k = firstApplying (noSlot k ∷ [])
 
 abbrev pub dropAnswer : ℕ → Answer
 dropAnswer k = cond (eqb (dropRefusal k) 0) (accepted 0) (refused (dropRefusal k))
@@ -80,7 +80,7 @@ abbrev pub withValue : Model → ℕ → ℕ → ℕ → ℕ → Grid
 withValue m k i j v = withCell (gridAt m k) i j (Present v)
 
 unfoldable pub setRefusal : ℕ → Model → ℕ → ℕ → ℕ → ℕ → ℕ
-setRefusal n m k i j v = lowest (
+setRefusal n m k i j v = firstApplying (
     noSlot k
     ∷ noGrid m k
     ∷ noCell (gridAt m k) i j
@@ -92,7 +92,7 @@ withoutValue m k i j = withCell (gridAt m k) i j Absent
 
 -- clear and read
 unfoldable pub cellRefusal : Model → ℕ → ℕ → ℕ → ℕ
-cellRefusal m k i j = lowest (noSlot k ∷ noGrid m k ∷ noCell (gridAt m k) i j ∷ [])
+cellRefusal m k i j = firstApplying (noSlot k ∷ noGrid m k ∷ noCell (gridAt m k) i j ∷ [])
 
 -- ---- read: "Read answers present with the value, or absent."
 abbrev pub readAnswer : ℕ → Model → ℕ → ℕ → ℕ → CellAnswer
@@ -112,7 +112,7 @@ roleCases test r = test (r .first) ∷ test (r .second) ∷ test (r .mask) ∷ t
 
 -- "on the shelf 12 is looked at first and 13 comes between 2 and 7"
 unfoldable pub operationRefusal : ℕ → Model → Operate → ℕ
-operationRefusal n m o = lowest (
+operationRefusal n m o = firstApplying (
     roleCases noSlot (o .roles)
     ++ (numberCases (o .call)
     ++ (roleCases (noGrid m) (o .roles)

@@ -96,7 +96,8 @@ module _ (call : Call) (a a′ b b′ m m′ c c′ : Grid) (is js : List ℕ) (
       four-same _ _ _ _ _ _ _ _
       (ap (λ (r : ℕ). cond (call .«vector_first») (eqb r 1) true) (sa .rows))
       (agree-same A A′ B B′ is js first (call .operation) (λ h. second))
-      (shape-same (callResult call a b is js) (callResult call a′ b′ is js) c c′ result-rows result-cols (sc .rows) (sc .cols))
+      (shape-same (callResult call a b is js) (callResult call a′ b′ is js) c c′
+      result-rows result-cols (sc .rows) (sc .cols))
       (ap (λ (t : Bool). cond (call .«has_mask») t true)
       (shape-same m m′ c c′ (sm .rows) (sm .cols) (sc .rows) (sc .cols)))
 

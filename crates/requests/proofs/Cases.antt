@@ -1,11 +1,11 @@
--- Laws of `lowest`: cases one after the other, and what is known where none applies.
+-- Laws of `firstApplying`: cases one after the other, and what is known where none applies.
 use Prim.Native.Nat.{ℕ}
 use mathlib.Core.Path.{_≡_, refl, sym, _∙_}
 use mathlib.Core.List.{List, [], _∷_, _++_}
 use mathlib.Core.Bool.{Bool, true, false, cond}
 use lib.Dec.{eqb}
 use borrow.Author.Tests.{eqb-false}
-use Rattle.requests.specs.Cases.{Case, lowest}
+use Rattle.requests.specs.Cases.{Case, firstApplying}
 
 -- where the number is 0, the case does not apply, and the later ones give 0
 pub record Later (x : Bool) (r : ℕ) : Type 0 where
@@ -17,12 +17,12 @@ later true n r f h = absurd (eqb-false n 0 f h)
 later false n r f h = record { here = refl; rest = h }
 
 -- a refusal among the first cases is that of all
-pub lowest-first : (xs ys : List Case) (n : ℕ) → n ≡ lowest xs → (n ≡ 0 → ⊥) → n ≡ lowest (xs ++ ys)
-lowest-first [] ys n e h = absurd (h e)
-lowest-first (x ∷ xs) ys n e h = go (x .applies) e (λ e. lowest-first xs ys n e h)
+pub applying-first : (xs ys : List Case) (n : ℕ) → n ≡ firstApplying xs → (n ≡ 0 → ⊥) → n ≡ firstApplying (xs ++ ys)
+applying-first [] ys n e h = absurd (h e)
+applying-first (x ∷ xs) ys n e h = go (x .applies) e (λ e. applying-first xs ys n e h)
   where
-    go : (b : Bool) → n ≡ cond b (x .number) (lowest xs) → (n ≡ lowest xs → n ≡ lowest (xs ++ ys))
-        → n ≡ cond b (x .number) (lowest (xs ++ ys))
+    go : (b : Bool) → n ≡ cond b (x .number) (firstApplying xs) → (n ≡ firstApplying xs → n ≡ firstApplying (xs ++ ys))
+        → n ≡ cond b (x .number) (firstApplying (xs ++ ys))
     go true e f = e
     go false e f = f e
 
@@ -32,15 +32,15 @@ Numbered [] = Unit {0}
 Numbered (x ∷ xs) = (eqb (x .number) 0 ≡ false) × Numbered xs
 
 -- where none of the first cases applies, the later ones decide
-pub lowest-rest : (xs ys : List Case) → Numbered xs → lowest xs ≡ 0 → lowest (xs ++ ys) ≡ lowest ys
-lowest-rest [] ys m h = refl
-lowest-rest (x ∷ xs) ys m h =
-    let l = later (x .applies) (x .number) (lowest xs) (m .0) h in
-    rw (l .here) (lowest-rest xs ys (m .1) (l .rest))
+pub applying-rest : (xs ys : List Case) → Numbered xs → firstApplying xs ≡ 0 → firstApplying (xs ++ ys) ≡ firstApplying ys
+applying-rest [] ys m h = refl
+applying-rest (x ∷ xs) ys m h =
+    let l = later (x .applies) (x .number) (firstApplying xs) (m .0) h in
+    rw (l .here) (applying-rest xs ys (m .1) (l .rest))
 
 -- where no case applies, none of the first does
-pub lowest-none : (xs ys : List Case) → Numbered xs → lowest (xs ++ ys) ≡ 0 → lowest xs ≡ 0
-lowest-none [] ys m h = refl
-lowest-none (x ∷ xs) ys m h =
-    let l = later (x .applies) (x .number) (lowest (xs ++ ys)) (m .0) h in
-    rw (l .here) (lowest-none xs ys (m .1) (l .rest))
+pub applying-none : (xs ys : List Case) → Numbered xs → firstApplying (xs ++ ys) ≡ 0 → firstApplying xs ≡ 0
+applying-none [] ys m h = refl
+applying-none (x ∷ xs) ys m h =
+    let l = later (x .applies) (x .number) (firstApplying (xs ++ ys)) (m .0) h in
+    rw (l .here) (applying-none xs ys (m .1) (l .rest))

@@ -23,7 +23,7 @@ use Rattle.matrix.proofs.Facts.{matrix-facts}
 use Rattle.requests.specs.Cases.{Case, numberCases, agreementCases, numbersRefusal, agreementRefusal}
 use Rattle.requests.specs.Refusal.{matrixCases, matricesRefusal, inputRefusal}
 use Rattle.requests.specs.Inputs.{Valid, Ready}
-use Rattle.requests.proofs.Cases.{later, lowest-first, lowest-rest, lowest-none, Numbered}
+use Rattle.requests.proofs.Cases.{later, applying-first, applying-rest, applying-none, Numbered}
 
 -- what is there and not valid, from the test whether it is valid or not there
 absent-or : (there ok : Bool) {v : Bool} → cond there ok true ≡ v → (there and not ok) ≡ not v
@@ -51,16 +51,19 @@ module _ (call : Call) (a b m c : List ℕ) where
     module _ (h₄ : second ≡ true) where
       pub mask-refused : mask ≡ false → invalidMask ≡ matricesRefusal call a b m c
       unfolding matricesRefusal
-      mask-refused h₅ = rw (h₃, absent-or (hasSecond (call .operation)) (valid b) h₄, absent-or (call .«has_mask») (valid m) h₅)
+      mask-refused h₅ =
+          rw (h₃, absent-or (hasSecond (call .operation)) (valid b) h₄, absent-or (call .«has_mask») (valid m) h₅)
 
       module _ (h₅ : mask ≡ true) where
         pub output-refused : valid c ≡ false → invalidOutput ≡ matricesRefusal call a b m c
         unfolding matricesRefusal
-        output-refused h₆ = rw (h₃, absent-or (hasSecond (call .operation)) (valid b) h₄, absent-or (call .«has_mask») (valid m) h₅, h₆)
+        output-refused h₆ =
+            rw (h₃, absent-or (hasSecond (call .operation)) (valid b) h₄, absent-or (call .«has_mask») (valid m) h₅, h₆)
 
         pub all-valid : valid c ≡ true → 0 ≡ matricesRefusal call a b m c
         unfolding matricesRefusal
-        all-valid h₆ = rw (h₃, absent-or (hasSecond (call .operation)) (valid b) h₄, absent-or (call .«has_mask») (valid m) h₅, h₆)
+        all-valid h₆ =
+            rw (h₃, absent-or (hasSecond (call .operation)) (valid b) h₄, absent-or (call .«has_mask») (valid m) h₅, h₆)
 
 -- each of 7 to 9
 module _ (call : Call) (a b m c : Grid) (is js : List ℕ) (work : ℕ) where
@@ -136,28 +139,28 @@ module _ (call : Call) (a b m c is js : List ℕ) (work : ℕ) where
 
   pub number-refused : (n : ℕ) → n ≡ numbersRefusal call → (n ≡ 0 → ⊥) → n ≡ inputRefusal call a b m c is js work
   unfolding inputRefusal numbersRefusal matricesRefusal agreementRefusal
-  number-refused n e h = lowest-first (numberCases call) (matrixCases call a b m c ++ agreements) n e h
+  number-refused n e h = applying-first (numberCases call) (matrixCases call a b m c ++ agreements) n e h
 
   pub matrix-refused : numbersRefusal call ≡ 0 → (n : ℕ) → n ≡ matricesRefusal call a b m c → (n ≡ 0 → ⊥)
       → n ≡ inputRefusal call a b m c is js work
   unfolding inputRefusal numbersRefusal matricesRefusal agreementRefusal
   matrix-refused z n e h =
-      lowest-first (matrixCases call a b m c) agreements n e h
-      ∙ sym (lowest-rest (numberCases call) (matrixCases call a b m c ++ agreements) numbers-numbered z)
+      applying-first (matrixCases call a b m c) agreements n e h
+      ∙ sym (applying-rest (numberCases call) (matrixCases call a b m c ++ agreements) numbers-numbered z)
 
   pub agreement-refused : numbersRefusal call ≡ 0 → matricesRefusal call a b m c ≡ 0
       → agreementRefusal call (gridOf a) (gridOf b) (gridOf m) (gridOf c) is js work ≡ inputRefusal call a b m c is js work
   unfolding inputRefusal numbersRefusal matricesRefusal agreementRefusal
   agreement-refused z y =
-      sym (lowest-rest (numberCases call) (matrixCases call a b m c ++ agreements) numbers-numbered z
-      ∙ lowest-rest (matrixCases call a b m c) agreements matrices-numbered y)
+      sym (applying-rest (numberCases call) (matrixCases call a b m c ++ agreements) numbers-numbered z
+      ∙ applying-rest (matrixCases call a b m c) agreements matrices-numbered y)
 
   -- a call that no refusal of its inputs applies to
   pub ready-of : inputRefusal call a b m c is js work ≡ 0 → Checked call a b m c is js work
   unfolding inputRefusal numbersRefusal matricesRefusal agreementRefusal
   ready-of h =
-      let z = lowest-none (numberCases call) (matrixCases call a b m c ++ agreements) numbers-numbered h in
-      let h₂ = sym (lowest-rest (numberCases call) (matrixCases call a b m c ++ agreements) numbers-numbered z) ∙ h in
-      let y = lowest-none (matrixCases call a b m c) agreements matrices-numbered h₂ in
+      let z = applying-none (numberCases call) (matrixCases call a b m c ++ agreements) numbers-numbered h in
+      let h₂ = sym (applying-rest (numberCases call) (matrixCases call a b m c ++ agreements) numbers-numbered z) ∙ h in
+      let y = applying-none (matrixCases call a b m c) agreements matrices-numbered h₂ in
       checked-of (valid-of call a b m c y)
-      (sym (lowest-rest (matrixCases call a b m c) agreements matrices-numbered y) ∙ h₂)
+      (sym (applying-rest (matrixCases call a b m c) agreements matrices-numbered y) ∙ h₂)

@@ -53,7 +53,8 @@ module _ (call : Call) (a b m c : Grid) (is js : List ℕ) (second : Shape)
   resultTest =
       resultAgrees (call .operation) (shapeOf (oriented (transposeFirst call) a)) second (length is) (length js) (shapeOf c)
 
-  result-is : resultTest ≡ (inputsAgree (call .operation) (oriented (transposeFirst call) a) (oriented (transposeSecond call) b)
+  result-is : resultTest
+      ≡ (inputsAgree (call .operation) (oriented (transposeFirst call) a) (oriented (transposeSecond call) b)
       and sameShape (callResult call a b is js) c)
   result-is = result-tests (call .operation) (transposeFirst call) _ _ c is js second h
 

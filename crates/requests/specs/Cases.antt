@@ -32,10 +32,11 @@ pub record Case : Type 0 where
 abbrev pub given : ℕ → Bool → Case
 given number applies = record { number = number; applies = applies }
 
--- the number of the first case of a list that applies, or 0: the lowest, where they stand in the order of their numbers
-abbrev pub lowest : List Case → ℕ
-lowest [] = 0
-lowest (x ∷ xs) = cond (x .applies) (x .number) (lowest xs)
+-- the number of the first case of a list that applies, or 0. On lent matrices the cases stand in the order of their
+-- numbers, so it is the lowest; on a store 12 stands first, and 13 between 2 and 7
+abbrev pub firstApplying : List Case → ℕ
+firstApplying [] = 0
+firstApplying (x ∷ xs) = cond (x .applies) (x .number) (firstApplying xs)
 
 -- 1 and 2: the numbers of a call
 abbrev pub numberCases : Call → List Case
@@ -45,7 +46,7 @@ numberCases call =
     ∷ []
 
 unfoldable pub numbersRefusal : Call → ℕ
-numbersRefusal call = lowest (numberCases call)
+numbersRefusal call = firstApplying (numberCases call)
 
 -- 7 to 9: the inputs a and b, the mask, the old C, the index lists and the length of the workspace
 abbrev pub agreementCases : Call → Grid → Grid → Grid → Grid → List ℕ → List ℕ → ℕ → List Case
@@ -56,7 +57,7 @@ agreementCases call a b m c is js work =
     ∷ []
 
 unfoldable pub agreementRefusal : Call → Grid → Grid → Grid → Grid → List ℕ → List ℕ → ℕ → ℕ
-agreementRefusal call a b m c is js work = lowest (agreementCases call a b m c is js work)
+agreementRefusal call a b m c is js work = firstApplying (agreementCases call a b m c is js work)
 
 -- 10 and 11: a grid that is written, the words that are needed for it and the words that there are
 abbrev pub outputCases : Grid → ℕ → ℕ → List Case

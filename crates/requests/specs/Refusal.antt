@@ -11,7 +11,7 @@ use Rattle.operations.specs.Calls.{hasSecond, callFinal}
 use Rattle.matrix.specs.Layout.{gridOf}
 use Rattle.matrix.specs.Valid.{valid}
 use Rattle.encoding.specs.Encode.{gridSize}
-use Rattle.requests.specs.Cases.{Case, given, lowest, numberCases, agreementCases, outputCases, firstOf}
+use Rattle.requests.specs.Cases.{Case, given, firstApplying, numberCases, agreementCases, outputCases, firstOf}
 
 -- 3 to 6: the words of a, b, mask and old C
 abbrev pub matrixCases : Call → List ℕ → List ℕ → List ℕ → List ℕ → List Case
@@ -23,11 +23,11 @@ matrixCases call a b m c =
     ∷ []
 
 unfoldable pub matricesRefusal : Call → List ℕ → List ℕ → List ℕ → List ℕ → ℕ
-matricesRefusal call a b m c = lowest (matrixCases call a b m c)
+matricesRefusal call a b m c = firstApplying (matrixCases call a b m c)
 
 -- what is looked at before the operation is worked out, with the lists and the length of the workspace
 unfoldable pub inputRefusal : Call → List ℕ → List ℕ → List ℕ → List ℕ → List ℕ → List ℕ → ℕ → ℕ
-inputRefusal call a b m c is js work = lowest (
+inputRefusal call a b m c is js work = firstApplying (
     numberCases call
     ++ (matrixCases call a b m c
     ++ agreementCases call (gridOf a) (gridOf b) (gridOf m) (gridOf c) is js work))
@@ -38,7 +38,7 @@ lentFinal call a b m c is js = callFinal call (gridOf a) (gridOf b) (gridOf m) (
 
 -- what is looked at afterwards: the final C, and the length of its buffer
 abbrev pub outputRefusal : Grid → ℕ → ℕ
-outputRefusal g room = lowest (outputCases g (gridSize g) room)
+outputRefusal g room = firstApplying (outputCases g (gridSize g) room)
 
 -- the lowest number that applies, or 0: those of the inputs are all lower than those of the output
 unfoldable pub lentRefusal : Call → List ℕ → List ℕ → List ℕ → List ℕ → List ℕ → List ℕ → ℕ → ℕ

@@ -33,7 +33,8 @@ pub fn result_row(
         (now ov) ⌝ }
     ensures { λ r. ⌜ Holds (resultGrid operation flag (gridOf (now (a .entry))) (gridOf (now (b .entry)))
         (now (is .entry)) (now (js .entry)) .cols)
-        (resultGrid operation flag (gridOf (now (a .entry))) (gridOf (now (b .entry))) (now (is .entry)) (now (js .entry)) .cell i)
+        (resultGrid operation flag (gridOf (now (a .entry))) (gridOf (now (b .entry)))
+        (now (is .entry)) (now (js .entry)) .cell i)
         r (now (oc .exit)) (now (ov .exit)) ⌝ }
 {
     match operation {

@@ -100,7 +100,8 @@ module _ (g : Grid) (i n : ℕ) (cs vs w : List ℕ) (b : RowBounds (g .rows) i 
       let a = columnsAt (g .rows) in
       let e : stagedAt + (n + length cs) ≡ stagedAt + n + length vs = omega arith in
       rw (e, add-one i)
-      (part-append stagedAt (stagedAt + n) (stagedAt + n + length vs) (stagedRow (g .rows) i n cs vs w) (omega arith) (omega arith)
+      (part-append stagedAt (stagedAt + n) (stagedAt + n + length vs) (stagedRow (g .rows) i n cs vs w)
+      (omega arith) (omega arith)
       ∙ ap (λ (l : List ℕ). part stagedAt (stagedAt + n) (stagedRow (g .rows) i n cs vs w) ++ l)
       (overwrite-here (stagedAt + n) vs w₂ room₃ ∙ v)
       ∙ ap (λ (l : List ℕ). l ++ gather value (g .cols) (g .cell i))

@@ -1,9 +1,9 @@
 -- The cases of `viewable` and `rowView`, as the code reaches them.
-use Prim.Native.Nat.{ℕ, _+_, _<_}
+use Prim.Native.Nat.{ℕ, _+_, _-_, _<_}
 use native.Mathlib.Omega.{arith}
-use mathlib.Core.Path.{_≡_, ap}
+use mathlib.Core.Path.{_≡_, refl, ap}
 use mathlib.Core.List.{List}
-use mathlib.Core.Bool.{true, false}
+use mathlib.Core.Bool.{Bool, true, false}
 use denote.Ref.{RefT, now}
 use lib.ListN.{length}
 use lib.Dec.{ltb}
@@ -13,11 +13,12 @@ use Rattle.words.specs.Lent.{PartOf}
 use Rattle.words.proofs.Tests.{and-left, and-right}
 use Rattle.matrix.specs.Layout.{rows, cols, start, rowColumns}
 use Rattle.matrix.specs.Valid.{valid}
-use Rattle.matrix.specs.Facts.{RowSpan}
+use Rattle.matrix.specs.Facts.{Header, RowSpan}
 use Rattle.matrix.proofs.Facts.{matrix-facts, row-span}
 use Rattle.matrix.proofs.Rows.{columns-length}
 use Rattle.row_view.specs.declared.Section.{Section}
-use Rattle.row_view.specs.View.{sectionFrom, sectionTo, viewable, rowEmpty, rowView, Shown}
+use Rattle.row_view.specs.declared.Section.the-variants.{Columns, Values}
+use Rattle.row_view.specs.View.{sectionFrom, sectionTo, viewable, rowEmpty, rowView, Shown, placed, placeIn, placeOf}
 
 -- what the test says
 pub record Viewable (a b : List ℕ) (i : ℕ) : Type 0 where
@@ -69,6 +70,31 @@ module _ (a b : List ℕ) (i : ℕ) where
   row-filled h cs e z =
       let f : start a i ≡ start a (i + 1) → ⊥ = λ s. z (omega (arith, row-length h, ap length e)) in
       ne-eqb _ _ f
+
+-- the place of a part, from where it begins and how many words it has
+pub place-made : (inSecond : Bool) (n x y : ℕ) → n + x ≡ y → placed inSecond x n ≡ placeIn inSecond x y
+place-made inSecond n x y e = let counted : n ≡ y - x = omega (arith, e) in ap (placed inSecond x) counted
+
+-- a section of row i has as many words as the row has column numbers
+pub section-length : (section : Section) (s cs : List ℕ) (i : ℕ) → Header s → RowSpan s i → cs ≡ rowColumns s i
+    → length cs + sectionFrom section s i ≡ sectionTo section s i
+section-length Columns s cs i h r e = omega (arith, columns-length s i h r, ap length e)
+section-length Values s cs i h r e = omega (arith, columns-length s i h r, ap length e)
+
+module _ (section : Section) (a b : List ℕ) (i : ℕ) where
+  pub placed-nothing : viewable a b i ≡ false → placeIn false 0 0 ≡ placeOf (rowView section a b i)
+  unfolding rowView
+  placed-nothing h = rw h refl
+
+  pub placed-second : viewable a b i ≡ true → rowEmpty a i ≡ true
+      → placeIn true (sectionFrom section b i) (sectionTo section b i) ≡ placeOf (rowView section a b i)
+  unfolding rowView
+  placed-second h e = rw (h, e) refl
+
+  pub placed-first : viewable a b i ≡ true → rowEmpty a i ≡ false
+      → placeIn false (sectionFrom section a i) (sectionTo section a i) ≡ placeOf (rowView section a b i)
+  unfolding rowView
+  placed-first h e = rw (h, e) refl
 
 module _ (section : Section) (r a b : RefT (List ℕ)) (i : ℕ) where
   pub shown-nothing : viewable (now a) (now b) i ≡ false → PartOf r a 0 0

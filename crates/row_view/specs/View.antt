@@ -1,7 +1,7 @@
 -- What a look at one row over two matrices shows (document 01, "The six operations", last paragraph).
-use Prim.Native.Nat.{ℕ, _+_}
+use Prim.Native.Nat.{ℕ, _+_, _-_}
 use mathlib.Core.List.{List}
-use mathlib.Core.Bool.{Bool, cond}
+use mathlib.Core.Bool.{Bool, true, false, cond}
 use denote.Ref.{RefT}
 use lib.Dec.{ltb, eqb}
 use Rattle.words.specs.Tests.{_and_}
@@ -10,6 +10,7 @@ use Rattle.matrix.specs.Layout.{rows, cols, start, columnsFrom, valuesFrom}
 use Rattle.matrix.specs.Valid.{valid}
 use Rattle.row_view.specs.declared.Section.{Section}
 use Rattle.row_view.specs.declared.Section.the-variants.{Columns, Values}
+use Rattle.row_view.specs.declared.Place.{Place}
 
 -- where the part lies: in the first matrix or in the second, from a word up to, and not including, a word
 pub data View : Type 0 where
@@ -50,3 +51,14 @@ rowView section a b i =
 abbrev pub Shown : RefT (List ℕ) → RefT (List ℕ) → RefT (List ℕ) → View → Type 0
 Shown r a b (first x y) = PartOf r a x y
 Shown r a b (second x y) = PartOf r b x y
+
+-- the same in numbers: which matrix, from which word on, how many words
+abbrev pub placed : Bool → ℕ → ℕ → Place
+placed inSecond x n = record { «in_second» = inSecond; from = x; count = n }
+
+abbrev pub placeIn : Bool → ℕ → ℕ → Place
+placeIn inSecond x y = placed inSecond x (y - x)
+
+abbrev pub placeOf : View → Place
+placeOf (first x y) = placeIn false x y
+placeOf (second x y) = placeIn true x y

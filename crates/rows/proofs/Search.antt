@@ -44,4 +44,5 @@ position-found j (c ∷ cols) zero l b n = let u : j ≤ c = n 0 (omega arith) (
 position-found j (c ∷ cols) (suc p) l b n =
     let u : c < j = b 0 (omega arith) in
     rw (lt-ltb c j u)
-    (ap suc (position-found j cols p (omega arith) (λ k h. b (suc k) (omega arith)) (λ k h m. n (suc k) (omega arith) (omega arith))))
+    (ap suc (position-found j cols p (omega arith) (λ k h. b (suc k) (omega arith))
+    (λ k h m. n (suc k) (omega arith) (omega arith))))

@@ -14,7 +14,7 @@ use Rattle.matrix.specs.Facts.{Matrix}
 use Rattle.encoding.specs.Encode.{encode, gridSize}
 use Rattle.operations.specs.declared.Call.{Call}
 use Rattle.operations.specs.Calls.{callFinal}
-use Rattle.requests.specs.Cases.{lowest, agreementCases, agreementRefusal}
+use Rattle.requests.specs.Cases.{firstApplying, agreementCases, agreementRefusal}
 use Rattle.requests.specs.Refusal.{lentFinal}
 use Rattle.requests.specs.Inputs.{Valid}
 use Rattle.slots.specs.Sections.{slotAt}
@@ -71,35 +71,35 @@ module _ (s : List ℕ) (o : Operate) (a b m c : List ℕ) (h : Holding s (o .ro
       let t = grid-by s c (o .roles .output) (h .output) (e .output) in
       four f p q r t
 
-  -- the final C, and the lowest of 7 to 9, by the words
+  -- the final C, and the first of 7 to 9, by the words
   abbrev final : Grid
   final = lentFinal (o .call) a b m c (o .is) (o .js)
 
-  abbrev lowestOf : ℕ
-  lowestOf = agreementRefusal (o .call) (gridOf a) (gridOf b) (gridOf m) (gridOf c) (o .is) (o .js) (o .work)
+  abbrev agreed : ℕ
+  agreed = agreementRefusal (o .call) (gridOf a) (gridOf b) (gridOf m) (gridOf c) (o .is) (o .js) (o .work)
 
   final-is : operated (modelOf s) o ≡ final
   final-is = by-words (λ a b m c. callFinal (o .call) a b m c (o .is) (o .js))
 
-  agreement-is : lowest (agreementsOf (modelOf s) o) ≡ lowestOf
+  agreement-is : firstApplying (agreementsOf (modelOf s) o) ≡ agreed
   unfolding agreementRefusal
-  agreement-is = by-words (λ a b m c. lowest (agreementCases (o .call) a b m c (o .is) (o .js) (o .work)))
+  agreement-is = by-words (λ a b m c. firstApplying (agreementCases (o .call) a b m c (o .is) (o .js) (o .work)))
 
   -- refused by 7 to 9
-  pub evaluated-refused : (code : ℕ) → code ≡ lowestOf → (code ≡ 0 → ⊥) → RefusedBy code (modelOf s) o
+  pub evaluated-refused : (code : ℕ) → code ≡ agreed → (code ≡ 0 → ⊥) → RefusedBy code (modelOf s) o
   evaluated-refused code q n = record {
     some = n;
-    lowest-is = λ i. agreement-first (modelOf s) o i code (q ∙ sym agreement-is) n;
+    applying-is = λ i. agreement-first (modelOf s) o i code (q ∙ sym agreement-is) n;
   }
 
-  module _ (z : lowestOf ≡ 0) where
+  module _ (z : agreed ≡ 0) where
     -- too many entries
     pub evaluated-full : maxEntries < entryCount final → RefusedBy tooManyEntries (modelOf s) o
     evaluated-full l =
         let f : maxEntries < entryCount (operated (modelOf s) o) = rw final-is l in
         record {
           some = eqb-false tooManyEntries 0 refl;
-          lowest-is = λ i. sym (agreement-passed (modelOf s) o i (agreement-is ∙ z) ∙ rw (lt-ltb _ _ f));
+          applying-is = λ i. sym (agreement-passed (modelOf s) o i (agreement-is ∙ z) ∙ rw (lt-ltb _ _ f));
         }
 
     -- the final C is at the front of the workspace

@@ -18,7 +18,7 @@ use Rattle.encoding.specs.Encode.{gridSize}
 use Rattle.encoding.proofs.Canonical.{encode-length}
 use Rattle.operations.specs.declared.Call.{Call}
 use Rattle.operations.specs.Calls.{callFinal}
-use Rattle.requests.specs.Cases.{lowest}
+use Rattle.requests.specs.Cases.{firstApplying}
 use Rattle.slots.specs.Sections.{writing, endFrom, slotsOf, slotAt, countAt}
 use Rattle.slots.specs.Valid.{storeValid}
 use Rattle.slots.specs.Facts.{Store}
@@ -99,7 +99,7 @@ module _ (s : List ℕ) (o : Operate) where
       -- refused by what is found when the final C is worked out
       pub operated-evaluated : (code : ℕ) → RefusedBy code m o → Operated s o (refused code) s
       operated-evaluated code r =
-          operated-refused code (r .lowest-is (length s) ∙ sym (roles-passed m o (length s) z)) (r .some)
+          operated-refused code (r .applying-is (length s) ∙ sym (roles-passed m o (length s) z)) (r .some)
 
       module _ (x : Holding s (o .roles)) (n : ℕ) (w : List ℕ) (d : DoneBy n m o w) where
         -- the words of the final C, and those that the sections then take
@@ -133,7 +133,7 @@ module _ (s : List ℕ) (o : Operate) where
         few : entryCount g ≤ maxEntries
         few = let c = d .count in let l = d .few in omega arith
 
-        output-is : operationRefusal (length s) m o ≡ lowest (outputsOf m o (length s))
+        output-is : operationRefusal (length s) m o ≡ firstApplying (outputsOf m o (length s))
         output-is = roles-passed m o (length s) z ∙ agreement-passed m o (length s) (d .agrees)
 
         -- what is copied is the writing of the final C

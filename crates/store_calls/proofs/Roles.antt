@@ -10,7 +10,7 @@ use Rattle.limits.specs.Limits.{slotCount}
 use Rattle.answers.specs.Refusals.{invalidStore, emptySlot}
 use Rattle.operations.specs.declared.Call.{Call}
 use Rattle.operations.specs.Calls.{hasSecond}
-use Rattle.requests.specs.Cases.{Case, given, lowest}
+use Rattle.requests.specs.Cases.{Case, given, firstApplying}
 use Rattle.requests.proofs.Cases.{later}
 use Rattle.slots.specs.Sections.{slotAt}
 use Rattle.slots.specs.Facts.{Held, Store}
@@ -38,22 +38,22 @@ module _ (n : ℕ) (f : ℕ → Bool) (r : Roles) where
   cases = roleCases (λ k. given n (f k)) r
 
   -- the first role that it applies to, or none
-  pub first-role : f (r .first) ≡ true → n ≡ lowest cases
+  pub first-role : f (r .first) ≡ true → n ≡ firstApplying cases
   first-role a = rw a
 
   module _ (a : f (r .first) ≡ false) where
-    pub second-role : f (r .second) ≡ true → n ≡ lowest cases
+    pub second-role : f (r .second) ≡ true → n ≡ firstApplying cases
     second-role b = rw (a, b)
 
     module _ (b : f (r .second) ≡ false) where
-      pub mask-role : f (r .mask) ≡ true → n ≡ lowest cases
+      pub mask-role : f (r .mask) ≡ true → n ≡ firstApplying cases
       mask-role c = rw (a, b, c)
 
       module _ (c : f (r .mask) ≡ false) where
-        pub output-role : f (r .output) ≡ true → n ≡ lowest cases
+        pub output-role : f (r .output) ≡ true → n ≡ firstApplying cases
         output-role d = rw (a, b, c, d)
 
-        pub no-role : f (r .output) ≡ false → 0 ≡ lowest cases
+        pub no-role : f (r .output) ≡ false → 0 ≡ firstApplying cases
         no-role d = rw (a, b, c, d)
 
   -- where the number is 0, it applies to none
@@ -63,7 +63,7 @@ module _ (n : ℕ) (f : ℕ → Bool) (r : Roles) where
     pub mask : f (r .mask) ≡ false
     pub output : f (r .output) ≡ false
 
-  no-role-of : eqb n 0 ≡ false → lowest cases ≡ 0 → NoRole
+  no-role-of : eqb n 0 ≡ false → firstApplying cases ≡ 0 → NoRole
   no-role-of z h =
       let a = later (f (r .first)) n _ z h in
       let b = later (f (r .second)) n _ z (a .rest) in
@@ -89,7 +89,7 @@ pub found-held : (s x : List ℕ) (k : ℕ) → x ≡ slotAt s k → (length x �
 found-held s x k e h = ap isVacant (holding-model s k (λ z. h (ap length e ∙ z)))
 
 -- where 12 does not apply, each role names a slot
-pub in-store : (r : Roles) → lowest (roleCases noSlot r) ≡ 0 → InStore r
+pub in-store : (r : Roles) → firstApplying (roleCases noSlot r) ≡ 0 → InStore r
 in-store r h =
     let n = no-role-of invalidStore past r refl h in
     record {
@@ -105,7 +105,7 @@ holds s k h l e =
     held-facts (slotAt s k) (h .contents k l) (λ z. false≢true (sym e ∙ vacant-model s k z))
 
 -- and where 13 does not apply either, each holds a matrix
-pub holding-roles : (s : List ℕ) (r : Roles) → Store s → InStore r → lowest (roleCases (noGrid (modelOf s)) r) ≡ 0
+pub holding-roles : (s : List ℕ) (r : Roles) → Store s → InStore r → firstApplying (roleCases (noGrid (modelOf s)) r) ≡ 0
     → Holding s r
 holding-roles s r h i z =
     let n = no-role-of emptySlot (empty s) r refl z in

@@ -12,7 +12,7 @@ use Rattle.grid.specs.Entries.{entryCount}
 use Rattle.matrix.specs.Layout.{rows, sizeOf}
 use Rattle.encoding.specs.Encode.{encode, gridSize}
 use Rattle.operations.specs.declared.Call.{Call}
-use Rattle.requests.specs.Cases.{Case, lowest, numberCases, agreementCases, outputCases}
+use Rattle.requests.specs.Cases.{Case, firstApplying, numberCases, agreementCases, outputCases}
 use Rattle.slots.specs.Sections.{writing, endFrom, slotsOf, slotAt, countAt}
 use Rattle.slots.specs.Facts.{Held, Store}
 use Rattle.model.specs.declared.Roles.{Roles}
@@ -28,7 +28,7 @@ asked call roles is js work = record { call = call; roles = roles; is = is; js =
 
 -- 12 for slots past the last, 1 and 2, 13
 unfoldable pub rolesRefusal : Model → Call → Roles → ℕ
-rolesRefusal m call r = lowest (roleCases noSlot r ++ (numberCases call ++ roleCases (noGrid m) r))
+rolesRefusal m call r = firstApplying (roleCases noSlot r ++ (numberCases call ++ roleCases (noGrid m) r))
 
 -- every slot that is named is one
 pub record InStore (r : Roles) : Type 0 where
@@ -57,11 +57,11 @@ outputsOf m o n = outputCases (operated m o) (wordsNeeded (afterOperation m o)) 
 -- a refusal by 7 to 9, or by 10: the store's length does not matter
 pub record RefusedBy (code : ℕ) (m : Model) (o : Operate) : Type 0 where
   pub some : code ≡ 0 → ⊥
-  pub lowest-is : (n : ℕ) → code ≡ lowest (agreementsOf m o ++ outputsOf m o n)
+  pub applying-is : (n : ℕ) → code ≡ firstApplying (agreementsOf m o ++ outputsOf m o n)
 
 -- none of 7 to 10 applies, and the writing of the final C is at the front of the workspace
 pub record DoneBy (n : ℕ) (m : Model) (o : Operate) (w : List ℕ) : Type 0 where
-  pub agrees : lowest (agreementsOf m o) ≡ 0
+  pub agrees : firstApplying (agreementsOf m o) ≡ 0
   pub count : n ≡ entryCount (operated m o)
   pub few : n ≤ maxEntries
   pub written : take (gridSize (operated m o)) w ≡ encode (operated m o)

@@ -16,7 +16,7 @@ ghost use mathlib.Core.Path.{_≡_};
 ghost use mathlib.Core.Bool.{cond};
 ghost use lib.ListN.{length, replicate};
 ghost use Rattle.answers.specs.Refusals as answers;
-ghost use Rattle.requests.specs.Cases.{lowest, firstOf};
+ghost use Rattle.requests.specs.Cases.{firstApplying, firstOf};
 ghost use Rattle.slots.specs.Facts.{Store};
 ghost use Rattle.model.specs.Calls.{rolesOf, mxm, vxm, ewiseMult, ewiseAdd, apply, extract, operation, wrote};
 ghost use Rattle.model.specs.Steps.{noSlot, noGrid, roleCases};
@@ -243,7 +243,7 @@ fn first_of(first: u32, later: u32) -> u32
 
 // 12: a slot past the last.
 fn slots_refusal(roles: Roles) -> u32
-    ensures { λ r. ⌜ r ≡ lowest (roleCases noSlot roles) ⌝ }
+    ensures { λ r. ⌜ r ≡ firstApplying (roleCases noSlot roles) ⌝ }
 {
     let first = roles.first;
     if SLOTS <= first {
@@ -267,7 +267,7 @@ fn slots_refusal(roles: Roles) -> u32
 // 13: an empty slot.
 fn vacancy_refusal(store: &[u32], roles: Roles) -> u32
     requires { ⌜ Store (now store) ⌝ ∗ ⌜ InStore roles ⌝ }
-    ensures { λ r. ⌜ r ≡ lowest (roleCases (noGrid (modelOf (now (store .entry)))) roles) ⌝ }
+    ensures { λ r. ⌜ r ≡ firstApplying (roleCases (noGrid (modelOf (now (store .entry)))) roles) ⌝ }
 {
     if slots::contents(store, roles.first).len() == 0 {
         return EMPTY_SLOT;

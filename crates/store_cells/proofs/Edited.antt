@@ -21,6 +21,7 @@ use Rattle.slots.specs.Room.{resized}
 use Rattle.slots.proofs.Sections.{end-rises}
 use Rattle.slots.proofs.Slot.{slot-length}
 use Rattle.slots.proofs.Resized.{new-length, new-grown}
+use Rattle.edits.specs.declared.EntryAt.{EntryAt}
 use Rattle.edits.specs.declared.EntryAt.the-variants as entry
 use Rattle.edits.specs.Entry.{entryAt}
 use Rattle.edits.specs.Changes.{InMatrix, HasSpace}
@@ -36,6 +37,11 @@ module _ {s : List ℕ} {k i j : ℕ} (h : CellOf s k i j) where
   -- its words are a matrix with that row and that column
   pub slot-in : InMatrix (slotAt s k) i j
   slot-in = held-in (h .held) (h .row) (h .col)
+
+  -- and what a search in them found is known of its grid
+  pub entry-in : {x : List ℕ} {r e : EntryAt} → x ≡ slotAt s k → r ≡ entryAt (gridOf x) i j → r ≡ e
+      → entryAt (slotGrid s k) i j ≡ e
+  entry-in w f t = ap (λ (z : List ℕ). entryAt (gridOf z) i j) (sym w) ∙ sym f ∙ t
 
   -- where they are
   pub record Slot : Type 0 where

@@ -19,7 +19,7 @@ use Rattle.matrix.specs.Layout.{gridOf}
 use Rattle.encoding.specs.Encode.{gridSize}
 use Rattle.encoding.proofs.Canonical.{encode-length}
 use Rattle.requests.specs.Cases.{Case, answerFor, outputCases}
-use Rattle.requests.proofs.Cases.{lowest-first, lowest-rest}
+use Rattle.requests.proofs.Cases.{applying-first, applying-rest}
 use Rattle.slots.specs.Sections.{endFrom, slotAt, countAt}
 use Rattle.slots.specs.Valid.{storeValid}
 use Rattle.slots.specs.Facts.{Store}
@@ -43,7 +43,8 @@ use Rattle.model.specs.Stores.{modelOf, Performed}
 use Rattle.model.specs.Placing.{placeRefusal, Placed}
 use Rattle.model.proofs.Held.{model-written, slot-written, grid-model, needed-model}
 use Rattle.model.proofs.Performed.{performed, Writes, performed-refused, performed-done}
-use Rattle.store_cells.specs.Slots.{CellOf, slotPut, gridPut, Put, CellSet, CellCleared}
+use Rattle.store_cells.specs.Slots.{slotPut, gridPut, Put, CellSet, CellCleared}
+use Rattle.store_cells.proofs.Refusals.{Reached}
 
 -- the words that are needed with g in slot k
 pub room-of : (s : List ℕ) (k : ℕ) (g : Grid) → Store s → k < slotCount
@@ -113,7 +114,7 @@ set-refusal : (s : List ℕ) (k i j x : ℕ) → cellRefusal (modelOf s) k i j �
 unfolding setRefusal cellRefusal placeRefusal
 set-refusal s k i j x z =
     let g = withValue (modelOf s) k i j x in
-    lowest-rest (cellCases (modelOf s) k i j)
+    applying-rest (cellCases (modelOf s) k i j)
     (outputCases g (wordsNeeded (set (modelOf s) k (holding g))) (length s)) (refl, (refl, (refl, tt))) z
 
 module _ {s : List ℕ} {k i j : ℕ} (v : storeValid s ≡ true) where
@@ -124,7 +125,7 @@ module _ {s : List ℕ} {k i j : ℕ} (v : storeValid s ≡ true) where
   set-refused x code e n =
       let g = withValue (modelOf s) k i j x in
       let c : code ≡ setRefusal (length s) (modelOf s) k i j x =
-      lowest-first (cellCases (modelOf s) k i j)
+      applying-first (cellCases (modelOf s) k i j)
       (outputCases g (wordsNeeded (set (modelOf s) k (holding g))) (length s)) code e n in
       performed-refused s (setCell k i j x) code g (set (modelOf s) k (holding g)) v
       (record { reply-is = rw c; next-is = rw c }) n
@@ -137,22 +138,23 @@ module _ {s : List ℕ} {k i j : ℕ} (v : storeValid s ≡ true) where
       performed-refused s (clearCell k i j) code g (set (modelOf s) k (holding g)) v
       (record { reply-is = rw e; next-is = rw e }) n
 
-  -- it is: what the functions that write leave
-  module _ (z : cellRefusal (modelOf s) k i j ≡ 0) (h : CellOf s k i j) where
-    grid-is : gridAt (modelOf s) k ≡ gridOf (slotAt s k)
-    grid-is = grid-model s k (λ e. let w = h .held .whole in omega arith)
+-- it is: what the functions that write leave
+module _ {s : List ℕ} {k i j end : ℕ} (h : Reached s k i j end) where
+  grid-is : gridAt (modelOf s) k ≡ gridOf (slotAt s k)
+  grid-is = grid-model s k (λ e. let w = h .cell .held .whole in omega arith)
 
-    pub set-performed : (x : ℕ) (answer : Answer) (s′ : List ℕ) → CellSet s k i j x answer s′
-        → Performed s (setCell k i j x) (wrote answer) s′
-    unfolding reply next
-    set-performed x answer s′ p =
-        performed-placed v (record { reply-is = refl; next-is = refl }) (set-refusal s k i j x z) (rw grid-is p)
+  pub set-performed : (x : ℕ) (answer : Answer) (s′ : List ℕ) → CellSet s k i j x answer s′
+      → Performed s (setCell k i j x) (wrote answer) s′
+  unfolding reply next
+  set-performed x answer s′ p =
+      performed-placed (h .checked .valid) (record { reply-is = refl; next-is = refl }) (set-refusal s k i j x (h .free))
+      (rw grid-is p)
 
-    pub clear-performed : (answer : Answer) (s′ : List ℕ) → CellCleared s k i j answer s′
-        → Performed s (clearCell k i j) (wrote answer) s′
-    unfolding reply next
-    clear-performed answer s′ p =
-        performed-put v (record { reply-is = refl; next-is = refl }) z (rw grid-is p)
+  pub clear-performed : (answer : Answer) (s′ : List ℕ) → CellCleared s k i j answer s′
+      → Performed s (clearCell k i j) (wrote answer) s′
+  unfolding reply next
+  clear-performed answer s′ p =
+      performed-put (h .checked .valid) (record { reply-is = refl; next-is = refl }) (h .free) (rw grid-is p)
 
 -- ---- drop
 

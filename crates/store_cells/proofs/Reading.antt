@@ -14,7 +14,7 @@ use Rattle.model.specs.Calls.{readCell, found}
 use Rattle.model.specs.Steps.{cellRefusal, reply}
 use Rattle.model.specs.Stores.{modelOf, replyOn}
 use Rattle.model.proofs.Held.{grid-model}
-use Rattle.store_cells.specs.Slots.{CellOf}
+use Rattle.store_cells.proofs.Refusals.{Reached}
 
 module _ (s : List ℕ) (k i j : ℕ) where
   -- the words are no store
@@ -22,17 +22,16 @@ module _ (s : List ℕ) (k i j : ℕ) where
   unfolding replyOn
   read-no-store v = rw v
 
-  module _ (v : storeValid s ≡ true) where
-    -- 12, 13 or 7
-    pub read-refused : (code : ℕ) → code ≡ cellRefusal (modelOf s) k i j → (code ≡ 0 → ⊥)
-        → found (refusedRead code) ≡ replyOn s (readCell k i j)
-    unfolding replyOn reply
-    read-refused code e n = rw (v, ← e, ne-eqb _ _ n)
+  -- 12, 13 or 7
+  pub read-refused : storeValid s ≡ true → (code : ℕ) → code ≡ cellRefusal (modelOf s) k i j → (code ≡ 0 → ⊥)
+      → found (refusedRead code) ≡ replyOn s (readCell k i j)
+  unfolding replyOn reply
+  read-refused v code e n = rw (v, ← e, ne-eqb _ _ n)
 
-    -- the cell of the slot's grid
-    pub read-found : cellRefusal (modelOf s) k i j ≡ 0 → CellOf s k i j
-        → found (foundAnswer (cellOf (slotAt s k) i j)) ≡ replyOn s (readCell k i j)
-    unfolding replyOn reply
-    read-found z h =
-        let w = h .held .whole in
-        rw (v, eq-eqb _ _ z, grid-model s k (λ e. omega arith))
+  -- the cell of the slot's grid
+  pub read-found : {end : ℕ} → Reached s k i j end
+      → found (foundAnswer (cellOf (slotAt s k) i j)) ≡ replyOn s (readCell k i j)
+  unfolding replyOn reply
+  read-found h =
+      let w = h .cell .held .whole in
+      rw (h .checked .valid, eq-eqb _ _ (h .free), grid-model s k (λ e. omega arith))

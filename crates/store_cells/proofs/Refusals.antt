@@ -20,6 +20,7 @@ use Rattle.model.specs.Steps.{cellRefusal}
 use Rattle.model.specs.Stores.{modelOf}
 use Rattle.model.proofs.Held.{vacant-model, holding-model, grid-model}
 use Rattle.store_cells.specs.Slots.{CellOf}
+use Rattle.store_cells.proofs.Checks.{Checked}
 
 module _ (s : List ℕ) (k i j : ℕ) where
   -- 12
@@ -49,7 +50,7 @@ module _ (s : List ℕ) (k i j : ℕ) where
       cell-there r c = rw (lt-leb _ _ l, holding-model s k n, lt-ltb _ _ r, lt-ltb _ _ c)
 
 -- where none applies, the slot holds a matrix with that cell
-pub cell-of : (s : List ℕ) (k i j : ℕ) → Store s → cellRefusal (modelOf s) k i j ≡ 0 → CellOf s k i j
+cell-of : (s : List ℕ) (k i j : ℕ) → Store s → cellRefusal (modelOf s) k i j ≡ 0 → CellOf s k i j
 unfolding cellRefusal
 cell-of s k i j h z =
     let a = later _ invalidStore _ refl z in
@@ -69,3 +70,15 @@ cell-of s k i j h z =
       row = rw e at r;
       col = rw e at q;
     }
+
+-- a call past its tests: the words are a store, none of 12, 13 and 7 applies, and the cell is there
+pub record Reached (s : List ℕ) (k i j end : ℕ) : Type 0 where
+  pub checked : Checked s end
+  pub free : cellRefusal (modelOf s) k i j ≡ 0
+  pub cell : CellOf s k i j
+
+pub reached : {s : List ℕ} {k i j end code : ℕ} → Checked s end → code ≡ cellRefusal (modelOf s) k i j → code ≡ 0
+    → Reached s k i j end
+reached h e z =
+    let f = sym e ∙ z in
+    record { checked = h; free = f; cell = cell-of _ _ _ _ (h .store) f }

@@ -9,6 +9,14 @@ mod c {
         pub fn ostrubel_check(words: *const u32, n: usize) -> u64;
         pub fn ostrubel_new_empty(rows: u32, cols: u32, buffer: *mut u32, n: usize) -> u64;
         pub fn ostrubel_read_cell(i: u32, j: u32, words: *const u32, n: usize) -> u64;
+        pub fn ostrubel_row_view(
+            i: u32,
+            values: u32,
+            first: *const u32,
+            first_n: usize,
+            second: *const u32,
+            second_n: usize,
+        ) -> u64;
         pub fn ostrubel_store_new_empty(slot: usize, rows: u32, cols: u32, store: *mut u32, n: usize) -> u64;
         pub fn ostrubel_store_drop(slot: usize, store: *mut u32, n: usize) -> u64;
         pub fn ostrubel_store_set_cell(slot: usize, i: u32, j: u32, value: u32, store: *mut u32, n: usize) -> u64;
@@ -20,9 +28,13 @@ mod c {
 /// The options of an operation, as numbers. The fields are those of the header.
 #[derive(Clone, Copy, Debug, Default, PartialEq, Eq)]
 pub struct OptionNumbers {
+    /// A sum of flags.
     pub flags: u32,
+    /// 0: no mask. Any other number: there is one.
     pub has_mask: u32,
+    /// 0: no accumulator. Any other number: there is one.
     pub has_accumulator: u32,
+    /// A binary operator, not looked at where there is no accumulator.
     pub accumulator: u32,
 }
 
@@ -39,6 +51,13 @@ pub fn new_empty(rows: u32, cols: u32, buffer: &mut [u32]) -> u64 {
 /// The cell at row i and column j.
 pub fn read_cell(i: u32, j: u32, words: &[u32]) -> u64 {
     unsafe { c::ostrubel_read_cell(i, j, words.as_ptr(), words.len()) }
+}
+
+/// Where row i over two matrices lies: its column numbers where `values` is 0, else its values. The answer has no code:
+/// bit 0 says that the part lies in the second matrix, the upper word at which of its words it begins, and bits 8 to 31
+/// how many words it has.
+pub fn row_view(i: u32, values: u32, first: &[u32], second: &[u32]) -> u64 {
+    unsafe { c::ostrubel_row_view(i, values, first.as_ptr(), first.len(), second.as_ptr(), second.len()) }
 }
 
 /// An empty matrix in a slot.
@@ -144,6 +163,6 @@ operation!(
     apply ostrubel_apply store_apply ostrubel_store_apply, [kind, op, scalar], [a a_n], [a], []
 );
 operation!(
-    /// At (i, j) the cell of A at row is[i] and column js[j].
+    /// At (i, j) the cell of A at row `is[i]` and column `js[j]`.
     extract ostrubel_extract store_extract ostrubel_store_extract, [], [a a_n], [a], [is is_n, js js_n]
 );

@@ -1,6 +1,7 @@
 //! Calls with all their arguments, and what a call leaves behind.
 
 use crate::rng::Rng;
+use ostrubel::calls::OptionNumbers;
 
 pub const REPLACE: u32 = 1;
 pub const COMPLEMENT: u32 = 2;
@@ -21,19 +22,14 @@ pub struct Options {
 }
 
 impl Options {
-    pub fn has_mask_word(&self) -> u32 {
-        if self.has_mask {
-            self.yes
-        } else {
-            0
-        }
-    }
-
-    pub fn has_accumulator_word(&self) -> u32 {
-        if self.has_accumulator {
-            self.yes
-        } else {
-            0
+    /// The options as they are passed.
+    pub fn numbers(&self) -> OptionNumbers {
+        let word = |is_there| if is_there { self.yes } else { 0 };
+        OptionNumbers {
+            flags: self.flags,
+            has_mask: word(self.has_mask),
+            has_accumulator: word(self.has_accumulator),
+            accumulator: self.accumulator,
         }
     }
 
@@ -109,9 +105,26 @@ pub struct LentOperation {
 
 #[derive(Clone, Debug)]
 pub enum LentCall {
-    Check { words: Vec<u32> },
-    NewEmpty { words: Vec<u32>, rows: u32, cols: u32 },
-    ReadCell { words: Vec<u32>, i: u32, j: u32 },
+    Check {
+        words: Vec<u32>,
+    },
+    NewEmpty {
+        words: Vec<u32>,
+        rows: u32,
+        cols: u32,
+    },
+    ReadCell {
+        words: Vec<u32>,
+        i: u32,
+        j: u32,
+    },
+    /// A look at one row over two sheets: column numbers where `values` is 0, else values.
+    RowView {
+        first: Vec<u32>,
+        second: Vec<u32>,
+        i: u32,
+        values: u32,
+    },
     Operation(LentOperation),
 }
 
@@ -121,6 +134,7 @@ impl LentCall {
             LentCall::Check { .. } => "check",
             LentCall::NewEmpty { .. } => "new_empty",
             LentCall::ReadCell { .. } => "read_cell",
+            LentCall::RowView { .. } => "row_view",
             LentCall::Operation(call) => call.operation.name(),
         }
     }
@@ -212,4 +226,29 @@ pub fn present_or_absent(cell: Option<i32>) -> u64 {
 /// The refusal number in an answer.
 pub fn code_of(answer: u64) -> u32 {
     answer as u32 & 255
+}
+
+/// What an answer's number says.
+#[derive(Clone, Copy, PartialEq, Eq)]
+pub enum Answers {
+    /// A code, and entries.
+    Code,
+    /// A code, whether a cell is present, and its value.
+    Cell,
+    /// Where a part of two sheets' words lies. There is no code.
+    Part,
+}
+
+/// What the answers of a function say, by its name.
+pub fn answers_of(name: &str) -> Answers {
+    match name {
+        "read_cell" | "store_read_cell" => Answers::Cell,
+        "row_view" => Answers::Part,
+        _ => Answers::Code,
+    }
+}
+
+/// The answer of a look at a row: whether it lies in the second sheet, at which word it begins, and how many it has.
+pub fn part_answer(in_second: bool, from: usize, count: usize) -> u64 {
+    u64::from(in_second) | (count as u64) << 8 | (from as u64) << 32
 }

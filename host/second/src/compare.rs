@@ -1,18 +1,18 @@
 //! Holds the model's outcome of a call against the library's.
 
-use crate::calls::{LentCall, Outcome, StoreCall, StoreList};
+use crate::calls::{answers_of, Answers, LentCall, Outcome, StoreCall, StoreList};
 use crate::describe::answer_text;
 use crate::library;
 use crate::model::Model;
 use crate::wall::StoreState;
 
-/// What differs, in sentences; nothing if the outcomes are equal. `reads` tells how the answer is
+/// What differs, in sentences; nothing if the outcomes are equal. `answers` tells how the answer is
 /// to be shown.
-fn differences(expected: &Outcome, seen: &Outcome, reads: bool) -> Vec<String> {
+fn differences(expected: &Outcome, seen: &Outcome, answers: Answers) -> Vec<String> {
     let mut lines = Vec::new();
     if expected.answer != seen.answer {
-        lines.push(format!("the model answers   {}", answer_text(expected.answer, reads)));
-        lines.push(format!("the library answers {}", answer_text(seen.answer, reads)));
+        lines.push(format!("the model answers   {}", answer_text(expected.answer, answers)));
+        lines.push(format!("the library answers {}", answer_text(seen.answer, answers)));
     }
     assert_eq!(expected.buffers.len(), seen.buffers.len(), "both report the same buffers");
     for (model, library) in expected.buffers.iter().zip(&seen.buffers) {
@@ -60,19 +60,15 @@ pub fn see_list(list: &StoreList) -> Vec<Seen> {
     list.calls.iter().map(&mut see).collect()
 }
 
-fn reads(name: &str) -> bool {
-    name.ends_with("read_cell")
-}
-
 pub fn judge_lent(model: Model, call: &LentCall, seen: &Seen) -> Vec<String> {
-    differences(&model.lent(call), &seen.outcome, reads(seen.name))
+    differences(&model.lent(call), &seen.outcome, answers_of(seen.name))
 }
 
 /// The number of the first call that differs, with the differences.
 pub fn judge_list(model: Model, list: &StoreList, seen: &[Seen]) -> Option<(usize, Vec<String>)> {
     let mut state = StoreState::new(&list.store, model.fault);
     for (number, (call, seen)) in list.calls.iter().zip(seen).enumerate() {
-        let lines = differences(&model.store(&mut state, call), &seen.outcome, reads(seen.name));
+        let lines = differences(&model.store(&mut state, call), &seen.outcome, answers_of(seen.name));
         if !lines.is_empty() {
             return Some((number, lines));
         }

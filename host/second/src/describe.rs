@@ -7,11 +7,15 @@ use crate::wall::Wall;
 
 const SHOWN: usize = 80;
 
-pub fn answer_text(answer: u64, reads: bool) -> String {
+pub fn answer_text(answer: u64, answers: Answers) -> String {
     let (low, high) = (answer as u32, (answer >> 32) as u32);
-    match (reads, low) {
-        (true, 256) => format!("present with {}", high as i32),
-        (true, 0) if high == 0 => "absent".to_string(),
+    match (answers, low) {
+        (Answers::Part, _) => {
+            let sheet = if low & 1 == 0 { "first" } else { "second" };
+            format!("{} words of the {sheet} sheet from word {high} on", low >> 8)
+        }
+        (Answers::Cell, 256) => format!("present with {}", high as i32),
+        (Answers::Cell, 0) if high == 0 => "absent".to_string(),
         _ => format!("{low} and {high}"),
     }
 }
@@ -86,6 +90,11 @@ pub fn lent_call(call: &LentCall) -> Vec<String> {
         LentCall::ReadCell { words, i, j } => {
             vec![format!("read_cell at ({i},{j})"), format!("  buffer: {}", sheet_text(words))]
         }
+        LentCall::RowView { first, second, i, values } => vec![
+            format!("row_view of row {i}, {}", if *values == 0 { "column numbers" } else { "values" }),
+            format!("  first: {}", sheet_text(first)),
+            format!("  second: {}", sheet_text(second)),
+        ],
         LentCall::Operation(call) => {
             let mut lines = vec![operation_text(&call.operation), format!("  {}", options_text(&call.options))];
             for (number, words) in call.inputs.iter().enumerate() {

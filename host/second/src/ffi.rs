@@ -1,16 +1,7 @@
 //! Calls by the library's functions, chosen by the operation.
 
 use crate::calls::{Operation, Options};
-use ostrubel::calls::{self, OptionNumbers};
-
-fn numbers(options: &Options) -> OptionNumbers {
-    OptionNumbers {
-        flags: options.flags,
-        has_mask: options.has_mask_word(),
-        has_accumulator: options.has_accumulator_word(),
-        accumulator: options.accumulator,
-    }
-}
+use ostrubel::calls;
 
 /// An operation on lent sheets; `a`, `b` and `mask` may be one slice.
 pub fn operation(
@@ -21,7 +12,7 @@ pub fn operation(
     c: &mut [u32],
     work: &mut [u32],
 ) -> u64 {
-    let options = numbers(options);
+    let options = options.numbers();
     match *operation {
         Operation::Mxm { monoid, op } => calls::mxm(options, monoid, op, a, b, mask, c, work),
         Operation::Vxm { monoid, op } => calls::vxm(options, monoid, op, a, b, mask, c, work),
@@ -41,7 +32,7 @@ pub fn store_operation(
     [rows, cols]: [&[u32]; 2],
     work: &mut [u32],
 ) -> u64 {
-    let options = numbers(options);
+    let options = options.numbers();
     match *operation {
         Operation::Mxm { monoid, op } => calls::store_mxm(options, monoid, op, a, b, mask, c, store, work),
         Operation::Vxm { monoid, op } => calls::store_vxm(options, monoid, op, a, b, mask, c, store, work),

@@ -1,7 +1,7 @@
 //! What random calls have in common: values, sheets, options, damage.
 
 use crate::calls::*;
-use crate::grid::{Grid, MAX_ENTRIES};
+use crate::grid::{Grid, MAX_ENTRIES, MAX_LIST, MAX_SIDE};
 use crate::rng::Rng;
 
 pub fn value(rng: &mut Rng) -> i32 {
@@ -18,8 +18,8 @@ pub fn side(rng: &mut Rng) -> u32 {
     match rng.below(1000) {
         0..=849 => rng.between(1, 5),
         850..=969 => rng.between(1, 24),
-        970..=989 => rng.between(1, 512),
-        _ => rng.pick(&[511, 512]),
+        970..=989 => rng.between(1, MAX_SIDE),
+        _ => rng.pick(&[MAX_SIDE - 1, MAX_SIDE]),
     }
 }
 
@@ -42,6 +42,12 @@ pub fn grid_of(rng: &mut Rng, rows: u32, cols: u32, entries: usize) -> Grid {
         grid.cells.insert((rng.below(rows as usize) as u32, rng.below(cols as usize) as u32), value(rng));
     }
     grid
+}
+
+/// Numbers of entries on both sides of the limit.
+pub fn entries_near_limit(rng: &mut Rng) -> usize {
+    let most = MAX_ENTRIES;
+    rng.pick(&[most - 1, most, most, most + 1, most + 1, most + 2])
 }
 
 pub fn grid(rng: &mut Rng, rows: u32, cols: u32) -> Grid {
@@ -172,14 +178,14 @@ fn spoil_operation(rng: &mut Rng, operation: &mut Operation) {
             let list = if rng.percent(50) { rows } else { cols };
             match rng.below(6) {
                 0 => list.clear(),
-                1 => list.resize(513, 0),
-                2 => list.resize(512, 0),
+                1 => list.resize(MAX_LIST + 1, 0),
+                2 => list.resize(MAX_LIST, 0),
                 3 => list.push(0),
-                _ if list.is_empty() => list.push(rng.pick(&[1, 512, u32::MAX])),
+                _ if list.is_empty() => list.push(rng.pick(&[1, MAX_SIDE, u32::MAX])),
                 _ => {
                     let at = rng.below(list.len());
                     list[at] = match rng.below(3) {
-                        0 => rng.pick(&[512, 513, 1 << 31, u32::MAX]),
+                        0 => rng.pick(&[MAX_SIDE, MAX_SIDE + 1, 1 << 31, u32::MAX]),
                         1 => list[at].wrapping_add(1),
                         _ => rng.between(0, 12),
                     };
@@ -200,15 +206,16 @@ pub fn damage(rng: &mut Rng, words: &mut Vec<u32>) {
     match rng.below(16) {
         0 => words.truncate(rng.below(words.len())),
         1 => words[0] = rng.pick(&[0, 1, 3, u32::MAX]),
-        2 => words[1] = rng.pick(&[0, 513, u32::MAX, u32::MAX - 6, 1 << 31]),
-        3 => words[2] = rng.pick(&[0, 513, 1, 512, u32::MAX]),
+        2 => words[1] = rng.pick(&[0, MAX_SIDE + 1, u32::MAX, u32::MAX - 6, 1 << 31]),
+        3 => words[2] = rng.pick(&[0, MAX_SIDE + 1, 1, MAX_SIDE, u32::MAX]),
         4 => words[3] = words[3].wrapping_add(rng.pick(&[1, u32::MAX])),
         5 => words[4] = rng.pick(&[1, u32::MAX]),
         6 => *words = too_large(rng),
         7 if 5 + rows < words.len() => {
             // N alone, with the sum of sizes wrapping for some of the choices.
             let n = words[5 + rows];
-            words[5 + rows] = rng.pick(&[n.wrapping_add(1), n.wrapping_sub(1), 1 << 31, u32::MAX, 2049]);
+            words[5 + rows] =
+                rng.pick(&[n.wrapping_add(1), n.wrapping_sub(1), 1 << 31, u32::MAX, MAX_ENTRIES as u32 + 1]);
         }
         8 if 5 + rows < words.len() => {
             let second = (6 + rows).saturating_add(words[5 + rows] as usize);
@@ -229,7 +236,7 @@ pub fn damage(rng: &mut Rng, words: &mut Vec<u32>) {
                     0 => cols,
                     1 => words[at - 1],
                     2 => words[at].wrapping_sub(1),
-                    _ => rng.pick(&[u32::MAX, 512, 0]),
+                    _ => rng.pick(&[u32::MAX, MAX_SIDE, 0]),
                 };
             }
         }
@@ -243,9 +250,9 @@ pub fn damage(rng: &mut Rng, words: &mut Vec<u32>) {
 /// A sheet that is in order but for its size.
 fn too_large(rng: &mut Rng) -> Vec<u32> {
     let (rows, cols, entries) = match rng.below(3) {
-        0 => (513, rng.between(1, 4), 3),
-        1 => (rng.between(1, 4), 513, 3),
-        _ => (rng.between(46, 60), rng.between(46, 60), 2049),
+        0 => (MAX_SIDE + 1, rng.between(1, 4), 3),
+        1 => (rng.between(1, 4), MAX_SIDE + 1, 3),
+        _ => (rng.between(46, 60), rng.between(46, 60), MAX_ENTRIES + 1),
     };
     grid_of(rng, rows, cols, entries).words()
 }

@@ -2,7 +2,7 @@
 
 use crate::calls::*;
 use crate::generate::*;
-use crate::grid::{Grid, MAX_ENTRIES};
+use crate::grid::{Grid, MAX_ENTRIES, MAX_SIDE};
 use crate::model::{Sheets, SOUND};
 use crate::rng::Rng;
 
@@ -16,21 +16,22 @@ pub fn lent_call(rng: &mut Rng) -> LentCall {
                 let side = side.copied().unwrap_or(1).min(600);
                 match rng.below(10) {
                     0 => side,
-                    1 => rng.pick(&[u32::MAX, 512, side + 1]),
+                    1 => rng.pick(&[u32::MAX, MAX_SIDE, side + 1]),
                     _ => rng.below(side as usize) as u32,
                 }
             };
             let (i, j) = (near(rng, words.get(1)), near(rng, words.get(2)));
             LentCall::ReadCell { words, i, j }
         }
+        19..=24 => row_view(rng),
         _ => LentCall::Operation(operation_call(rng)),
     }
 }
 
 fn lone_buffer(rng: &mut Rng) -> Vec<u32> {
     let (rows, cols) = (side(rng), side(rng));
-    let entries = rng.pick(&[2047, 2048, 2048]);
-    let grid = if rng.once_in(60) { grid_of(rng, 512, 512, entries) } else { grid(rng, rows, cols) };
+    let entries = rng.pick(&[MAX_ENTRIES - 1, MAX_ENTRIES, MAX_ENTRIES]);
+    let grid = if rng.once_in(60) { grid_of(rng, MAX_SIDE, MAX_SIDE, entries) } else { grid(rng, rows, cols) };
     let mut words = sheet(rng, &grid);
     if rng.percent(45) {
         damage(rng, &mut words);
@@ -38,10 +39,37 @@ fn lone_buffer(rng: &mut Rng) -> Vec<u32> {
     words
 }
 
+/// Mostly two valid sheets of one shape, with many empty rows.
+fn row_view(rng: &mut Rng) -> LentCall {
+    let (rows, cols) = (side(rng), side(rng));
+    let sheet_of = |rng: &mut Rng| {
+        let rows = if rng.once_in(12) { side(rng) } else { rows };
+        let cols = if rng.once_in(12) { side(rng) } else { cols };
+        let grid = match rng.below(4) {
+            0 => grid(rng, rows, cols),
+            _ => {
+                let entries = rng.below((2 * rows as usize).min(rows as usize * cols as usize) + 1);
+                grid_of(rng, rows, cols, entries)
+            }
+        };
+        let mut words = sheet(rng, &grid);
+        if rng.once_in(12) {
+            damage(rng, &mut words);
+        }
+        words
+    };
+    let (first, second) = (sheet_of(rng), sheet_of(rng));
+    let i = match rng.below(12) {
+        0 => rng.pick(&[rows, rows + 1, u32::MAX]),
+        _ => rng.below(rows as usize) as u32,
+    };
+    LentCall::RowView { first, second, i, values: rng.pick(&[0, 0, 0, 1, 1, u32::MAX]) }
+}
+
 fn new_empty(rng: &mut Rng) -> LentCall {
     let any_side = |rng: &mut Rng| match rng.below(10) {
-        0 => rng.pick(&[0, 512, 513, u32::MAX, 1 << 31]),
-        1 => rng.pick(&[511, 512, 512]),
+        0 => rng.pick(&[0, MAX_SIDE, MAX_SIDE + 1, u32::MAX, 1 << 31]),
+        1 => rng.pick(&[MAX_SIDE - 1, MAX_SIDE, MAX_SIDE]),
         _ => rng.between(1, 20),
     };
     let (rows, cols) = (any_side(rng), any_side(rng));
@@ -175,10 +203,10 @@ fn c_buffer(rng: &mut Rng, c: &Grid, needed: usize) -> Vec<u32> {
 /// A T of up to 262,144 entries.
 fn outer_product(rng: &mut Rng, mut options: Options) -> LentOperation {
     let k = rng.between(1, 4);
-    let m = rng.between(64, 512);
+    let m = rng.between(64, MAX_SIDE);
     let mut operation = Operation::Mxm { monoid: rng.pick(&[3, 5, 6, 7]), op: rng.between(0, 7) };
     options.has_mask |= rng.percent(60);
-    let shapes = fit(rng, &mut operation, &options, [m, k, 512]);
+    let shapes = fit(rng, &mut operation, &options, [m, k, MAX_SIDE]);
     let a = grid_of(rng, shapes.a.0, shapes.a.1, MAX_ENTRIES);
     let b = grid_of(rng, shapes.b.0, shapes.b.1, MAX_ENTRIES);
     let mask = grid(rng, shapes.c.0, shapes.c.1);
@@ -188,7 +216,7 @@ fn outer_product(rng: &mut Rng, mut options: Options) -> LentOperation {
 
 /// A final C of 2,047 to 2,050 entries, as the union of old C and T or of both inputs.
 fn at_the_limit(rng: &mut Rng, mut operation: Operation, mut options: Options) -> LentOperation {
-    let wanted = rng.pick(&[2047, 2048, 2048, 2049, 2049, 2050]);
+    let wanted = entries_near_limit(rng);
     let strip = matches!(operation, Operation::Vxm { .. });
     if strip {
         operation = Operation::EwiseAdd { op: rng.between(0, 7) };
@@ -274,12 +302,12 @@ fn spoil(rng: &mut Rng, call: &mut LentOperation) {
             let role = rng.below(4);
             let words = if role == 3 { &mut call.c } else { &mut call.inputs[role] };
             let (rows, cols) = match (words.get(1), words.get(2)) {
-                (Some(&rows), Some(&cols)) if rows <= 512 && cols <= 512 => (rows.max(1), cols.max(1)),
+                (Some(&rows), Some(&cols)) if rows <= MAX_SIDE && cols <= MAX_SIDE => (rows.max(1), cols.max(1)),
                 _ => (1, 1),
             };
             let (rows, cols) = match rng.below(4) {
-                0 => (rows, (cols + 1).min(512)),
-                1 => ((rows + 1).min(512), cols),
+                0 => (rows, (cols + 1).min(MAX_SIDE)),
+                1 => ((rows + 1).min(MAX_SIDE), cols),
                 2 => (cols, rows),
                 _ => (rows, (cols - 1).max(1)),
             };

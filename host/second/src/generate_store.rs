@@ -3,13 +3,13 @@
 use crate::calls::*;
 use crate::fault::Fault;
 use crate::generate::*;
-use crate::grid::Grid;
+use crate::grid::{Grid, MAX_ENTRIES, MAX_SIDE};
 use crate::model::{Sheets, SOUND};
 use crate::rng::Rng;
 use crate::wall::{StoreState, Wall, MAX_STORE, SLOTS};
 
 pub fn store_list(rng: &mut Rng) -> StoreList {
-    let sides = [1, side(rng).min(rng.pick(&[12, 512])), side(rng).min(40)];
+    let sides = [1, side(rng).min(rng.pick(&[12, MAX_SIDE])), side(rng).min(40)];
     let mut store = first_store(rng, &sides);
     let is_fresh = store.iter().all(|&word| word == 0);
     let mut state = StoreState::new(&store, Fault::None);
@@ -72,11 +72,11 @@ fn prepared(rng: &mut Rng, sides: &[u32; 3]) -> Vec<u32> {
         }
         let grid = match rng.below(40) {
             0 => {
-                let entries = rng.pick(&[2046, 2047, 2048]);
+                let entries = rng.pick(&[MAX_ENTRIES - 2, MAX_ENTRIES - 1, MAX_ENTRIES]);
                 let (rows, cols) = (rng.between(46, 60), rng.between(46, 60));
                 grid_of(rng, rows, cols, entries)
             }
-            1 => grid_of(rng, 512, 512, 2048),
+            1 => grid_of(rng, MAX_SIDE, MAX_SIDE, MAX_ENTRIES),
             _ => {
                 let (rows, cols) = (rng.pick(sides), rng.pick(sides));
                 grid(rng, rows, cols)
@@ -96,7 +96,7 @@ fn prepared(rng: &mut Rng, sides: &[u32; 3]) -> Vec<u32> {
 fn near_most_entries(rng: &mut Rng) -> Vec<u32> {
     let mut wall = Wall::fresh(MAX_STORE);
     let side = rng.between(46, 60);
-    let wanted = rng.pick(&[2047, 2048, 2048, 2049, 2049, 2050]);
+    let wanted = entries_near_limit(rng);
     let (left, right) = two_parts(rng, (side, side), wanted);
     let entries = rng.below(100);
     let third = grid_of(rng, side, side, entries);
@@ -182,7 +182,7 @@ fn next_calls(rng: &mut Rng, wall: Option<&Wall>, sides: &[u32; 3]) -> Vec<Store
     let (rows, cols) = grid_in(wall, named).map_or((3, 3), Grid::shape);
     let near = |rng: &mut Rng, side: u32| match rng.below(60) {
         0 => side,
-        1 => rng.pick(&[u32::MAX, 512, side + 1]),
+        1 => rng.pick(&[u32::MAX, MAX_SIDE, side + 1]),
         _ => rng.below(side as usize) as u32,
     };
     let (i, j) = (near(rng, rows), near(rng, cols));
@@ -200,7 +200,7 @@ fn lay(rng: &mut Rng, wall: Option<&Wall>, sides: &[u32; 3]) -> StoreCall {
     let slot = if rng.percent(75) { rng.below(SLOTS) } else { slot(rng, wall) };
     let (mut rows, mut cols) = (rng.pick(sides), rng.pick(sides));
     if rng.once_in(15) {
-        let odd = rng.pick(&[0, 512, 512, 513, u32::MAX]);
+        let odd = rng.pick(&[0, MAX_SIDE, MAX_SIDE, MAX_SIDE + 1, u32::MAX]);
         if rng.percent(50) {
             rows = odd;
         } else {

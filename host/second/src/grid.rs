@@ -5,6 +5,7 @@ use std::collections::BTreeMap;
 
 pub const MAX_SIDE: u32 = 512;
 pub const MAX_ENTRIES: usize = 2048;
+pub const MAX_LIST: usize = 512;
 
 #[derive(Clone, PartialEq, Eq, Debug)]
 pub struct Grid {
@@ -29,6 +30,24 @@ impl Grid {
     /// The number of words of its sheet.
     pub fn size(&self) -> usize {
         self.rows as usize + 2 * self.cells.len() + 7
+    }
+
+    /// The words before the column numbers, and before the values.
+    pub fn columns_at(&self) -> usize {
+        self.rows as usize + 6
+    }
+
+    pub fn values_at(&self) -> usize {
+        self.columns_at() + self.cells.len() + 1
+    }
+
+    /// The entries of row i, and of the rows before it.
+    pub fn in_row(&self, i: u32) -> usize {
+        self.cells.keys().filter(|(row, _)| *row == i).count()
+    }
+
+    pub fn before_row(&self, i: u32) -> usize {
+        self.cells.keys().filter(|(row, _)| *row < i).count()
     }
 
     pub fn transposed(&self) -> Self {
@@ -72,7 +91,7 @@ impl Grid {
             return None;
         }
         let (rows, cols) = (word(1)?, word(2)?);
-        if !is_side(rows, fault) || !is_side(cols, fault) || !is_width(cols, fault) {
+        if !is_shape(rows, cols, fault) {
             return None;
         }
         if word(3)? != rows + 1 {
@@ -81,7 +100,7 @@ impl Grid {
         let height = rows as usize;
         let starts = words.get(4..5 + height)?;
         let entries = word(5 + height)? as usize;
-        if entries > MAX_ENTRIES + usize::from(fault == Fault::Entries2049Accepted) {
+        if entries > MAX_ENTRIES + usize::from(fault == Fault::MoreEntriesAccepted) {
             return None;
         }
         let columns = words.get(6 + height..6 + height + entries)?;
@@ -127,15 +146,15 @@ impl Grid {
     }
 }
 
-/// Whether a number of rows or columns is from 1 to 512.
-pub fn is_side(side: u32, fault: Fault) -> bool {
-    let most = MAX_SIDE + u32::from(fault == Fault::Rows513Accepted);
-    (1..=most).contains(&side)
-}
-
-/// Whether a number of columns is allowed beyond `is_side`.
-pub fn is_width(cols: u32, fault: Fault) -> bool {
-    !(fault == Fault::Columns512Refused && cols == MAX_SIDE)
+/// Whether the numbers of rows and of columns are from 1 to the largest.
+pub fn is_shape(rows: u32, cols: u32, fault: Fault) -> bool {
+    let most_rows = MAX_SIDE + u32::from(fault == Fault::MoreRowsAccepted);
+    let most_cols = match fault {
+        Fault::MoreColumnsAccepted => MAX_SIDE + 1,
+        Fault::MostColumnsRefused => MAX_SIDE - 1,
+        _ => MAX_SIDE,
+    };
+    (1..=most_rows).contains(&rows) && (1..=most_cols).contains(&cols)
 }
 
 #[cfg(test)]

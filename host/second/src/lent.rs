@@ -3,7 +3,7 @@
 use crate::calls::*;
 use crate::fault::Fault;
 use crate::grid::Grid;
-use crate::model::{side_buffers, Model, Sheets};
+use crate::model::{Model, Sheets};
 
 const ORDER: [u32; 11] = [1, 2, 3, 4, 5, 6, 7, 8, 9, 10, 11];
 
@@ -26,8 +26,27 @@ impl Model {
                 };
                 one_buffer(answer, words.clone())
             }
+            LentCall::RowView { first, second, i, values } => {
+                let buffers = [("first", first), ("second", second)].map(|(name, words)| self.read_only(name, words));
+                Outcome { answer: self.row_view(first, second, *i, *values != 0), buffers: buffers.into() }
+            }
             LentCall::Operation(call) => self.lent_operation(call),
         }
+    }
+
+    /// The part of row i that is shown: column numbers or values.
+    fn row_view(&self, first: &[u32], second: &[u32], i: u32, values: bool) -> u64 {
+        let (Some(a), Some(b)) = (Grid::read(first, self.fault), Grid::read(second, self.fault)) else {
+            return part_answer(false, 0, 0);
+        };
+        let shapes_differ = a.shape() != b.shape() && !self.has(Fault::ViewOfOtherShapes);
+        if shapes_differ || i >= a.rows {
+            return part_answer(false, 0, 0);
+        }
+        let in_second = a.in_row(i) == 0 && !self.has(Fault::ViewOfFirstOnly);
+        let shown = if in_second { &b } else { &a };
+        let section = if values != self.has(Fault::ViewOtherSection) { shown.values_at() } else { shown.columns_at() };
+        part_answer(in_second, section + shown.before_row(i), shown.in_row(i))
     }
 
     fn lent_new_empty(&self, words: &[u32], rows: u32, cols: u32) -> Outcome {
@@ -52,10 +71,10 @@ impl Model {
         let (answer, c) = self.lent_answer(call);
         let mut buffers = Vec::new();
         for (number, words) in call.inputs.iter().enumerate() {
-            buffers.push(Buffer::new(&format!("input {number}"), words.clone()));
+            buffers.push(self.read_only(&format!("input {number}"), words));
         }
         buffers.push(Buffer::new("C", c));
-        buffers.extend(side_buffers(&call.operation, self.work_after(&call.work, answer)));
+        buffers.extend(self.side_buffers(&call.operation, &call.work, answer));
         Outcome { answer, buffers }
     }
 

@@ -71,6 +71,11 @@ pub fn lent(call: &LentCall) -> Outcome {
             let answer = library::read_cell(*i, *j, buffer.words());
             Outcome { answer, buffers: vec![buffer.returned()] }
         }
+        LentCall::RowView { first, second, i, values } => {
+            let (first, second) = (Lent::new("first", first), Lent::new("second", second));
+            let answer = library::row_view(*i, *values, first.words(), second.words());
+            Outcome { answer, buffers: vec![first.returned(), second.returned()] }
+        }
         LentCall::Operation(call) => lent_operation(call),
     }
 }
@@ -125,4 +130,19 @@ pub fn store(words: &mut Vec<u32>, call: &StoreCall) -> Outcome {
     let mut buffers = vec![store];
     buffers.extend(others);
     Outcome { answer, buffers }
+}
+
+#[cfg(test)]
+mod tests {
+    use super::*;
+
+    #[test]
+    fn words_written_beside_a_buffer_are_noticed() {
+        assert!(!Lent::new("buffer", &[1, 2, 3]).returned().overrun);
+        for at in [0, GUARDS - 1, GUARDS + 3, 2 * GUARDS + 2] {
+            let mut lent = Lent::new("buffer", &[1, 2, 3]);
+            lent.words[at] = 0;
+            assert!(lent.returned().overrun);
+        }
+    }
 }

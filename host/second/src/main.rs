@@ -1,38 +1,13 @@
-//! An independent second program: document 01 written again in plain Rust, from the papers and not
-//! from the library's code, compared with the library on random calls. After each call the answer
-//! and every word of every lent buffer are held against the model's.
+//! Compares the library with the model on random calls; the crate says how.
 //!
-//! `calls` says what a call is; `operators`, `grid`, `model`, `lent` and `wall` are the model, with
-//! places for the planted faults of `fault`; `generate*` makes calls; `ffi` and `library` carry them
-//! out; `compare` finds differences; `shrink` and `describe` show a small failing case.
-//!
-//! The library is made by `rt staticlib exports` in the repository's root; then
-//! `cargo run --release -- --seed 1 --calls 200000` compares.
+//! `cargo run --release -p second -- --seed 1 --calls 200000` compares.
 
-mod calls;
-mod compare;
-mod describe;
-mod fault;
-mod ffi;
-mod generate;
-mod generate_lent;
-mod generate_store;
-mod grid;
-mod lent;
-mod library;
-mod model;
-mod operators;
-mod rng;
-mod shrink;
-mod wall;
-#[cfg(test)]
-mod worked_sheets;
-
-use calls::{code_of, LentCall, StoreList};
-use compare::{judge_lent, judge_list, see_lent, see_list, Seen};
-use fault::Fault;
-use model::{Model, SOUND};
-use rng::Rng;
+use second::calls::{answers_of, code_of, Answers, LentCall, StoreList};
+use second::compare::{judge_lent, judge_list, see_lent, see_list, Seen};
+use second::fault::{self, Fault};
+use second::model::{Model, SOUND};
+use second::rng::Rng;
+use second::{describe, generate_lent, generate_store, shrink};
 use std::collections::{BTreeMap, BTreeSet};
 use std::process::ExitCode;
 use std::time::Instant;
@@ -118,7 +93,10 @@ struct Counts(BTreeMap<&'static str, Count>);
 
 impl Counts {
     fn add(&mut self, seen: &Seen) {
-        let code = code_of(seen.outcome.answer);
+        let code = match answers_of(seen.name) {
+            Answers::Part => 0,
+            _ => code_of(seen.outcome.answer),
+        };
         let count = self.0.entry(seen.name).or_default();
         *count.codes.entry(code).or_default() += 1;
         if let (0, Some((flags, numbers))) = (code, seen.chosen) {
@@ -141,7 +119,8 @@ impl Counts {
                 0 => String::new(),
                 _ => format!(" ({flags} sums of flags, {numbers} choices of operators)"),
             };
-            println!("  {name}: accepted {accepted}{chosen}; refused {}", refused.join(", "));
+            let refused = if refused.is_empty() { "none".to_string() } else { refused.join(", ") };
+            println!("  {name}: accepted {accepted}{chosen}; refused {refused}");
         }
     }
 }

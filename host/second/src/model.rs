@@ -2,7 +2,7 @@
 
 use crate::calls::*;
 use crate::fault::Fault;
-use crate::grid::{is_side, is_width, Grid, MAX_ENTRIES};
+use crate::grid::{is_shape, Grid, MAX_ENTRIES, MAX_LIST};
 use crate::operators::{binary, index_unary, is_binary, is_index_unary, is_monoid, is_unary, unary};
 use std::collections::{BTreeMap, BTreeSet};
 
@@ -241,9 +241,9 @@ impl Model {
         };
         let a = a.transposed_if(options.has(TRANSPOSE_FIRST) && !self.has(Fault::IndexAsStored));
         let longest = match self.fault {
-            Fault::ListOf512Refused => 511,
-            Fault::ListOf513Accepted => 513,
-            _ => 512,
+            Fault::LongestListRefused => MAX_LIST - 1,
+            Fault::LongerListAccepted => MAX_LIST + 1,
+            _ => MAX_LIST,
         };
         let bad =
             |list: &[u32], side: u32| !(1..=longest).contains(&list.len()) || list.iter().any(|&index| index >= side);
@@ -270,10 +270,10 @@ impl Model {
     /// Whether refusal 10 applies.
     pub fn has_too_many(&self, result: &Final) -> bool {
         let entries = match self.fault {
-            Fault::TenOfT => result.entries_of_t,
+            Fault::TenOfT => result.grid.cells.len().max(result.entries_of_t),
             _ => result.grid.cells.len(),
         };
-        entries > MAX_ENTRIES - usize::from(self.has(Fault::EntriesBelow2048))
+        entries > MAX_ENTRIES - usize::from(self.has(Fault::MostEntriesRefused))
     }
 
     pub fn count(&self, result: &Final) -> usize {
@@ -284,7 +284,7 @@ impl Model {
     }
 
     pub fn is_shape(&self, rows: u32, cols: u32) -> bool {
-        is_side(rows, self.fault) && is_side(cols, self.fault) && is_width(cols, self.fault)
+        is_shape(rows, cols, self.fault)
     }
 
     /// The refusal that is given of those that apply, in the order of the table.
@@ -303,7 +303,7 @@ impl Model {
             Fault::Code10Before9 => Some((10, 9)),
             Fault::Code11Before10 => Some((11, 10)),
             Fault::StoreCode1Before12 if on_store => Some((1, 12)),
-            Fault::StoreCode2Before12 if on_store => Some((2, 12)),
+            Fault::StoreCode2Before12 if on_store && !applying.contains(&1) => Some((2, 12)),
             Fault::StoreCode13Before2 if on_store => Some((13, 2)),
             Fault::StoreCode7Before13 if on_store => Some((7, 13)),
             Fault::StoreCode9Before13 if on_store => Some((9, 13)),
@@ -318,8 +318,28 @@ impl Model {
         order.into_iter().find(|code| applying.contains(code))
     }
 
+    /// The words of an input or an index list after a call.
+    pub fn read_only(&self, name: &str, words: &[u32]) -> Buffer {
+        let mut words = words.to_vec();
+        let fault = if name.starts_with("list") { Fault::ListWordChanged } else { Fault::InputWordChanged };
+        if let (true, Some(word)) = (self.has(fault), words.last_mut()) {
+            *word = word.wrapping_add(1);
+        }
+        Buffer::new(name, words)
+    }
+
+    /// The work buffer and the index lists after a call with this answer.
+    pub fn side_buffers(&self, operation: &Operation, work: &Work, answer: u64) -> Vec<Buffer> {
+        let mut buffers = vec![Buffer::new("work buffer", self.work_after(work, answer))];
+        if let Operation::Extract { rows, cols } = operation {
+            buffers.push(self.read_only("list I", rows));
+            buffers.push(self.read_only("list J", cols));
+        }
+        buffers
+    }
+
     /// The work buffer after a call with this answer.
-    pub fn work_after(&self, work: &Work, answer: u64) -> Vec<u32> {
+    fn work_after(&self, work: &Work, answer: u64) -> Vec<u32> {
         if self.has(Fault::WorkKeptOnRefusal) && code_of(answer) != 0 {
             return work.words();
         }
@@ -344,14 +364,4 @@ fn extracted(a: &Grid, rows: &[u32], cols: &[u32]) -> BTreeMap<(u32, u32), i32> 
         }
     }
     cells
-}
-
-/// The work buffer and the index lists of an operation after the call.
-pub fn side_buffers(operation: &Operation, work: Vec<u32>) -> Vec<Buffer> {
-    let mut buffers = vec![Buffer::new("work buffer", work)];
-    if let Operation::Extract { rows, cols } = operation {
-        buffers.push(Buffer::new("list I", rows.clone()));
-        buffers.push(Buffer::new("list J", cols.clone()));
-    }
-    buffers
 }

@@ -37,6 +37,17 @@ pub fn store_list(list: StoreList, fails: impl Fn(&StoreList) -> bool) -> StoreL
     shrink(list, smaller_lists, fails)
 }
 
+fn smaller_row_views(first: &[u32], second: &[u32], i: u32, values: u32) -> Vec<LentCall> {
+    let call = |first: Vec<u32>, second: Vec<u32>, i| LentCall::RowView { first, second, i, values };
+    let mut calls: Vec<LentCall> =
+        smaller_lone_sheets(first).into_iter().map(|first| call(first, second.to_vec(), i)).collect();
+    calls.extend(smaller_lone_sheets(second).into_iter().map(|second| call(first.to_vec(), second, i)));
+    if i > 0 {
+        calls.push(call(first.to_vec(), second.to_vec(), i - 1));
+    }
+    calls
+}
+
 fn smaller_calls(call: &LentCall) -> Vec<LentCall> {
     match call {
         LentCall::Check { words } => {
@@ -54,6 +65,7 @@ fn smaller_calls(call: &LentCall) -> Vec<LentCall> {
             }
             calls
         }
+        LentCall::RowView { first, second, i, values } => smaller_row_views(first, second, *i, *values),
         LentCall::NewEmpty { words, rows, cols } => {
             let (rows, cols) = (*rows, *cols);
             let cuts = shorter(words.len()).into_iter();

@@ -3,7 +3,7 @@
 use crate::calls::*;
 use crate::fault::Fault;
 use crate::grid::{Grid, MAX_ENTRIES};
-use crate::model::{side_buffers, Model, Sheets};
+use crate::model::{Model, Sheets};
 
 pub const SLOTS: usize = 8;
 pub const MAX_STORE: usize = 16_384;
@@ -56,8 +56,8 @@ impl Wall {
 
     /// The wall that the words are the writing of, if they are a store.
     pub fn read(words: &[u32], fault: Fault) -> Option<Self> {
-        let least = SLOTS + usize::from(fault == Fault::StoreOf8Refused);
-        let most = MAX_STORE + usize::from(fault == Fault::Store16385Accepted);
+        let least = SLOTS + usize::from(fault == Fault::ShortestStoreRefused);
+        let most = MAX_STORE + usize::from(fault == Fault::LongerStoreAccepted);
         if !(least..=most).contains(&words.len()) {
             return None;
         }
@@ -111,7 +111,7 @@ impl Model {
         }
         let mut buffers = vec![Buffer::new("store", state.words.clone())];
         if let StoreCall::Operation(call) = call {
-            buffers.extend(side_buffers(&call.operation, self.work_after(&call.work, answer)));
+            buffers.extend(self.side_buffers(&call.operation, &call.work, answer));
         }
         Outcome { answer, buffers }
     }
@@ -221,8 +221,8 @@ impl Model {
             applying.push(12);
             return counted(self.first_refusal(&applying, &ORDER).unwrap_or(0), 0);
         };
-        if self.has(Fault::EmptyMaskAccepted) {
-            roles.retain(|&slot| slot != call.mask || wall.slots[slot].is_some());
+        if self.has(Fault::EmptyMaskAccepted) && options.has_mask && wall.slots[call.mask].is_none() {
+            roles.pop();
         }
         if roles.iter().any(|&slot| wall.slots[slot].is_none()) {
             applying.push(13);

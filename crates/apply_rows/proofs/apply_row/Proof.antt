@@ -61,8 +61,9 @@ loop-less c = omega arith
 
 loop-again : tie.Need-loop-again Inv-loop μ-loop
 loop-again c =
-    let p = start (turn c .before) .pre in
-    applying-step (p .0) (turn c .before .loop .inv) (turn c .loop-test .taken) (p .1 .0) (p .1 .1) (c .apply-stored .ensures)
+    let t = turn c in
+    let p = start (t .before) .pre in
+    applying-step (p .0) (t .before .loop .inv) (t .loop-test .taken) (p .1 .0) (p .1 .1) (c .apply-stored .ensures)
 
 same-length : tie.Need-same-length Inv-loop μ-loop
 same-length c = c .before .loop .inv .long-cols

@@ -12,7 +12,9 @@ binary-known-requires : tie.Need-binary-known-requires
 binary-known-requires c κs = search needs
 
 returns-2 : tie.Need-returns-2
-returns-2 c = c .binary-known .ensures ∙ rw (not-false (c .before .before .args .options .«has_accumulator») (c .before .if1 .left))
+returns-2 c =
+    c .binary-known .ensures
+    ∙ rw (not-false (c .before .before .args .options .«has_accumulator») (c .before .if1 .left))
 
 pub accumulator-known-spec : {M : Type 1} → statement M
 accumulator-known-spec = tie.close (tie.spec returns binary-known-requires returns-2)

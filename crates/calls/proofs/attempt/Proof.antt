@@ -9,10 +9,15 @@ use borrow.Author.Needs.{needs}
 use Rattle.calls.proofs.attempt.Statement.{statement}
 use Rattle.calls.proofs.attempt.Tie as tie
 
--- past the first test no refusal of the inputs applies
+-- where the function starts, from the place past its first test
 abbrev start : tie.Else1 → tie.Start
 start q = q .before .before .before .before .before .before .before .before .before .before
 
+-- past the first test, from where the final C is worked out
+abbrev passed : tie.After-compute → tie.Else1
+passed o = o .before .before .before
+
+-- past the first test no refusal of the inputs applies
 none-applies : (q : tie.Else1)
     → inputRefusal (start q .args .call) (now (start q .args .a)) (now (start q .args .b)) (now (start q .args .mask))
     (now (start q .args .c)) (now (start q .args .is)) (now (start q .args .js)) (length (now (start q .args .work))) ≡ 0
@@ -41,9 +46,9 @@ enum-known-outcome c = search needs
 commit-requires : tie.Need-commit-requires
 commit-requires c κs =
     let o = c .before .before .before .before .before .before .before in
-    let h = ready-of _ _ _ _ _ _ _ _ (none-applies (o .before .before .before)) in
+    let h = ready-of _ _ _ _ _ _ _ _ (none-applies (passed o)) in
     let f = rw (c .before .before .before .outcome .given .1) at (o .compute .ensures) in
-    let x = start (o .before .before .before) .args in
+    let x = start (passed o) .args in
     let fits =
     size-fits (x .call) (now (x .a)) (now (x .b)) (now (x .mask)) (now (x .c)) (now (x .is)) (now (x .js)) _ (f .0)
     (o .compute .last .1 .1 .1 .1 .1 .1 .1 .0) (f .2) in
@@ -58,7 +63,7 @@ same-length-3 c = search needs
 returns-2 : tie.Need-returns-2
 returns-2 c =
     let o = c .before .before .before .before in
-    attempted-full _ _ _ _ _ _ _ _ (none-applies (o .before .before .before)) (rw (c .enum-told .given .1) at (o .compute .ensures))
+    attempted-full _ _ _ _ _ _ _ _ (none-applies (passed o)) (rw (c .enum-told .given .1) at (o .compute .ensures))
 
 same-length-4 : tie.Need-same-length-4
 same-length-4 c = search needs
@@ -71,7 +76,7 @@ returns-3 c =
     let q = c .before .before in
     let o = q .before .before .before .before .before .before .before .before in
     let f = rw (q .before .before .before .before .outcome .given .1) at (o .compute .ensures) in
-    attempted-done _ _ _ _ _ _ _ _ (none-applies (o .before .before .before)) _ _ _ _ (f .0) (f .1) (f .2)
+    attempted-done _ _ _ _ _ _ _ _ (none-applies (passed o)) _ _ _ _ (f .0) (f .1) (f .2)
     (q .commit .ensures)
 
 pub attempt-spec : {M : Type 1} → statement M

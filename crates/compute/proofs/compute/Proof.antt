@@ -1,32 +1,62 @@
 -- `compute` brings the inputs into place and works through the rows.
 use native.Mathlib.Omega.{arith}
-use Prim.Native.Nat.{_*_}
+use Prim.Native.Nat.{ℕ, _*_}
 use denote.Ref.{now}
 use borrow.Rule.Slice.PartMut.{putMid}
 use mathlib.Core.Path.{_≡_, _∙_}
-use lib.ListN.{length}
+use mathlib.Core.List.{List}
+use lib.ListN.{length, take, drop}
 use Rattle.matrix.specs.Layout.{maxMatrixWords}
 use Rattle.compute.proofs.Sources.{region-long, length₁, regions-length, sources-made, second-there}
 use borrow.Author.Needs.{needs}
 use Rattle.compute.proofs.compute.Statement.{statement}
 use Rattle.compute.proofs.compute.Tie as tie
 
+-- where the function starts, from where the first input is to be brought into place
+abbrev start : tie.After-orient-arg → tie.Start
+start c = c .before .before .before .before .before .before .before .before .before
+
+-- where the first input is in place, from where the second is too
+abbrev oriented : tie.After-orient2 → tie.After-orient
+oriented q = q .before .before .before .before .before
+
+-- the workspace at the start, and the two regions as `orient` leaves them
+abbrev work : tie.After-orient → List ℕ
+work o = now (start (o .before) .args .work)
+
+abbrev first : tie.After-orient → List ℕ
+first o = o .orient .last .1 .1 .0
+
+abbrev second : tie.After-orient2 → List ℕ
+second q = q .orient2 .last .1 .1 .0
+
+-- the workspace with the first region in place, and with both
+abbrev one : tie.After-orient → List ℕ
+one o = putMid maxMatrixWords maxMatrixWords (work o) (first o)
+
+abbrev both : tie.After-orient2 → List ℕ
+both q = putMid (2 * maxMatrixWords) maxMatrixWords (one (oriented q)) (second q)
+
 -- the regions keep their lengths
-abbrev start : tie.After-orient → tie.Start
-start o = o .before .before .before .before .before .before .before .before .before .before
-
-first-long : (o : tie.After-orient) → length (o .orient .last .1 .1 .0) ≡ maxMatrixWords
+first-long : (o : tie.After-orient) → length (first o) ≡ maxMatrixWords
 first-long o =
-    let p = start o .pre .1 in o .orient .kept .1 .1 .0 ∙ region-long maxMatrixWords (now (start o .args .work)) (omega arith)
+    let p = start (o .before) .pre .1 in
+    o .orient .kept .1 .1 .0 ∙ region-long maxMatrixWords (work o) (omega arith)
 
-second-long : (q : tie.After-orient2) → length (q .orient2 .last .1 .1 .0) ≡ maxMatrixWords
-second-long q =
-    let o = q .before .before .before .before .before in
-    let p = start o .pre .1 in
-    let y = o .orient .last .1 .1 .0 in
+second-lent : (o : tie.After-orient) → length (take maxMatrixWords (drop (2 * maxMatrixWords) (one o))) ≡ maxMatrixWords
+second-lent o =
+    let p = start (o .before) .pre .1 in
     let e = first-long o in
-    let d = length₁ (now (start o .args .work)) y y p e e in
-    q .orient2 .kept .1 .1 .0 ∙ region-long (2 * maxMatrixWords) (putMid maxMatrixWords maxMatrixWords (now (start o .args .work)) y) (omega arith)
+    region-long (2 * maxMatrixWords) (one o) (omega (arith, length₁ (work o) (first o) (first o) p e e))
+
+second-long : (q : tie.After-orient2) → length (second q) ≡ maxMatrixWords
+second-long q = q .orient2 .kept .1 .1 .0 ∙ second-lent (oriented q)
+
+-- and so does the workspace
+both-long : (q : tie.After-orient2) → length (both q) ≡ length (work (oriented q))
+both-long q =
+    let o = oriented q in
+    regions-length (work o) (first o) (second q) (start (o .before) .pre .1) (first-long o) (second-long q)
 
 transpose-first-requires : tie.Need-transpose-first-requires
 transpose-first-requires c κs = search needs
@@ -42,8 +72,10 @@ part-orient-end c = search needs
 
 orient-requires : tie.Need-orient-requires
 orient-requires c κs =
-    let p = c .before .before .before .before .before .before .before .before .before .pre in
-    ((λ e. p .0 .inputs .first), omega (arith, region-long maxMatrixWords (now (c .before .before .before .before .before .before .before .before .before .args .work)) (omega arith)))
+    let s = start c in (
+      (λ e. s .pre .0 .inputs .first),
+      omega (arith, region-long maxMatrixWords (now (s .args .work)) (omega arith)),
+    )
 
 second-flag-requires : tie.Need-second-flag-requires
 second-flag-requires c κs = search needs
@@ -60,39 +92,32 @@ part-orient-end-2 c = search needs
 orient-requires-2 : tie.Need-orient-requires-2
 orient-requires-2 c κs =
     let o = c .before .before .before .before in
-    let s = start o in
-    let e = first-long o in
-    let w = now (s .args .work) in
-    let y = o .orient .last .1 .1 .0 in (
+    let s = start (o .before) in (
       (λ t. s .pre .0 .inputs .second (second-there (s .args .call) _ (c .before .second-flag .ensures) t)),
-      omega (arith, region-long (2 * maxMatrixWords) (putMid maxMatrixWords maxMatrixWords w y) (omega (arith, length₁ w y y (s .pre .1) e e))),
+      omega (arith, second-lent o),
     )
 
 compute-rows-requires : tie.Need-compute-rows-requires
 compute-rows-requires c κs =
     let q = c .before .before .before in
-    let f = q .before .before in
-    let o = f .before .before .before in
-    let p = start o .pre in
-    let w = now (start o .args .work) in
-    let d = regions-length w (o .orient .last .1 .1 .0) (q .orient2 .last .1 .1 .0) (p .1) (first-long o) (second-long q) in
-    let r = o .before .before .transpose-first .ensures in (
+    let o = oriented q in
+    let p = start (o .before) .pre in
+    let i = p .0 .inputs in
+    let d = both-long q in
+    let r = o .before .before .transpose-first .ensures in
+    let f = q .before .before .second-flag .ensures in (
       p .0,
       (
-        sources-made w (o .orient .last .1 .1 .0) (q .orient2 .last .1 .1 .0) (p .1) (first-long o) (second-long q) _ _ _ _ _ _ _ r
-            (f .second-flag .ensures) (p .0 .inputs .first) (p .0 .inputs .second) (o .orient .ensures) (q .orient2 .ensures),
-        ((r, f .second-flag .ensures), omega arith),
+        sources-made (work o) (first o) (second q) (p .1) (first-long o) (second-long q) _ _ _ _ _ _ _ r f
+            (i .first) (i .second) (o .orient .ensures) (q .orient2 .ensures),
+        ((r, f), omega arith),
       ),
     )
 
 same-length : tie.Need-same-length
 same-length c =
     let s = c .before .before in
-    let q = s .before .before .before .before in
-    let o = q .before .before .before .before .before in
-    s .compute-rows .kept .1 .1 .1 .1 .1 .1 .1 .1 .1 .0
-    ∙ regions-length (now (start o .args .work)) (o .orient .last .1 .1 .0) (q .orient2 .last .1 .1 .0) (start o .pre .1) (first-long o)
-    (second-long q)
+    s .compute-rows .kept .1 .1 .1 .1 .1 .1 .1 .1 .1 .0 ∙ both-long (s .before .before .before .before)
 
 returns : tie.Need-returns
 returns c = c .before .before .compute-rows .ensures

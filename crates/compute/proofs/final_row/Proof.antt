@@ -14,13 +14,26 @@ use borrow.Author.Needs.{needs}
 use Rattle.compute.proofs.final_row.Statement.{statement}
 use Rattle.compute.proofs.final_row.Tie as tie
 
--- the inputs as they are read
+-- where the function starts, from where the inputs are chosen
 abbrev start : tie.After-choose2 → tie.Start
-start q = q .before .before .before .before .before .before .before .before .before .before .before .before .before .before .before
+start q =
+    q .before .before .before .before .before .before .before .before
+    .before .before .before .before .before .before .before
 
+-- where they are chosen, from the row of T
+abbrev chosen : tie.After-result-row → tie.After-choose2
+chosen s = s .before .before .before
+
+-- the row of T, from where it is to be written back
+abbrev made : tie.After-write-back-of → tie.After-result-row
+made c = c .before .before .before .before .before
+
+-- the inputs as they are read
 first-source : (q : tie.After-choose2)
     → Source (transposeFirst (start q .args .call)) (now (start q .args .a)) (now (q .before .before .choose .result))
-first-source q = first-read _ _ _ _ _ (q .before .before .choose .ensures) (start q .pre .1 .1 .0 .0) (start q .pre .1 .0 .first)
+first-source q =
+    let p = start q .pre in
+    first-read _ _ _ _ _ (q .before .before .choose .ensures) (p .1 .1 .0 .0) (p .1 .0 .first)
 
 second-held : (q : tie.After-choose2) → hasSecond (start q .args .call .operation) ≡ true
     → Source (transposeSecond (start q .args .call)) (now (start q .args .b)) (now (q .choose2 .result))
@@ -29,6 +42,17 @@ second-held q h =
     let p = start q .pre in
     second-read (a .call) (a .second) (now (a .b)) (secondRegion (now (a .work))) _ (q .choose2 .ensures) (p .1 .1 .0 .1)
     (p .1 .0 .second) h
+
+-- the row of T lies within its buffers
+row-fits : (s : tie.After-result-row) → let x = start (chosen s) .args in
+    (s .result-row .result ≤ length (now (x .tc))) × (s .result-row .result ≤ length (now (x .tv)))
+row-fits s =
+    let q = chosen s in
+    let p = start q .pre in
+    let b =
+    row-buffers _ _ _ _ _ _ _ _ _ (p .0) (first-source q) (second-held q) _ (p .1 .1 .0 .0) _ _ _ _ (p .1 .1 .1 .1 .1) in
+    let h = holds-most (s .result-row .ensures) in
+    (omega arith, omega arith)
 
 sub-choose : tie.Need-sub-choose
 sub-choose c = search needs
@@ -66,50 +90,27 @@ write-back-of-requires : tie.Need-write-back-of-requires
 write-back-of-requires c κs = search needs
 
 slice-reshare-prefix-write-row : tie.Need-slice-reshare-prefix-write-row
-slice-reshare-prefix-write-row c =
-    let s = c .before .before .before .before .before in
-    let q = s .before .before .before in
-    let p = start q .pre in
-    let b = row-buffers _ _ _ _ _ _ _ _ _ (p .0) (first-source q) (second-held q) _ (p .1 .1 .0 .0) _ _ _ _ (p .1 .1 .1 .1 .1) in
-    let h = holds-most (s .result-row .ensures) in
-    omega arith
+slice-reshare-prefix-write-row c = let f = row-fits (made c) in omega arith
 
 slice-aggregate-write-row : tie.Need-slice-aggregate-write-row
-slice-aggregate-write-row c =
-    let s = c .before .before .before .before .before .before in
-    let q = s .before .before .before in
-    let p = start q .pre in
-    let b = row-buffers _ _ _ _ _ _ _ _ _ (p .0) (first-source q) (second-held q) _ (p .1 .1 .0 .0) _ _ _ _ (p .1 .1 .1 .1 .1) in
-    let h = holds-most (s .result-row .ensures) in
-    simp length-take (omega arith)
+slice-aggregate-write-row c = let f = row-fits (made (c .before)) in simp length-take (omega arith)
 
 slice-reshare-prefix-write-row-2 : tie.Need-slice-reshare-prefix-write-row-2
-slice-reshare-prefix-write-row-2 c =
-    let s = c .before .before .before .before .before .before in
-    let q = s .before .before .before in
-    let p = start q .pre in
-    let b = row-buffers _ _ _ _ _ _ _ _ _ (p .0) (first-source q) (second-held q) _ (p .1 .1 .0 .0) _ _ _ _ (p .1 .1 .1 .1 .1) in
-    let h = holds-most (s .result-row .ensures) in
-    omega arith
+slice-reshare-prefix-write-row-2 c = let f = row-fits (made (c .before)) in omega arith
 
 slice-aggregate-write-row-2 : tie.Need-slice-aggregate-write-row-2
-slice-aggregate-write-row-2 c =
-    let s = c .before .before .before .before .before .before .before in
-    let q = s .before .before .before in
-    let p = start q .pre in
-    let b = row-buffers _ _ _ _ _ _ _ _ _ (p .0) (first-source q) (second-held q) _ (p .1 .1 .0 .0) _ _ _ _ (p .1 .1 .1 .1 .1) in
-    let h = holds-most (s .result-row .ensures) in
-    simp length-take (omega arith)
+slice-aggregate-write-row-2 c = let f = row-fits (made (c .before .before)) in simp length-take (omega arith)
 
 write-row-requires : tie.Need-write-row-requires
 write-row-requires c κs =
-    let s = c .before .before .before .before .before .before .before .before .before in
-    let q = s .before .before .before in
+    let w = c .before .before .before .before in
+    let s = made w in
+    let q = chosen s in
     let p = start q .pre in
     let k = p .0 .inputs .output .header .col-range .most in
     let b = p .1 .1 .1 .1 .1 in (
       old-row _ _ _ _ _ _ _ _ _ (p .0) (first-source q) (second-held q) _ (p .1 .1 .0 .0) _ _ _ _ (p .1 .1 .1 .1 .0)
-          (s .result-row .ensures) _ (c .before .before .before .before .write-back-of .ensures),
+          (s .result-row .ensures) _ (w .write-back-of .ensures),
       (omega arith, omega arith),
     )
 
@@ -127,12 +128,13 @@ same-length-4 c = search needs
 
 returns : tie.Need-returns
 returns c =
-    let w = c .before .before .before .before in
-    let s = w .before .before .before .before .before .before .before .before .before .before in
-    let q = s .before .before .before in
+    let r = c .before .before .before .before in
+    let w = r .before .before .before .before .before in
+    let s = made w in
+    let q = chosen s in
     let p = start q .pre in
     final-row _ _ _ _ _ _ _ _ _ (p .0) (first-source q) (second-held q) _ (p .1 .1 .0 .0) _ _ _ _ (p .1 .1 .1 .1 .0)
-    (s .result-row .ensures) _ (w .before .before .before .before .before .write-back-of .ensures) _ _ _ (w .write-row .ensures)
+    (s .result-row .ensures) _ (w .write-back-of .ensures) _ _ _ (r .write-row .ensures)
 
 pub final-row-spec : {M : Type 1} → statement M
 final-row-spec =

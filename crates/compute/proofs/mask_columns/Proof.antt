@@ -24,7 +24,9 @@ row-columns-requires c κs =
     (h .matrix .header, matrix-span _ (h .matrix) _ (h .row))
 
 returns-2 : tie.Need-returns-2
-returns-2 c = c .row-columns .ensures .words ∙ rw (not-false (c .before .before .before .args .masked) (c .before .if1 .left))
+returns-2 c =
+    c .row-columns .ensures .words
+    ∙ rw (not-false (c .before .before .before .args .masked) (c .before .if1 .left))
 
 pub mask-columns-spec : {M : Type 1} → statement M
 mask-columns-spec =

@@ -15,14 +15,16 @@ use Rattle.matrix.proofs.header_valid.Tie as tie
 add-if1 : tie.Need-add-if1
 add-if1 c = search needs
 
--- the tests of the shape have said that it is in range
-rows-known : (c : tie.Else4)
-    → InRange maxRows (rows (now (c .before .before .before .before .before .before .before .before .before .before .args .words)))
+-- where the function starts, from the place past the tests of the shape
+abbrev start : tie.Else4 → tie.Start
+start c = c .before .before .before .before .before .before .before .before .before .before
+
+-- they have said that it is in range
+rows-known : (c : tie.Else4) → InRange maxRows (rows (now (start c .args .words)))
 rows-known c =
     range-facts _ _ (said-yes (c .before .before .before .before .in-range .ensures) (c .before .before .before .if3 .left))
 
-cols-known : (c : tie.Else4)
-    → InRange maxCols (cols (now (c .before .before .before .before .before .before .before .before .before .before .args .words)))
+cols-known : (c : tie.Else4) → InRange maxCols (cols (now (start c .args .words)))
 cols-known c = range-facts _ _ (said-yes (c .before .in-range2 .ensures) (c .if4 .left))
 
 returns : tie.Need-returns

@@ -49,7 +49,8 @@ returns-5 : tie.Need-returns-5
 unfolding indexesValid
 returns-5 c =
     let q = c .before .before .before in
-    rw (c .before .enum-told5 .given .1) (c .lists-valid .ensures ∙ rw (q .shape-of .ensures, q .before .transpose-first .ensures))
+    rw (c .before .enum-told5 .given .1)
+    (c .lists-valid .ensures ∙ rw (q .shape-of .ensures, q .before .transpose-first .ensures))
 
 pub indexes-valid-spec : {M : Type 1} → statement M
 indexes-valid-spec =

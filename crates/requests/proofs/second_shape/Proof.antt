@@ -16,7 +16,9 @@ transpose-second-requires : tie.Need-transpose-second-requires
 transpose-second-requires c κs = search needs
 
 shape-of-requires : tie.Need-shape-of-requires
-shape-of-requires c κs = c .before .before .before .before .pre (said-yes (c .before .before .has-second .ensures) (c .before .if1 .left))
+shape-of-requires c κs =
+    let q = c .before .before in
+    q .before .before .pre (said-yes (q .has-second .ensures) (c .before .if1 .left))
 
 returns-2 : tie.Need-returns-2
 returns-2 c = λ h. c .shape-of .ensures ∙ rw (c .before .transpose-second .ensures)

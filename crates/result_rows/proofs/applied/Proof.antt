@@ -15,10 +15,14 @@ cast-apply-row-2 : tie.Need-cast-apply-row-2
 cast-apply-row-2 c = search needs
 
 row-columns-requires : tie.Need-row-columns-requires
-row-columns-requires c κs = let p = c .before .before .before .before .pre in (p .0 .header, matrix-span _ (p .0) _ (p .1 .0))
+row-columns-requires c κs =
+    let p = c .before .before .before .before .pre in
+    (p .0 .header, matrix-span _ (p .0) _ (p .1 .0))
 
 row-values-requires : tie.Need-row-values-requires
-row-values-requires c κs = let p = c .before .before .before .before .before .pre in (p .0 .header, matrix-span _ (p .0) _ (p .1 .0))
+row-values-requires c κs =
+    let p = c .before .before .before .before .before .pre in
+    (p .0 .header, matrix-span _ (p .0) _ (p .1 .0))
 
 apply-row-requires : tie.Need-apply-row-requires
 apply-row-requires c κs =

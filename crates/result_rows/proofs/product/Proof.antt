@@ -6,16 +6,21 @@ use Rattle.result_rows.proofs.product.Statement.{statement}
 use Rattle.result_rows.proofs.product.Tie as tie
 
 row-columns-requires : tie.Need-row-columns-requires
-row-columns-requires c κs = let h = c .before .before .before .before .pre .0 in (h .first .header, matrix-span _ (h .first) _ (h .row))
+row-columns-requires c κs =
+    let h = c .before .before .before .before .pre .0 in
+    (h .first .header, matrix-span _ (h .first) _ (h .row))
 
 row-values-requires : tie.Need-row-values-requires
-row-values-requires c κs = let h = c .before .before .before .before .before .pre .0 in (h .first .header, matrix-span _ (h .first) _ (h .row))
+row-values-requires c κs =
+    let h = c .before .before .before .before .before .pre .0 in
+    (h .first .header, matrix-span _ (h .first) _ (h .row))
 
 product-row-requires : tie.Need-product-row-requires
 product-row-requires c κs =
     let p = c .before .before .before .before .before .before .before .before .pre in
-    let h = p .0 in (
-      rw (c .before .before .before .row-columns .ensures .words, c .before .before .row-values .ensures .words, ← (h .inner))
+    let h = p .0 in
+    let r = c .before .before in (
+      rw (r .before .row-columns .ensures .words, r .row-values .ensures .words, ← (h .inner))
           (matrix-row _ (h .first) _ (h .row)),
       (h .second, p .1),
     )

@@ -15,7 +15,8 @@ find-requires : tie.Need-find-requires
 find-requires c κs = search needs
 
 -- the section that was found
-section : (c : tie.After-find) → Section (now (c .before .before .args .store)) (c .find .result) (c .before .before .args .slot)
+section : (c : tie.After-find) → let x = c .before .before .args in
+    Section (now (x .store)) (c .find .result) (x .slot)
 section c = let p = c .before .before .pre in section-at _ _ _ (p .0 .within) (p .1 .0) (c .find .ensures)
 
 mul-old : tie.Need-mul-old

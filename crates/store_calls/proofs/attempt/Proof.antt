@@ -1,4 +1,4 @@
--- `attempt` answers the lowest refusal, or puts the final C into its slot.
+-- `attempt` answers the first refusal that applies, or puts the final C into its slot.
 use mathlib.Core.Path.{_≡_, sym, _∙_}
 use denote.Ref.{now}
 use lib.ListN.{length}

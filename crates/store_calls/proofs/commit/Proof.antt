@@ -26,7 +26,9 @@ size q = sizeOf (q .row-count .result) (start q .args .n)
 
 size-is : (q : tie.After-row-count)
     → size q ≡ sizeOf (rows (slotAt (now (start q .args .store)) (start q .args .slot))) (start q .args .n)
-size-is q = ap (λ (r : ℕ). sizeOf r (start q .args .n)) (q .row-count .ensures ∙ ap rows (q .before .contents .ensures .words))
+size-is q =
+    ap (λ (r : ℕ). sizeOf r (start q .args .n))
+    (q .row-count .ensures ∙ ap rows (q .before .contents .ensures .words))
 
 -- the words that are copied are there
 size-there : (q : tie.After-row-count) → size q ≤ length (now (start q .args .work))

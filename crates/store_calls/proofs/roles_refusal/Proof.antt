@@ -1,6 +1,6 @@
 -- `roles_refusal` gives 12 before 1 and 2, and these before 13.
 use mathlib.Core.Path.{_≡_, sym, _∙_}
-use Rattle.requests.specs.Cases.{lowest}
+use Rattle.requests.specs.Cases.{firstApplying}
 use Rattle.model.specs.Steps.{noSlot, roleCases}
 use Rattle.store_calls.proofs.Roles.{in-store}
 use Rattle.store_calls.proofs.Refusals.{slot-refused, numbers-first}
@@ -9,7 +9,7 @@ use Rattle.store_calls.proofs.roles_refusal.Statement.{statement}
 use Rattle.store_calls.proofs.roles_refusal.Tie as tie
 
 -- past the first test no slot is past the last
-slots-are : (q : tie.Else1) → lowest (roleCases noSlot (q .before .before .before .args .roles)) ≡ 0
+slots-are : (q : tie.Else1) → firstApplying (roleCases noSlot (q .before .before .before .args .roles)) ≡ 0
 slots-are q = sym (q .before .slots-refusal .ensures) ∙ q .if1 .left
 
 slots-refusal-requires : tie.Need-slots-refusal-requires

@@ -1,59 +1,37 @@
 -- `clear_cell` takes an entry out, or leaves the words.
-use Prim.Native.Nat.{ℕ}
-use mathlib.Core.Path.{_≡_, refl, sym, ap, _∙_}
-use mathlib.Core.List.{List}
+use mathlib.Core.Path.{refl, ap, _∙_}
 use denote.Ref.{now}
-use Rattle.matrix.specs.Layout.{entries, gridOf}
-use Rattle.edits.specs.Entry.{entryAt}
-use Rattle.model.specs.Steps.{cellRefusal}
-use Rattle.model.specs.Stores.{modelOf}
+use Rattle.matrix.specs.Layout.{entries}
 use Rattle.model.proofs.Performed.{performed-no-store}
-use Rattle.store_cells.specs.Slots.{CellOf, slotGrid}
 use Rattle.store_cells.proofs.Checks.{unchecked, Checked, checked}
-use Rattle.store_cells.proofs.Refusals.{cell-of}
+use Rattle.store_cells.proofs.Refusals.{Reached, reached}
 use Rattle.store_cells.proofs.Outcomes.{clear-refused, clear-performed}
+use Rattle.store_cells.proofs.Edited.{entry-in}
 use Rattle.store_cells.proofs.Taken.{cleared-put}
 use borrow.Author.Needs.{needs}
 use Rattle.store_cells.proofs.clear_cell.Statement.{statement}
 use Rattle.store_cells.proofs.clear_cell.Tie as tie
 
-abbrev start : tie.After-check → tie.Start
-start c = c .before .before .before
+-- where the function starts, from the place past its first test
+abbrev start : tie.Else1 → tie.Start
+start c = c .before .before .before .before
 
+-- past the first test, from the test of the cell
 abbrev stored : tie.After-cell-refusal → tie.Else1
 stored c = c .before .before
 
-abbrev origin : tie.Else2 → tie.Start
-origin c = start (stored (c .before) .before)
-
--- past the first test the words are a store, and past the second it has the cell
-store : (c : tie.Else1) → Checked (now (start (c .before) .args .store)) (c .before .check .result)
+-- past the first test the words are a store
+store : (c : tie.Else1) → Checked (now (start c .args .store)) (c .before .check .result)
 store c = checked _ _ (c .before .check .ensures) (c .if1 .left)
 
-no-refusal : (c : tie.Else2) →
-    let p = origin c .args in cellRefusal (modelOf (now (p .store))) (p .slot) (p .i) (p .j) ≡ 0
-no-refusal c = sym (c .before .cell-refusal .ensures) ∙ c .if2 .left
+-- and past the second it has the cell
+there : (c : tie.Else2) → let q = stored (c .before) in let p = start q .args in
+    Reached (now (p .store)) (p .slot) (p .i) (p .j) (q .before .check .result)
+there c = reached (store (stored (c .before))) (c .before .cell-refusal .ensures) (c .if2 .left)
 
-cell : (c : tie.Else2) → let p = origin c .args in CellOf (now (p .store)) (p .slot) (p .i) (p .j)
-cell c = cell-of _ _ _ _ (store (stored (c .before)) .store) (no-refusal c)
-
--- the entry is looked for in the slot's words
+-- past both tests, from the search for the entry
 abbrev passed : tie.After-find-entry → tie.Else2
 passed c = c .before .before .before
-
-entry-is : (c : tie.After-find-entry) → let p = origin (passed c) .args in
-    c .find-entry .result ≡ entryAt (slotGrid (now (p .store)) (p .slot)) (p .i) (p .j)
-entry-is c =
-    let p = origin (passed c) .args in
-    c .find-entry .ensures
-    ∙ ap (λ (x : List ℕ). entryAt (gridOf x) (p .i) (p .j)) (c .before .contents .ensures .words)
-
--- in each arm
-abbrev present : tie.After-p → tie.After-find-entry
-present c = c .before .before
-
-abbrev absent : tie.After-enum-told → tie.After-find-entry
-absent c = c .before .before
 
 check-requires : tie.Need-check-requires
 check-requires c κs = search needs
@@ -85,11 +63,11 @@ returns-2 c =
     (clear-refused (store (stored q) .valid) _ (q .cell-refusal .ensures) (c .before .if2 .taken))
 
 contents-requires : tie.Need-contents-requires
-contents-requires c κs = let h = cell (c .before) in (h .store .sections, h .slot)
+contents-requires c κs = let h = there (c .before) .cell in (h .store .sections, h .slot)
 
 find-entry-requires : tie.Need-find-entry-requires
 find-entry-requires c κs =
-    let h = cell (c .before .before) in
+    let h = there (c .before .before) .cell in
     rw (c .contents .ensures .words) (h .held .matrix, h .row)
 
 enum-known-p : tie.Need-enum-known-p
@@ -98,19 +76,22 @@ enum-known-p c = search needs
 take-requires : tie.Need-take-requires
 take-requires c κs =
     let q = c .before .before in
-    let f = present q in
-    let e = passed f in
-    (cell e, (store (stored (e .before)) .ends, sym (entry-is f) ∙ q .p .given .1))
+    let f = q .before .before in
+    let h = there (passed f) in
+    let e = entry-in (h .cell) (f .before .contents .ensures .words) (f .find-entry .ensures) (q .p .given .1) in
+    (h .cell, (h .checked .ends, e))
 
 enum-told : tie.Need-enum-told
 enum-told c = search needs
 
 contents-requires-2 : tie.Need-contents-requires-2
-contents-requires-2 c κs = let h = cell (passed (absent (c .before))) in (h .store .sections, h .slot)
+contents-requires-2 c κs =
+    let h = there (passed (c .before .before .before)) .cell in
+    (h .store .sections, h .slot)
 
 entry-count-requires : tie.Need-entry-count-requires
 entry-count-requires c κs =
-    let h = cell (passed (absent (c .before .before))) in
+    let h = there (passed (c .before .before .before .before)) .cell in
     rw (c .contents2 .ensures .words) (h .held .matrix .header)
 
 same-length-3 : tie.Need-same-length-3
@@ -119,8 +100,7 @@ same-length-3 c = search needs
 returns-3 : tie.Need-returns-3
 returns-3 c =
     let r = c .before .before in
-    let e = passed (present (r .before .before .before)) in
-    clear-performed (store (stored (e .before)) .valid) (no-refusal e) (cell e) _ _ (r .take .ensures)
+    clear-performed (there (passed (r .before .before .before .before .before))) _ _ (r .take .ensures)
 
 same-length-4 : tie.Need-same-length-4
 same-length-4 c = search needs
@@ -129,10 +109,11 @@ returns-4 : tie.Need-returns-4
 returns-4 c =
     let w = c .before in
     let t = w .before .before in
-    let f = absent t in
-    let e = passed f in
-    clear-performed (store (stored (e .before)) .valid) (no-refusal e) (cell e) _ _
-    (cleared-put (cell e) _ _ (sym (entry-is f) ∙ t .enum-told .given .1) refl
+    let f = t .before .before in
+    let h = there (passed f) in
+    let e = entry-in (h .cell) (f .before .contents .ensures .words) (f .find-entry .ensures) (t .enum-told .given .1) in
+    clear-performed h _ _
+    (cleared-put (h .cell) _ _ e refl
     (c .entry-count .ensures ∙ ap entries (w .contents2 .ensures .words)))
 
 pub clear-cell-spec : {M : Type 1} → statement M

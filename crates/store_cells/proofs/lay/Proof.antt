@@ -64,7 +64,8 @@ returns c =
     let f = found r in
     let p = start f .args in
     laid-words (now (p .store)) (p .slot) (p .end) (p .rows + fixedWords) (p .rows) (p .cols)
-    (f .find .result + 1) _ _ (omega arith) (start f .pre .0) (ap (λ (a : ℕ). a + 1) (f .find .ensures)) (r .resize .ensures) (w .write-empty .ensures)
+    (f .find .result + 1) _ _ (omega arith) (start f .pre .0) (ap (λ (a : ℕ). a + 1) (f .find .ensures))
+    (r .resize .ensures) (w .write-empty .ensures)
 
 pub lay-spec : {M : Type 1} → statement M
 lay-spec =

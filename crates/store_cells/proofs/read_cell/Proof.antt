@@ -1,6 +1,6 @@
 -- `read_cell` answers what the model does.
 use Prim.Native.Nat.{ℕ}
-use mathlib.Core.Path.{_≡_, sym, ap, _∙_}
+use mathlib.Core.Path.{ap, _∙_}
 use mathlib.Core.List.{List}
 use denote.Ref.{now}
 use Rattle.rows.proofs.Rising.{rising-rises}
@@ -9,32 +9,25 @@ use Rattle.matrix.proofs.Facts.{row-span}
 use Rattle.cells.specs.Read.{foundAnswer}
 use Rattle.slots.specs.Sections.{slotAt}
 use Rattle.model.specs.Calls.{found}
-use Rattle.model.specs.Steps.{cellRefusal}
-use Rattle.model.specs.Stores.{modelOf}
-use Rattle.store_cells.specs.Slots.{CellOf}
 use Rattle.store_cells.proofs.Checks.{unchecked, Checked, checked}
-use Rattle.store_cells.proofs.Refusals.{cell-of}
+use Rattle.store_cells.proofs.Refusals.{Reached, reached}
 use Rattle.store_cells.proofs.Reading.{read-no-store, read-refused, read-found}
 use borrow.Author.Needs.{needs}
 use Rattle.store_cells.proofs.read_cell.Statement.{statement}
 use Rattle.store_cells.proofs.read_cell.Tie as tie
 
-abbrev start : tie.After-check → tie.Start
-start c = c .before .before
+-- where the function starts, from the place past its first test
+abbrev start : tie.Else1 → tie.Start
+start c = c .before .before .before
 
--- past the first test the words are a store, and past the second it has the cell
-store : (c : tie.Else1) → Checked (now (start (c .before) .args .store)) (c .before .check .result)
+-- past the first test the words are a store
+store : (c : tie.Else1) → Checked (now (start c .args .store)) (c .before .check .result)
 store c = checked _ _ (c .before .check .ensures) (c .if1 .left)
 
-abbrev origin : tie.Else2 → tie.Start
-origin c = start (c .before .before .before)
-
-no-refusal : (c : tie.Else2) →
-    let p = origin c .args in cellRefusal (modelOf (now (p .store))) (p .slot) (p .i) (p .j) ≡ 0
-no-refusal c = sym (c .before .cell-refusal .ensures) ∙ c .if2 .left
-
-cell : (c : tie.Else2) → let p = origin c .args in CellOf (now (p .store)) (p .slot) (p .i) (p .j)
-cell c = cell-of _ _ _ _ (store (c .before .before) .store) (no-refusal c)
+-- and past the second it has the cell
+there : (c : tie.Else2) → let q = c .before .before in let p = start q .args in
+    Reached (now (p .store)) (p .slot) (p .i) (p .j) (q .before .check .result)
+there c = reached (store (c .before .before)) (c .before .cell-refusal .ensures) (c .if2 .left)
 
 check-requires : tie.Need-check-requires
 check-requires c κs = search needs
@@ -60,14 +53,14 @@ returns-2 c =
     ∙ read-refused _ _ _ _ (store (q .before) .valid) _ (q .cell-refusal .ensures) (c .before .if2 .taken)
 
 contents-requires : tie.Need-contents-requires
-contents-requires c κs = let h = cell c in (h .store .sections, h .slot)
+contents-requires c κs = let h = there c .cell in (h .store .sections, h .slot)
 
 cell-at-requires : tie.Need-cell-at-requires
 cell-at-requires c κs =
     let e = c .before in
-    let h = cell e in
+    let h = there e .cell in
     let m = h .held .matrix in
-    let p = origin e .args in
+    let p = start (e .before .before) .args in
     let columns = rowColumns (slotAt (now (p .store)) (p .slot)) (p .i) in
     rw (c .contents .ensures .words)
     (m .header, (row-span _ (m .starts) (p .i) (h .row), rising-rises _ _ columns (m .rising (p .i) (h .row))))
@@ -79,10 +72,10 @@ returns-3 : tie.Need-returns-3
 returns-3 c =
     let q = c .before .before in
     let e = q .before in
-    let p = origin e .args in
+    let p = start (e .before .before) .args in
     ap found (c .found .ensures ∙ ap foundAnswer (c .before .cell-at .ensures
     ∙ ap (λ (x : List ℕ). cellOf x (p .i) (p .j)) (q .contents .ensures .words)))
-    ∙ read-found _ _ _ _ (store (e .before .before) .valid) (no-refusal e) (cell e)
+    ∙ read-found _ _ _ _ (there e)
 
 pub read-cell-spec : {M : Type 1} → statement M
 read-cell-spec =

@@ -1,0 +1,140 @@
+// What the programs that run the six operations share: options, and each call with its report: the answer, whether the
+// workspace is clear, and the words of C's buffer. The workspace is filled before each call.
+use call_codes::Options;
+
+// No mask and no accumulator: the number 9 is not looked at.
+pub fn plain(flags: u32) -> Options {
+    Options {
+        flags: flags,
+        has_mask: false,
+        has_accumulator: false,
+        accumulator: 9,
+    }
+}
+
+pub fn masked(flags: u32) -> Options {
+    Options {
+        flags: flags,
+        has_mask: true,
+        has_accumulator: false,
+        accumulator: 9,
+    }
+}
+
+pub fn accumulated(flags: u32, has_mask: bool, accumulator: u32) -> Options {
+    Options {
+        flags: flags,
+        has_mask: has_mask,
+        has_accumulator: true,
+        accumulator: accumulator,
+    }
+}
+
+// The six calls, each with its report. The words of a mask that the call does not have are not looked at.
+pub fn mxm<'a>(
+    label: &[u8],
+    options: Options,
+    monoid: u32,
+    op: u32,
+    a: &'a [u32],
+    b: &'a [u32],
+    c: &mut [u32],
+    work: &mut [u32],
+) {
+    refill(work);
+    let r = calls::mxm(options, monoid, op, a, b, a, c, work);
+    report(label, r.code, r.entries, &c[..], &work[..]);
+}
+
+pub fn vxm<'a>(
+    label: &[u8],
+    options: Options,
+    monoid: u32,
+    op: u32,
+    u: &'a [u32],
+    a: &'a [u32],
+    c: &mut [u32],
+    work: &mut [u32],
+) {
+    refill(work);
+    let r = calls::vxm(options, monoid, op, u, a, u, c, work);
+    report(label, r.code, r.entries, &c[..], &work[..]);
+}
+
+pub fn ewise_mult<'a>(
+    label: &[u8],
+    options: Options,
+    op: u32,
+    a: &'a [u32],
+    b: &'a [u32],
+    c: &mut [u32],
+    work: &mut [u32],
+) {
+    refill(work);
+    let r = calls::ewise_mult(options, op, a, b, a, c, work);
+    report(label, r.code, r.entries, &c[..], &work[..]);
+}
+
+pub fn ewise_add<'a>(
+    label: &[u8],
+    options: Options,
+    op: u32,
+    a: &'a [u32],
+    b: &'a [u32],
+    mask: &[u32],
+    c: &mut [u32],
+    work: &mut [u32],
+) {
+    refill(work);
+    let r = calls::ewise_add(options, op, a, b, mask, c, work);
+    report(label, r.code, r.entries, &c[..], &work[..]);
+}
+
+pub fn apply(
+    label: &[u8],
+    options: Options,
+    kind: u32,
+    op: u32,
+    scalar: u32,
+    a: &[u32],
+    mask: &[u32],
+    c: &mut [u32],
+    work: &mut [u32],
+) {
+    refill(work);
+    let r = calls::apply(options, kind, op, scalar, a, mask, c, work);
+    report(label, r.code, r.entries, &c[..], &work[..]);
+}
+
+pub fn extract(
+    label: &[u8],
+    options: Options,
+    a: &[u32],
+    is: &[u32],
+    js: &[u32],
+    c: &mut [u32],
+    work: &mut [u32],
+) {
+    refill(work);
+    let r = calls::extract(options, a, is, js, a, c, work);
+    report(label, r.code, r.entries, &c[..], &work[..]);
+}
+
+// The answer and the words of C's buffer: all of them, or the first and the last.
+pub fn report(label: &[u8], code: u32, entries: u32, c: &[u32], work: &[u32]) {
+    test_support::print_call(label, code, entries, work);
+    let n = c.len();
+    if n <= 40 {
+        test_support::show(b"C", c);
+    } else {
+        test_support::show(b"C begins", &c[..14]);
+        let last = n - 14;
+        test_support::show(b"C ends", &c[last..]);
+    }
+}
+
+// The words 0, 1, 2 and so on in the workspace.
+pub fn refill(work: &mut [u32]) {
+    let n = work.len();
+    test_support::put_run(work, 0, n, 1, 4294967295);
+}

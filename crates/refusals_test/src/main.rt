@@ -1,0 +1,200 @@
+// Runs the six operations where they are refused: each refusal in its order, and both sides of the limits. C's spare words
+// are 9.
+use call_codes::Options;
+use operation_runs::accumulated;
+use operation_runs::ewise_add;
+use operation_runs::extract;
+use operation_runs::masked;
+use operation_runs::mxm;
+use operation_runs::plain;
+use operation_runs::refill;
+use operation_runs::report;
+use operation_runs::vxm;
+
+// One word more than a call needs.
+type Workspace = [u32; 13846];
+
+fn main() {
+    let mut work: Workspace = [7; 13846];
+    early_refusals();
+    late_refusals(&mut work);
+    index_refusals(&mut work);
+    shape_refusals(&mut work);
+    entries_at_limit(&mut work);
+    result_under_mask(&mut work);
+    list_lengths(&mut work);
+}
+
+// Everything wrong at first, the workspace too; then the lowest refusal is mended, call by call.
+fn early_refusals() {
+    let good: &[u32] = &[2, 1, 2, 2, 0, 1, 1, 0, 1, 5];
+    let wide: &[u32] = &[2, 1, 3, 2, 0, 1, 1, 2, 1, 5];
+    let bad: &[u32] = &[2, 1, 2, 2, 0, 1, 1, 2, 1, 5];
+    let mut c = [9u32; 9];
+    let mut w = [7u32; 100];
+    test_support::heading(b"refusals in their order");
+    ewise_add(b"flags", wrong(32), 8, bad, bad, bad, &mut c, &mut w);
+    ewise_add(b"op", wrong(31), 8, bad, bad, bad, &mut c, &mut w);
+    ewise_add(b"accum", wrong(31), 3, bad, bad, bad, &mut c, &mut w);
+    ewise_add(b"A", masked(0), 3, bad, bad, bad, &mut c, &mut w);
+    ewise_add(b"B", masked(0), 3, good, bad, bad, &mut c, &mut w);
+    ewise_add(b"mask", masked(0), 3, good, good, bad, &mut c, &mut w);
+    ewise_add(b"C", masked(0), 3, good, good, wide, &mut c, &mut w);
+    create::new_empty(&mut c, 1, 2);
+    ewise_add(b"shape", masked(0), 3, good, good, wide, &mut c, &mut w);
+    ewise_add(b"work", masked(0), 3, good, good, good, &mut c, &mut w);
+}
+
+// C's buffer is one word short, and then long enough.
+fn late_refusals(work: &mut Workspace) {
+    let good: &[u32] = &[2, 1, 2, 2, 0, 1, 1, 0, 1, 5];
+    let mut short = [9u32; 9];
+    let mut c = [9u32; 10];
+    create::new_empty(&mut short, 1, 2);
+    create::new_empty(&mut c, 1, 2);
+    ewise_add(b"fit", masked(0), 3, good, good, good, &mut short, work);
+    ewise_add(b"none", masked(0), 3, good, good, good, &mut c, work);
+}
+
+// A mask, and an accumulator that does not exist.
+fn wrong(flags: u32) -> Options {
+    Options {
+        flags: flags,
+        has_mask: true,
+        has_accumulator: true,
+        accumulator: 8,
+    }
+}
+
+// 7 stands between 6 and 8, and looks at A as transposed.
+fn index_refusals(work: &mut Workspace) {
+    let v: &[u32] = &[2, 1, 4, 2, 0, 3, 3, 0, 1, 3, 3, 10, 20, 40];
+    let mut c = [9u32; 12];
+    test_support::heading(b"indexes and shapes");
+    extract(b"C, column 4", plain(0), v, &[0], &[4, 4], &mut c, work);
+    create::new_empty(&mut c, 1, 1);
+    extract(b"column 4", plain(0), v, &[0], &[4, 4], &mut c, work);
+    extract(b"shape", plain(0), v, &[0], &[3, 3], &mut c, work);
+    extract(b"column 3", plain(0), v, &[0], &[3], &mut c, work);
+    extract(b"row 1", plain(0), v, &[1], &[0], &mut c, work);
+    extract(b"transposed row 1", plain(8), v, &[1], &[0], &mut c, work);
+    extract(b"column 1", plain(8), v, &[0], &[1], &mut c, work);
+}
+
+// A vector is due in vxm, and as many rows as it has columns.
+fn shape_refusals(work: &mut Workspace) {
+    let v: &[u32] = &[2, 1, 4, 2, 0, 3, 3, 0, 1, 3, 3, 10, 20, 40];
+    let m: &[u32] = &[2, 2, 2, 3, 0, 0, 0, 0, 0];
+    let mut c = [9u32; 12];
+    create::new_empty(&mut c, 2, 2);
+    mxm(b"mxm, two rows", plain(0), 3, 5, m, m, &mut c, work);
+    vxm(b"vxm, two rows", plain(0), 3, 5, m, m, &mut c, work);
+    create::new_empty(&mut c, 1, 2);
+    vxm(b"vxm, 4 and 2", plain(0), 3, 5, v, m, &mut c, work);
+}
+
+// 5 by 512, with an entry in the last row at first. T has 2,048 entries in the other rows: with an accumulator the
+// final C has one more. It takes 4,108 words.
+fn entries_at_limit(work: &mut Workspace) {
+    let mut v = [0u32; 1032];
+    let mut c = [9u32; 4110];
+    build_full(&mut v);
+    let v: &[u32] = &v;
+    test_support::store(&mut c, 5, 512, &[0, 0, 0, 0, 0, 1], &[0], &[50]);
+    let plus = accumulated(8, false, 3);
+    test_support::heading(b"limits");
+    outer(4110, 13845, b"2049 entries", plus, v, &mut c, work);
+    outer(4107, 13845, b"4107 words", plain(8), v, &mut c, work);
+    outer(4108, 13844, b"work of 13844", plain(8), v, &mut c, work);
+    outer(4108, 13845, b"work of 13845", plain(8), v, &mut c, work);
+    outer(4110, 13845, b"2048 entries", plus, v, &mut c, work);
+}
+
+// The products of 1, 2, 3, 4 with the entries of v, in the first n words of C's buffer and m of the workspace.
+fn outer(
+    n: usize,
+    m: usize,
+    label: &[u8],
+    options: Options,
+    v: &[u32],
+    c: &mut [u32],
+    work: &mut [u32],
+) {
+    if n <= c.len() {
+        outer_in(m, label, options, v, &mut c[..n], work);
+    }
+}
+
+fn outer_in(m: usize, label: &[u8], options: Options, v: &[u32], c: &mut [u32], work: &mut [u32]) {
+    let u: [u32; 16] = [2, 1, 5, 2, 0, 4, 4, 0, 1, 2, 3, 4, 1, 2, 3, 4];
+    if m <= work.len() {
+        mxm(label, options, 3, 5, &u, v, c, &mut work[..m]);
+    }
+}
+
+// 1 by 512, all present: 0, 1, 2 and so on.
+fn build_full(words: &mut [u32]) {
+    create::new_empty(words, 1, 512);
+    test_support::put(words, 5, 512);
+    test_support::put(words, 6, 512);
+    test_support::put_run(words, 7, 512, 1, 4294967295);
+    test_support::put(words, 519, 512);
+    test_support::put_run(words, 520, 512, 1, 4294967295);
+}
+
+// T has 262,144 entries: too many without a mask. The mask has one entry, and the final C too.
+fn result_under_mask(work: &mut Workspace) {
+    let mut v = [0u32; 1032];
+    let mut mask = [0u32; 521];
+    let mut c = [9u32; 523];
+    build_full(&mut v);
+    build_mask(&mut mask);
+    let v: &[u32] = &v;
+    let mask: &[u32] = &mask;
+    create::new_empty(&mut c, 512, 512);
+    test_support::heading(b"a large T");
+    square(b"no mask", plain(8), v, mask, &mut c, work);
+    square(b"mask", masked(8), v, mask, &mut c, work);
+    square(b"complement", masked(10), v, mask, &mut c, work);
+}
+
+// The products of all pairs of entries of v, under a mask.
+fn square(
+    label: &[u8],
+    options: Options,
+    v: &[u32],
+    mask: &[u32],
+    c: &mut [u32],
+    work: &mut [u32],
+) {
+    refill(work);
+    let r = calls::mxm(options, 3, 5, v, v, mask, c, work);
+    report(label, r.code, r.entries, &c[..], &work[..]);
+}
+
+// 512 by 512 with one entry, 1 at (511, 4).
+fn build_mask(words: &mut [u32]) {
+    create::new_empty(words, 512, 512);
+    test_support::put(words, 516, 1);
+    test_support::put(words, 517, 1);
+    test_support::put(words, 518, 4);
+    test_support::put(words, 519, 1);
+    test_support::put(words, 520, 1);
+}
+
+// Lists of 0, 1, 513 and 512 indexes, all 3.
+fn list_lengths(work: &mut Workspace) {
+    let mut v = [0u32; 1032];
+    let mut c = [9u32; 1034];
+    let list = [3u32; 513];
+    build_full(&mut v);
+    let v: &[u32] = &v;
+    create::new_empty(&mut c, 1, 1);
+    test_support::heading(b"index lists");
+    extract(b"0 rows", plain(0), v, &list[..0], &[0], &mut c, work);
+    extract(b"0", plain(0), v, &[0], &list[..0], &mut c, work);
+    extract(b"1", plain(0), v, &[0], &list[..1], &mut c, work);
+    create::new_empty(&mut c, 1, 512);
+    extract(b"513", plain(0), v, &[0], &list, &mut c, work);
+    extract(b"512", plain(0), v, &[0], &list[..512], &mut c, work);
+}

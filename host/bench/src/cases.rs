@@ -1,0 +1,247 @@
+//! What is measured: each case is a call with its inputs, by all sides that have it.
+
+use crate::entries::Entries;
+use crate::jobs::{
+    library, ordinary, Buffers, Job, LentJob, Operation, Program, ProgramSubject, StoreCall, PLUS, REPLACE,
+    STORE_WORDS, STRUCTURAL, TRANSPOSE_FIRST,
+};
+use crate::peer::{self, Peer};
+use crate::scene::{Scene, Size, SIZES};
+use crate::timing::Subject;
+use ostrubel::calls::OptionNumbers;
+use ostrubel::SLOTS;
+use std::rc::Rc;
+
+/// The table that a case is in.
+#[derive(Clone, Copy, Debug, PartialEq, Eq)]
+pub enum Section {
+    Parts,
+    Lent(Size),
+    Store(Size),
+}
+
+/// A call by the library, the ordinary program and SuiteSparse, where they have it.
+pub struct Case {
+    pub section: Section,
+    pub call: &'static str,
+    pub variant: String,
+    /// The entries that the call answered, if it does.
+    pub entries: Option<u64>,
+    pub subjects: [Option<Box<dyn Subject>>; 3],
+}
+
+/// The slots of the store: three matrices and two vectors.
+const A: usize = 0;
+const B: usize = 1;
+const C: usize = 2;
+const U: usize = 3;
+const W: usize = 4;
+
+const PLAIN: OptionNumbers = OptionNumbers { flags: 0, has_mask: 0, has_accumulator: 0, accumulator: 0 };
+const MASKED: OptionNumbers = OptionNumbers { flags: STRUCTURAL, has_mask: 1, ..PLAIN };
+const REPLACED: OptionNumbers = OptionNumbers { flags: STRUCTURAL + REPLACE, ..MASKED };
+const TURNED: OptionNumbers = OptionNumbers { flags: STRUCTURAL + TRANSPOSE_FIRST, ..MASKED };
+const EVERYTHING: OptionNumbers = OptionNumbers { flags: REPLACE, has_mask: 1, has_accumulator: 1, accumulator: PLUS };
+/// Flags that are refused before anything else is looked at.
+const REFUSED: OptionNumbers = OptionNumbers { flags: 32, ..PLAIN };
+
+const MASKED_TEXT: &str = "structural mask";
+const REPLACED_TEXT: &str = "structural mask, replace";
+const TURNED_TEXT: &str = "structural mask, A transposed";
+const EVERYTHING_TEXT: &str = "mask, accumulator, replace";
+
+/// All cases. The sides have been held against each other; an error says where they differ.
+pub fn all_cases() -> Result<Vec<Case>, String> {
+    let scenes: Vec<Scene> = SIZES.into_iter().map(Scene::new).collect();
+    let mut cases = part_cases(&scenes)?;
+    for scene in &scenes {
+        cases.extend(lent_cases(scene)?);
+    }
+    for scene in &scenes {
+        cases.extend(store_cases(scene)?);
+    }
+    Ok(cases)
+}
+
+/// What a call spends on validating and on clearing.
+fn part_cases(scenes: &[Scene]) -> Result<Vec<Case>, String> {
+    let mut cases = Vec::new();
+    for Scene { size, a, .. } in scenes {
+        let variant = format!("a matrix of {} entries", size.entries);
+        cases.push(part_case("`check`", &variant, Job::Check(a.words()))?);
+    }
+    let Scene { a, b, mask, c, .. } = &scenes[0];
+    let refused = lent_job(Operation::Mxm, REFUSED, [a, b, mask, c]);
+    cases.push(part_case("`mxm`", "refused by its flags: it only clears the workspace", Job::Lent(refused))?);
+    let mut fill = part_case("`fill`", "zeros into 13,845 words, by no call", Job::Fill)?;
+    fill.subjects[0] = None;
+    cases.push(fill);
+    Ok(cases)
+}
+
+fn part_case(call: &'static str, variant: &str, job: Job) -> Result<Case, String> {
+    let Agreed { subjects: [library, ordinary], .. } = agree(job, call, variant)?;
+    let subjects = [Some(library), Some(ordinary), None];
+    Ok(Case { section: Section::Parts, call, variant: variant.to_string(), entries: None, subjects })
+}
+
+/// The two programs for a job on which they agree, and what they left.
+struct Agreed {
+    subjects: [Box<dyn Subject>; 2],
+    answer: u64,
+    after: Buffers,
+}
+
+/// Carries a job out by both programs, and compares the answers and every word.
+fn agree(job: Job, call: &str, variant: &str) -> Result<Agreed, String> {
+    let run = |program: Program| {
+        let mut buffers = Buffers::default();
+        buffers.work.fill(1);
+        job.restore(&mut buffers);
+        (program(&job, &mut buffers), buffers)
+    };
+    let (answer, after) = run(library::run);
+    if run(ordinary::run) != (answer, after.clone()) {
+        return Err(format!("{call}, {variant}: the library and the ordinary program disagree"));
+    }
+    let job = Rc::new(job);
+    let subject = |program| -> Box<dyn Subject> { Box::new(ProgramSubject { job: job.clone(), program }) };
+    Ok(Agreed { subjects: [subject(library::run), subject(ordinary::run)], answer, after })
+}
+
+/// Carries a call out by SuiteSparse, if it has it, and compares the entries with those of the matrix in the words.
+fn agree_peer(
+    peer: Option<Box<dyn Peer>>,
+    words: &[u32],
+    call: &str,
+    variant: &str,
+) -> Result<Option<Box<dyn Subject>>, String> {
+    let Some(mut peer) = peer else {
+        return Ok(None);
+    };
+    let mut buffers = Buffers::default();
+    peer.restore(&mut buffers);
+    peer.call(&mut buffers);
+    if peer.result() != Entries::read(words) {
+        return Err(format!("{call}, {variant}: the library and SuiteSparse disagree"));
+    }
+    Ok(Some(peer))
+}
+
+/// The entries of an answer, which has to be no refusal.
+fn accepted(answer: u64, call: &str, variant: &str) -> Result<u64, String> {
+    match answer & 255 {
+        0 => Ok(answer >> 32),
+        code => Err(format!("{call}, {variant}: refused by {code}")),
+    }
+}
+
+fn lent_job(operation: Operation, options: OptionNumbers, [a, b, mask, c]: [&Entries; 4]) -> LentJob {
+    LentJob { operation, options, a: a.words(), b: b.words(), mask: mask.words(), c: c.words() }
+}
+
+fn extract(scene: &Scene) -> Operation {
+    Operation::Extract { rows: scene.row_list.clone(), cols: scene.col_list.clone() }
+}
+
+fn plain_text(pattern: &str) -> String {
+    match pattern {
+        "" => "plain".to_string(),
+        _ => format!("plain; {pattern}"),
+    }
+}
+
+fn lent_cases(scene: &Scene) -> Result<Vec<Case>, String> {
+    let Scene { size, a, b, mask, c, u, vector_mask, w, .. } = scene;
+    let (left, right, factors_text) = &scene.factors;
+    let (addend, addend_text) = &scene.addend;
+    let all = EVERYTHING_TEXT.to_string();
+    let jobs = [
+        ("`mxm`", plain_text(factors_text), lent_job(Operation::Mxm, PLAIN, [left, right, mask, c])),
+        ("`mxm`", MASKED_TEXT.to_string(), lent_job(Operation::Mxm, MASKED, [a, b, mask, c])),
+        ("`mxm`", TURNED_TEXT.to_string(), lent_job(Operation::Mxm, TURNED, [a, b, mask, c])),
+        ("`mxm`", all.clone(), lent_job(Operation::Mxm, EVERYTHING, [a, b, mask, c])),
+        ("`vxm`", plain_text(""), lent_job(Operation::Vxm, PLAIN, [u, a, vector_mask, w])),
+        ("`vxm`", all.clone(), lent_job(Operation::Vxm, EVERYTHING, [u, a, vector_mask, w])),
+        ("`ewise_mult`", plain_text(""), lent_job(Operation::EwiseMult, PLAIN, [a, b, mask, c])),
+        ("`ewise_mult`", all.clone(), lent_job(Operation::EwiseMult, EVERYTHING, [a, b, mask, c])),
+        ("`ewise_add`", plain_text(addend_text), lent_job(Operation::EwiseAdd, PLAIN, [a, addend, mask, c])),
+        ("`ewise_add`", all.clone(), lent_job(Operation::EwiseAdd, EVERYTHING, [a, b, mask, c])),
+        ("`apply`", plain_text(""), lent_job(Operation::Apply, PLAIN, [a, b, mask, c])),
+        ("`apply`", all.clone(), lent_job(Operation::Apply, EVERYTHING, [a, b, mask, c])),
+        ("`extract`", plain_text(""), lent_job(extract(scene), PLAIN, [a, b, mask, c])),
+        ("`extract`", all, lent_job(extract(scene), EVERYTHING, [a, b, mask, c])),
+    ];
+    jobs.into_iter().map(|(call, variant, job)| lent_case(*size, call, variant, job)).collect()
+}
+
+fn lent_case(size: Size, call: &'static str, variant: String, job: LentJob) -> Result<Case, String> {
+    let peer = peer::operation(&job);
+    let Agreed { subjects: [library, ordinary], answer, after } = agree(Job::Lent(job), call, &variant)?;
+    let entries = Some(accepted(answer, call, &variant)?);
+    let peer = agree_peer(peer, &after.c, call, &variant)?;
+    Ok(Case { section: Section::Lent(size), call, variant, entries, subjects: [Some(library), Some(ordinary), peer] })
+}
+
+/// The words of a store with `a` and the scene's other matrices.
+fn store_words(scene: &Scene, a: &Entries) -> Vec<u32> {
+    let mut words = Vec::new();
+    for entries in [a, &scene.b, &scene.c, &scene.u, &scene.w] {
+        let matrix = entries.words();
+        words.push(matrix.len() as u32);
+        words.extend(matrix);
+    }
+    assert!(words.len() + SLOTS <= STORE_WORDS, "the store has room");
+    words.resize(STORE_WORDS, 0);
+    words
+}
+
+/// The middle entry of A, and A without it.
+fn middle_entry(a: &Entries) -> ((u32, u32), Entries) {
+    let middle = a.cells.keys().copied().nth(a.cells.len() / 2).expect("A has entries");
+    let mut without = a.clone();
+    without.cells.remove(&middle);
+    (middle, without)
+}
+
+fn store_cases(scene: &Scene) -> Result<Vec<Case>, String> {
+    let side = scene.size.side as u32;
+    let ((i, j), without) = middle_entry(&scene.a);
+    let cell_calls = [
+        ("`store_new_empty`", "over the first matrix", StoreCall::NewEmpty { slot: A, rows: side, cols: side }),
+        ("`store_drop`", "the first matrix", StoreCall::Drop { slot: A }),
+        ("`store_set_cell`", "a present cell", StoreCall::SetCell { slot: A, i, j, value: 7 }),
+        ("`store_clear_cell`", "a present cell", StoreCall::ClearCell { slot: A, i, j }),
+        ("`store_read_cell`", "a present cell", StoreCall::ReadCell { slot: A, i, j }),
+    ];
+    let operation =
+        |operation, options, [a, b, mask, c]: [usize; 4]| StoreCall::Operation { operation, options, a, b, mask, c };
+    let operations = [
+        ("`store_mxm`", MASKED_TEXT, operation(Operation::Mxm, MASKED, [A, B, B, C])),
+        ("`store_vxm`", "plain", operation(Operation::Vxm, PLAIN, [U, A, W, W])),
+        ("`store_ewise_mult`", "plain", operation(Operation::EwiseMult, PLAIN, [A, B, B, C])),
+        ("`store_ewise_add`", REPLACED_TEXT, operation(Operation::EwiseAdd, REPLACED, [A, B, B, C])),
+        ("`store_apply`", "plain", operation(Operation::Apply, PLAIN, [A, A, A, C])),
+        ("`store_extract`", "plain", operation(extract(scene), PLAIN, [A, A, A, C])),
+    ];
+    let mut cases = Vec::new();
+    for (call, variant, job) in cell_calls.into_iter().chain(operations) {
+        cases.push(store_case(scene, &scene.a, call, variant, job)?);
+    }
+    // A full matrix takes no new cell: the first one lacks the entry that is put.
+    let new_cell = StoreCall::SetCell { slot: A, i, j, value: 7 };
+    cases.insert(2, store_case(scene, &without, "`store_set_cell`", "a new cell", new_cell)?);
+    Ok(cases)
+}
+
+fn store_case(scene: &Scene, a: &Entries, call: &'static str, variant: &str, job: StoreCall) -> Result<Case, String> {
+    let peer = peer::element(&job, a);
+    let is_read = matches!(job, StoreCall::ReadCell { .. });
+    let job = Job::Store(job, store_words(scene, a));
+    let Agreed { subjects: [library, ordinary], answer, after } = agree(job, call, variant)?;
+    let entries = if is_read { None } else { Some(accepted(answer, call, variant)?) };
+    // A call on a cell is on the matrix in the first slot, which begins behind its count.
+    let peer = agree_peer(peer, &after.store[1..], call, variant)?;
+    let section = Section::Store(scene.size);
+    Ok(Case { section, call, variant: variant.to_string(), entries, subjects: [Some(library), Some(ordinary), peer] })
+}

@@ -1,0 +1,180 @@
+//! Calls with their inputs, carried out by the library or by the ordinary program on the same buffers.
+
+use crate::ordinary as ordinary_calls;
+use crate::timing::Subject;
+use ostrubel::calls::{self as library_calls, OptionNumbers};
+use std::hint::black_box;
+use std::rc::Rc;
+
+pub use ostrubel::{MAX_MATRIX_WORDS as MATRIX_WORDS, MAX_STORE_WORDS as STORE_WORDS, WORKSPACE_WORDS as WORK_WORDS};
+
+pub const REPLACE: u32 = 1;
+pub const STRUCTURAL: u32 = 4;
+pub const TRANSPOSE_FIRST: u32 = 8;
+
+/// The operators that are measured: PLUS as monoid and accumulator, TIMES everywhere else.
+pub const PLUS: u32 = 3;
+pub const TIMES: u32 = 5;
+/// Apply multiplies by a scalar: the kind with the scalar second.
+const SCALAR_SECOND: u32 = 2;
+pub const SCALAR: u32 = 3;
+
+/// The buffers that calls write: the same for the library and the ordinary program.
+#[derive(Clone, PartialEq, Eq)]
+pub struct Buffers {
+    pub c: Vec<u32>,
+    pub store: Vec<u32>,
+    pub work: Vec<u32>,
+}
+
+impl Default for Buffers {
+    fn default() -> Self {
+        Buffers { c: vec![0; MATRIX_WORDS], store: vec![0; STORE_WORDS], work: vec![0; WORK_WORDS] }
+    }
+}
+
+pub enum Operation {
+    Mxm,
+    Vxm,
+    EwiseMult,
+    EwiseAdd,
+    Apply,
+    Extract { rows: Vec<u32>, cols: Vec<u32> },
+}
+
+/// An operation on lent matrices. `c` is old C.
+pub struct LentJob {
+    pub operation: Operation,
+    pub options: OptionNumbers,
+    pub a: Vec<u32>,
+    pub b: Vec<u32>,
+    pub mask: Vec<u32>,
+    pub c: Vec<u32>,
+}
+
+pub enum StoreCall {
+    NewEmpty { slot: usize, rows: u32, cols: u32 },
+    Drop { slot: usize },
+    SetCell { slot: usize, i: u32, j: u32, value: u32 },
+    ClearCell { slot: usize, i: u32, j: u32 },
+    ReadCell { slot: usize, i: u32, j: u32 },
+    Operation { operation: Operation, options: OptionNumbers, a: usize, b: usize, mask: usize, c: usize },
+}
+
+pub enum Job {
+    /// The check of a matrix.
+    Check(Vec<u32>),
+    /// Zeros over the workspace, by no call.
+    Fill,
+    Lent(LentJob),
+    /// A call on a store with these words.
+    Store(StoreCall, Vec<u32>),
+}
+
+impl Job {
+    /// Old C or the old store into their buffer. The workspace is as the last call left it: zeros.
+    pub fn restore(&self, buffers: &mut Buffers) {
+        match self {
+            Job::Check(_) | Job::Fill => {}
+            Job::Lent(job) => buffers.c[..job.c.len()].copy_from_slice(&job.c),
+            Job::Store(_, store) => buffers.store.copy_from_slice(store),
+        }
+    }
+
+    pub fn repeats(&self) -> bool {
+        matches!(self, Job::Check(_) | Job::Fill | Job::Store(StoreCall::ReadCell { .. }, _))
+    }
+}
+
+/// A job by the library or by the ordinary program: the answer.
+pub type Program = fn(&Job, &mut Buffers) -> u64;
+
+/// Jobs by the functions of a module.
+macro_rules! program {
+    ($name:ident, $calls:ident) => {
+        pub mod $name {
+            use super::*;
+
+            pub fn run(job: &Job, buffers: &mut Buffers) -> u64 {
+                match job {
+                    Job::Check(words) => $calls::check(words),
+                    Job::Fill => {
+                        buffers.work.fill(0);
+                        0
+                    }
+                    Job::Lent(job) => lent(job, &mut buffers.c, &mut buffers.work),
+                    Job::Store(call, _) => store(call, &mut buffers.store, &mut buffers.work),
+                }
+            }
+
+            fn lent(job: &LentJob, c: &mut [u32], work: &mut [u32]) -> u64 {
+                let LentJob { operation, options, a, b, mask, .. } = job;
+                match operation {
+                    Operation::Mxm => $calls::mxm(*options, PLUS, TIMES, a, b, mask, c, work),
+                    Operation::Vxm => $calls::vxm(*options, PLUS, TIMES, a, b, mask, c, work),
+                    Operation::EwiseMult => $calls::ewise_mult(*options, TIMES, a, b, mask, c, work),
+                    Operation::EwiseAdd => $calls::ewise_add(*options, TIMES, a, b, mask, c, work),
+                    Operation::Apply => $calls::apply(*options, SCALAR_SECOND, TIMES, SCALAR, a, mask, c, work),
+                    Operation::Extract { rows, cols } => $calls::extract(*options, a, rows, cols, mask, c, work),
+                }
+            }
+
+            fn store(call: &StoreCall, words: &mut [u32], work: &mut [u32]) -> u64 {
+                match *call {
+                    StoreCall::NewEmpty { slot, rows, cols } => $calls::store_new_empty(slot, rows, cols, words),
+                    StoreCall::Drop { slot } => $calls::store_drop(slot, words),
+                    StoreCall::SetCell { slot, i, j, value } => $calls::store_set_cell(slot, i, j, value, words),
+                    StoreCall::ClearCell { slot, i, j } => $calls::store_clear_cell(slot, i, j, words),
+                    StoreCall::ReadCell { slot, i, j } => $calls::store_read_cell(slot, i, j, words),
+                    StoreCall::Operation { ref operation, options, a, b, mask, c } => {
+                        store_operation(operation, options, [a, b, mask, c], words, work)
+                    }
+                }
+            }
+
+            fn store_operation(
+                operation: &Operation,
+                options: OptionNumbers,
+                [a, b, mask, c]: [usize; 4],
+                words: &mut [u32],
+                work: &mut [u32],
+            ) -> u64 {
+                match operation {
+                    Operation::Mxm => $calls::store_mxm(options, PLUS, TIMES, a, b, mask, c, words, work),
+                    Operation::Vxm => $calls::store_vxm(options, PLUS, TIMES, a, b, mask, c, words, work),
+                    Operation::EwiseMult => $calls::store_ewise_mult(options, TIMES, a, b, mask, c, words, work),
+                    Operation::EwiseAdd => $calls::store_ewise_add(options, TIMES, a, b, mask, c, words, work),
+                    Operation::Apply => {
+                        $calls::store_apply(options, SCALAR_SECOND, TIMES, SCALAR, a, mask, c, words, work)
+                    }
+                    Operation::Extract { rows, cols } => {
+                        $calls::store_extract(options, a, mask, c, words, rows, cols, work)
+                    }
+                }
+            }
+        }
+    };
+}
+
+program!(library, library_calls);
+program!(ordinary, ordinary_calls);
+
+/// A job to be timed.
+pub struct ProgramSubject {
+    pub job: Rc<Job>,
+    pub program: Program,
+}
+
+impl Subject for ProgramSubject {
+    fn restore(&mut self, buffers: &mut Buffers) {
+        self.job.restore(buffers);
+    }
+
+    fn call(&mut self, buffers: &mut Buffers) {
+        black_box((self.program)(black_box(&self.job), buffers));
+    }
+
+    fn repeats(&self) -> bool {
+        self.job.repeats()
+    }
+}

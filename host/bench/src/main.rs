@@ -1,0 +1,85 @@
+//! Measures all cases and prints the tables.
+
+use bench::cases::{all_cases, Case};
+use bench::rounds::measure;
+use bench::table::{insert, report};
+use std::fs;
+use std::process::ExitCode;
+use std::time::Duration;
+
+const USAGE: &str = "\
+bench [--seconds N] [--only TEXT] [--write FILE]
+
+Times the library's calls beside an ordinary Rust program and SuiteSparse:GraphBLAS (the feature suitesparse).
+  --seconds N   about how long it takes (120)
+  --only TEXT   only the cases whose call and variant have the text in them, as 'mxm, plain'; not with --write
+  --write FILE  puts the tables between the two marks in the file";
+
+struct Arguments {
+    seconds: u64,
+    only: String,
+    write: Option<String>,
+}
+
+fn arguments() -> Result<Arguments, String> {
+    let mut arguments = Arguments { seconds: 120, only: String::new(), write: None };
+    let mut given = std::env::args().skip(1);
+    while let Some(name) = given.next() {
+        let mut value = || given.next().ok_or(format!("{name} wants a value"));
+        match name.as_str() {
+            "--seconds" => {
+                let text = value()?;
+                arguments.seconds = text.parse().map_err(|_| format!("--seconds wants a number and not {text}"))?;
+            }
+            "--only" => arguments.only = value()?,
+            "--write" => arguments.write = Some(value()?),
+            _ => return Err(USAGE.to_string()),
+        }
+    }
+    Ok(arguments)
+}
+
+/// The document to be written, which has to have its marks before anything is measured.
+fn document(file: &str) -> Result<String, String> {
+    let text = fs::read_to_string(file).map_err(|error| format!("{file}: {error}"))?;
+    insert(&text, "").map_err(|error| format!("{file}: {error}"))?;
+    Ok(text)
+}
+
+fn run() -> Result<(), String> {
+    let Arguments { seconds, only, write } = arguments()?;
+    if write.is_some() && !only.is_empty() {
+        return Err("--write wants all cases, and so no --only".to_string());
+    }
+    let target = match write {
+        Some(file) => Some((document(&file)?, file)),
+        None => None,
+    };
+    let mut cases = all_cases()?;
+    cases.retain(|Case { call, variant, .. }| format!("{}, {variant}", call.trim_matches('`')).contains(&only));
+    if cases.is_empty() {
+        return Err(format!("no case has \"{only}\" in it"));
+    }
+    eprintln!("The sides agree on {} cases; measuring for about {seconds} s.", cases.len());
+    let measured = measure(&mut cases, Duration::from_secs(seconds));
+    let report = report(&cases, &measured);
+    print!("{report}");
+    if let Some((document, file)) = target {
+        fs::write(&file, insert(&document, &report)?).map_err(|error| format!("{file}: {error}"))?;
+    }
+    Ok(())
+}
+
+fn main() -> ExitCode {
+    if std::env::args().skip(1).any(|argument| argument == "--help") {
+        println!("{USAGE}");
+        return ExitCode::SUCCESS;
+    }
+    match run() {
+        Ok(()) => ExitCode::SUCCESS,
+        Err(text) => {
+            eprintln!("{text}");
+            ExitCode::FAILURE
+        }
+    }
+}

@@ -1,0 +1,164 @@
+//! The final C of a call whose inputs agree, row by row: a row of T, and its write-back.
+
+use super::answer::Result;
+use super::dense::{DenseRow, RowBuffer};
+use super::matrix::{Matrix, Row, MAX_SIDE, MAX_WORDS};
+use super::merge::{merge, MaskRow};
+use super::operators::{ApplyOp, BinaryOp};
+use super::output::Output;
+use super::request::{Inputs, Operation, Request};
+use super::transpose::transpose;
+use std::convert::Infallible;
+
+/// The final C, in the workspace. Refused by 10.
+pub fn compute<'w>(request: &Request, inputs: &Inputs, work: &'w mut [u32]) -> Result<Matrix<'w>> {
+    let (result, rest) = work.split_at_mut(MAX_WORDS);
+    let (first, second) = rest.split_at_mut(MAX_WORDS);
+    let a = if request.transpose_first { transpose(inputs.a, first) } else { inputs.a };
+    let b = if request.transpose_second { transpose(inputs.b, second) } else { inputs.b };
+    let write = Write { request, mask: inputs.mask, c: inputs.c };
+    match request.operation {
+        Operation::Mxm { monoid, op } | Operation::Vxm { monoid, op } => {
+            let mut dense = DenseRow::new();
+            write.rows(result, |i, t| product_row(monoid, op, a.row(i), b, &mut dense, t))
+        }
+        Operation::EwiseMult(op) => write.rows(result, |i, t| intersection_row(op, a.row(i), b.row(i), t)),
+        Operation::EwiseAdd(op) => write.rows(result, |i, t| union_row(op, a.row(i), b.row(i), t)),
+        Operation::Apply(op) => {
+            write.rows(result, |i, t| apply_row(op, request.transpose_first, i as u32, a.row(i), t))
+        }
+        Operation::Extract { rows, cols } => {
+            let mut dense = DenseRow::new();
+            let positions = Positions::new(cols, a.cols);
+            write.rows(result, |i, t| extract_row(a.row(rows[i] as usize), &positions, &mut dense, t))
+        }
+    }
+}
+
+/// How the rows of T are written back.
+struct Write<'a> {
+    request: &'a Request<'a>,
+    mask: Option<Matrix<'a>>,
+    c: Matrix<'a>,
+}
+
+impl Write<'_> {
+    /// The final C from the rows of T.
+    fn rows<'w>(&self, buffer: &'w mut [u32], mut result: impl FnMut(usize, &mut RowBuffer)) -> Result<Matrix<'w>> {
+        let mut output = Output::new(buffer);
+        let mut t = RowBuffer::new();
+        for i in 0..self.c.rows() {
+            t.clear();
+            result(i, &mut t);
+            if self.request.is_plain() {
+                output.push_row(t.row())?;
+            } else {
+                self.row(i, t.row(), &mut output)?;
+            }
+            output.end_row();
+        }
+        Ok(output.finish(self.c.cols))
+    }
+
+    /// Inside the mask C takes Z; outside it keeps its entry, or loses it under replace.
+    fn row(&self, i: usize, t: Row, output: &mut Output) -> Result<()> {
+        let Request { replace, complement, structural, accumulator, .. } = *self.request;
+        let mut mask = self.mask.map(|mask| MaskRow::new(mask.row(i), structural));
+        merge(self.c.row(i), t, |j, c, t| {
+            let selected = mask.as_mut().is_none_or(|mask| mask.selects(j));
+            let value = if selected != complement {
+                accumulator.map_or(t, |op| op.unite(c, t))
+            } else if replace {
+                None
+            } else {
+                c
+            };
+            value.map_or(Ok(()), |value| output.push(j, value))
+        })
+    }
+}
+
+/// Adds up the rows of b that the entries of a row name, each times its entry.
+fn product_row(monoid: BinaryOp, op: BinaryOp, a: Row, b: Matrix, dense: &mut DenseRow, t: &mut RowBuffer) {
+    for (k, x) in a.iter() {
+        for (j, y) in b.row(k as usize).iter() {
+            dense.add(j, op.apply(x, y), monoid);
+        }
+    }
+    dense.drain(b.cols, t);
+}
+
+fn intersection_row(op: BinaryOp, a: Row, b: Row, t: &mut RowBuffer) {
+    visit_both(a, b, |j, x, y| {
+        if let (Some(x), Some(y)) = (x, y) {
+            t.push(j, op.apply(x, y));
+        }
+    });
+}
+
+fn union_row(op: BinaryOp, a: Row, b: Row, t: &mut RowBuffer) {
+    visit_both(a, b, |j, x, y| {
+        if let Some(value) = op.unite(x, y) {
+            t.push(j, value);
+        }
+    });
+}
+
+/// A merge that cannot fail.
+fn visit_both(a: Row, b: Row, mut visit: impl FnMut(u32, Option<u32>, Option<u32>)) {
+    let done: std::result::Result<(), Infallible> = merge(a, b, |j, x, y| {
+        visit(j, x, y);
+        Ok(())
+    });
+    let Ok(()) = done;
+}
+
+fn apply_row(op: ApplyOp, transposed: bool, i: u32, a: Row, t: &mut RowBuffer) {
+    for (j, x) in a.iter() {
+        // The operator gets the row and the column of the matrix as stored.
+        let (row, column) = if transposed { (j, i) } else { (i, j) };
+        t.push(j, op.apply(x, row, column));
+    }
+}
+
+/// For each column of A the positions in the index list at which it is named.
+struct Positions {
+    starts: [u32; MAX_SIDE + 1],
+    positions: [u32; MAX_SIDE],
+    count: usize,
+}
+
+impl Positions {
+    fn new(list: &[u32], cols: usize) -> Self {
+        let mut starts = [0; MAX_SIDE + 1];
+        for &column in list {
+            starts[column as usize + 1] += 1;
+        }
+        for column in 0..cols {
+            starts[column + 1] += starts[column];
+        }
+        let mut next = starts;
+        let mut positions = [0; MAX_SIDE];
+        for (at, &column) in list.iter().enumerate() {
+            let next = &mut next[column as usize];
+            positions[*next as usize] = at as u32;
+            *next += 1;
+        }
+        Positions { starts, positions, count: list.len() }
+    }
+
+    fn of(&self, column: u32) -> &[u32] {
+        let column = column as usize;
+        &self.positions[self.starts[column] as usize..self.starts[column + 1] as usize]
+    }
+}
+
+/// Puts each entry of a row at every position that names its column.
+fn extract_row(a: Row, positions: &Positions, dense: &mut DenseRow, t: &mut RowBuffer) {
+    for (k, x) in a.iter() {
+        for &j in positions.of(k) {
+            dense.put(j, x);
+        }
+    }
+    dense.drain(positions.count, t);
+}

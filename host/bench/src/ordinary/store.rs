@@ -1,0 +1,276 @@
+//! The calls on a store.
+
+use super::answer::{ensure, pack, pack_cell, Refusal, Result};
+use super::compute::compute;
+use super::matrix::{side_valid, size, write_empty, Matrix, MAX_ENTRIES};
+use super::request::{Inputs, Operation, Request};
+use super::sections::{Bounds, Store, SLOTS};
+use ostrubel::calls::OptionNumbers;
+
+/// An empty matrix in a slot.
+pub fn store_new_empty(slot: usize, rows: u32, cols: u32, store: &mut [u32]) -> u64 {
+    pack(new_empty(slot, rows, cols, store))
+}
+
+/// A slot becomes empty.
+pub fn store_drop(slot: usize, store: &mut [u32]) -> u64 {
+    pack(empty(slot, store))
+}
+
+/// The cell at row i and column j takes a value.
+pub fn store_set_cell(slot: usize, i: u32, j: u32, value: u32, store: &mut [u32]) -> u64 {
+    pack(set_cell(slot, i, j, value, store))
+}
+
+/// The cell at row i and column j becomes absent.
+pub fn store_clear_cell(slot: usize, i: u32, j: u32, store: &mut [u32]) -> u64 {
+    pack(clear_cell(slot, i, j, store))
+}
+
+/// The cell at row i and column j of a slot's matrix.
+pub fn store_read_cell(slot: usize, i: u32, j: u32, store: &[u32]) -> u64 {
+    pack_cell(find_cell(slot, i, j, store).map(|(cell, _)| cell.value()))
+}
+
+fn new_empty(slot: usize, rows: u32, cols: u32, words: &mut [u32]) -> Result<usize> {
+    let bounds = parse(words, &[slot])?.bounds;
+    ensure(side_valid(rows) && side_valid(cols), Refusal::InvalidShape)?;
+    let size = size(rows as usize, 0);
+    ensure(bounds.needed(slot, size) <= words.len(), Refusal::InsufficientSpace)?;
+    bounds.resize(words, slot, size);
+    let at = bounds.contents_at(slot);
+    write_empty(&mut words[at..at + size], rows, cols);
+    Ok(0)
+}
+
+fn empty(slot: usize, words: &mut [u32]) -> Result<usize> {
+    let bounds = parse(words, &[slot])?.bounds;
+    bounds.resize(words, slot, 0);
+    Ok(0)
+}
+
+/// The store, where it is one and the slots are below 8. Refused by 12.
+fn parse<'a>(words: &'a [u32], slots: &[usize]) -> Result<Store<'a>> {
+    let store = Store::parse(words).ok_or(Refusal::InvalidStore)?;
+    ensure(slots.iter().all(|&slot| slot < SLOTS), Refusal::InvalidStore)?;
+    Ok(store)
+}
+
+/// A cell of a slot's matrix: the matrix, and the position of the cell's entry among all, or where it would be.
+struct Cell<'a> {
+    matrix: Matrix<'a>,
+    position: std::result::Result<usize, usize>,
+}
+
+impl Cell<'_> {
+    fn value(&self) -> Option<u32> {
+        self.position.ok().map(|at| self.matrix.values[at])
+    }
+}
+
+/// Refused by 12, 13 and 7.
+fn find_cell(slot: usize, i: u32, j: u32, words: &[u32]) -> Result<(Cell<'_>, Bounds)> {
+    let store = parse(words, &[slot])?;
+    let matrix = store.matrix(slot).ok_or(Refusal::EmptySlot)?;
+    let inside = (i as usize) < matrix.rows() && (j as usize) < matrix.cols;
+    ensure(inside, Refusal::IndexOutOfBounds)?;
+    let start = matrix.starts[i as usize] as usize;
+    let found = matrix.row(i as usize).columns.binary_search(&j);
+    let position = found.map(|at| start + at).map_err(|at| start + at);
+    Ok((Cell { matrix, position }, store.bounds))
+}
+
+/// Where the sections of a slot's matrix are in the store's words.
+struct Places {
+    starts: usize,
+    rows: usize,
+    columns: usize,
+    values: usize,
+}
+
+impl Places {
+    fn new(bounds: Bounds, slot: usize, rows: usize, entries: usize) -> Self {
+        let starts = bounds.contents_at(slot) + 4;
+        let columns = starts + rows + 2;
+        Places { starts, rows, columns, values: columns + entries + 1 }
+    }
+
+    /// The starts of the rows behind row i, and N.
+    fn starts_behind<'w>(&self, words: &'w mut [u32], i: u32) -> &'w mut [u32] {
+        &mut words[self.starts + i as usize + 1..self.starts + self.rows + 2]
+    }
+}
+
+fn set_cell(slot: usize, i: u32, j: u32, value: u32, words: &mut [u32]) -> Result<usize> {
+    let (Cell { matrix, position }, bounds) = find_cell(slot, i, j, words)?;
+    let (rows, entries) = (matrix.rows(), matrix.entries());
+    let places = Places::new(bounds, slot, rows, entries);
+    match position {
+        Ok(at) => {
+            words[places.values + at] = value;
+            Ok(entries)
+        }
+        Err(at) => {
+            ensure(entries < MAX_ENTRIES, Refusal::TooManyEntries)?;
+            ensure(bounds.end() + 2 <= words.len(), Refusal::InsufficientSpace)?;
+            let (column_at, value_at) = (places.columns + at, places.values + at);
+            words.copy_within(value_at..bounds.end(), value_at + 2);
+            words.copy_within(column_at..value_at, column_at + 1);
+            words[column_at] = j;
+            words[value_at + 1] = value;
+            words[places.values] = entries as u32 + 1;
+            places.starts_behind(words, i).iter_mut().for_each(|start| *start += 1);
+            words[bounds.contents_at(slot) - 1] += 2;
+            Ok(entries + 1)
+        }
+    }
+}
+
+fn clear_cell(slot: usize, i: u32, j: u32, words: &mut [u32]) -> Result<usize> {
+    let (Cell { matrix, position }, bounds) = find_cell(slot, i, j, words)?;
+    let (rows, entries) = (matrix.rows(), matrix.entries());
+    let Ok(at) = position else {
+        return Ok(entries);
+    };
+    let places = Places::new(bounds, slot, rows, entries);
+    let (column_at, value_at, end) = (places.columns + at, places.values + at, bounds.end());
+    words.copy_within(column_at + 1..value_at, column_at);
+    words.copy_within(value_at + 1..end, value_at - 1);
+    words[end - 2..end].fill(0);
+    words[places.values - 2] = entries as u32 - 1;
+    places.starts_behind(words, i).iter_mut().for_each(|start| *start -= 1);
+    words[bounds.contents_at(slot) - 1] -= 2;
+    Ok(entries - 1)
+}
+
+/// C gets A times B: op multiplies, the monoid adds up.
+#[allow(clippy::too_many_arguments)]
+pub fn store_mxm(
+    options: OptionNumbers,
+    monoid: u32,
+    op: u32,
+    a: usize,
+    b: usize,
+    mask: usize,
+    c: usize,
+    store: &mut [u32],
+    work: &mut [u32],
+) -> u64 {
+    run(options, Operation::mxm(monoid, op), Slots { a, b: Some(b), mask, c }, store, work)
+}
+
+/// C gets u times A, where u has one row.
+#[allow(clippy::too_many_arguments)]
+pub fn store_vxm(
+    options: OptionNumbers,
+    monoid: u32,
+    op: u32,
+    u: usize,
+    a: usize,
+    mask: usize,
+    c: usize,
+    store: &mut [u32],
+    work: &mut [u32],
+) -> u64 {
+    run(options, Operation::vxm(monoid, op), Slots { a: u, b: Some(a), mask, c }, store, work)
+}
+
+/// Where both A and B have an entry: op of the two.
+#[allow(clippy::too_many_arguments)]
+pub fn store_ewise_mult(
+    options: OptionNumbers,
+    op: u32,
+    a: usize,
+    b: usize,
+    mask: usize,
+    c: usize,
+    store: &mut [u32],
+    work: &mut [u32],
+) -> u64 {
+    run(options, Operation::ewise_mult(op), Slots { a, b: Some(b), mask, c }, store, work)
+}
+
+/// Where both A and B have an entry: op of the two; where one has: its value.
+#[allow(clippy::too_many_arguments)]
+pub fn store_ewise_add(
+    options: OptionNumbers,
+    op: u32,
+    a: usize,
+    b: usize,
+    mask: usize,
+    c: usize,
+    store: &mut [u32],
+    work: &mut [u32],
+) -> u64 {
+    run(options, Operation::ewise_add(op), Slots { a, b: Some(b), mask, c }, store, work)
+}
+
+/// An operator of a kind, with a scalar, on every entry of A.
+#[allow(clippy::too_many_arguments)]
+pub fn store_apply(
+    options: OptionNumbers,
+    kind: u32,
+    op: u32,
+    scalar: u32,
+    a: usize,
+    mask: usize,
+    c: usize,
+    store: &mut [u32],
+    work: &mut [u32],
+) -> u64 {
+    run(options, Operation::apply(kind, op, scalar), Slots { a, b: None, mask, c }, store, work)
+}
+
+/// At (i, j) the cell of A at row is[i] and column js[j].
+#[allow(clippy::too_many_arguments)]
+pub fn store_extract(
+    options: OptionNumbers,
+    a: usize,
+    mask: usize,
+    c: usize,
+    store: &mut [u32],
+    is: &[u32],
+    js: &[u32],
+    work: &mut [u32],
+) -> u64 {
+    run(options, Some(Operation::Extract { rows: is, cols: js }), Slots { a, b: None, mask, c }, store, work)
+}
+
+/// The slots that a call names. The mask's is not looked at where there is none.
+#[derive(Clone, Copy)]
+struct Slots {
+    a: usize,
+    b: Option<usize>,
+    mask: usize,
+    c: usize,
+}
+
+/// The attempt, and then the workspace is cleared.
+fn run(options: OptionNumbers, operation: Option<Operation>, slots: Slots, store: &mut [u32], work: &mut [u32]) -> u64 {
+    let answer = attempt(options, operation, slots, store, work);
+    work.fill(0);
+    pack(answer)
+}
+
+fn attempt(
+    options: OptionNumbers,
+    operation: Option<Operation>,
+    slots: Slots,
+    words: &mut [u32],
+    work: &mut [u32],
+) -> Result<usize> {
+    let Slots { a, b, mask, c } = slots;
+    let (b, mask) = (b.unwrap_or(a), if options.has_mask != 0 { mask } else { c });
+    let store = parse(words, &[a, b, mask, c])?;
+    let request = Request::new(options, operation)?;
+    let matrix = |slot| store.matrix(slot).ok_or(Refusal::EmptySlot);
+    let (a, b, mask, old) = (matrix(a)?, matrix(b)?, matrix(mask)?, matrix(c)?);
+    let inputs = Inputs { a, b, mask: request.has_mask.then_some(mask), c: old };
+    request.check(&inputs, work.len())?;
+    let result = compute(&request, &inputs, work)?;
+    let bounds = store.bounds;
+    ensure(bounds.needed(c, result.size()) <= words.len(), Refusal::InsufficientSpace)?;
+    bounds.resize(words, c, result.size());
+    result.write(&mut words[bounds.contents_at(c)..]);
+    Ok(result.entries())
+}

@@ -1,0 +1,167 @@
+//! The six operations.
+
+use super::Peer;
+use crate::entries::Entries;
+use crate::jobs::{Buffers, LentJob, Operation, SCALAR};
+use crate::timing::Subject;
+use suitesparse::{Apply, Binary, Descriptor, Matrix, Monoid, Semiring, Vector, WriteBack};
+
+const FAILED: &str = "SuiteSparse carries out the call";
+
+/// An operation on lent matrices.
+pub fn operation(job: &LentJob) -> Option<Box<dyn Peer>> {
+    match job.operation {
+        Operation::Vxm => Some(Box::new(VectorCall::new(job))),
+        _ => Some(Box::new(MatrixCall::new(job))),
+    }
+}
+
+fn matrix(words: &[u32]) -> Matrix {
+    let Entries { rows, cols, cells } = Entries::read(words);
+    let triples: Vec<(u32, u32, i32)> = cells.into_iter().map(|((i, j), value)| (i, j, value)).collect();
+    Matrix::from_triples(rows as u32, cols as u32, &triples).expect(FAILED)
+}
+
+fn vector(words: &[u32]) -> Vector {
+    let Entries { cols, cells, .. } = Entries::read(words);
+    let pairs: Vec<(u32, i32)> = cells.into_iter().map(|((_, j), value)| (j, value)).collect();
+    Vector::from_pairs(cols as u32, &pairs).expect(FAILED)
+}
+
+fn accumulator(job: &LentJob) -> Option<Binary> {
+    (job.options.has_accumulator != 0).then_some(job.options.accumulator).and_then(Binary::numbered)
+}
+
+fn semiring() -> Semiring {
+    Semiring::new(Monoid::Plus, Binary::Times).expect(FAILED)
+}
+
+fn wide(list: &[u32]) -> Vec<u64> {
+    list.iter().map(|&index| u64::from(index)).collect()
+}
+
+enum MatrixOperation {
+    Mxm(Semiring),
+    EwiseMult,
+    EwiseAdd,
+    Apply,
+    Extract { rows: Vec<u64>, cols: Vec<u64> },
+}
+
+struct MatrixCall {
+    operation: MatrixOperation,
+    a: Matrix,
+    b: Matrix,
+    mask: Option<Matrix>,
+    accumulator: Option<Binary>,
+    descriptor: Descriptor,
+    old: Matrix,
+    c: Matrix,
+}
+
+impl MatrixCall {
+    fn new(job: &LentJob) -> Self {
+        let operation = match &job.operation {
+            Operation::Mxm | Operation::Vxm => MatrixOperation::Mxm(semiring()),
+            Operation::EwiseMult => MatrixOperation::EwiseMult,
+            Operation::EwiseAdd => MatrixOperation::EwiseAdd,
+            Operation::Apply => MatrixOperation::Apply,
+            Operation::Extract { rows, cols } => MatrixOperation::Extract { rows: wide(rows), cols: wide(cols) },
+        };
+        MatrixCall {
+            operation,
+            a: matrix(&job.a),
+            b: matrix(&job.b),
+            mask: (job.options.has_mask != 0).then(|| matrix(&job.mask)),
+            accumulator: accumulator(job),
+            descriptor: Descriptor::new(job.options.flags).expect(FAILED),
+            old: matrix(&job.c),
+            c: matrix(&job.c),
+        }
+    }
+}
+
+impl Subject for MatrixCall {
+    fn restore(&mut self, _: &mut Buffers) {
+        self.c = self.old.duplicate().expect(FAILED);
+    }
+
+    fn call(&mut self, _: &mut Buffers) {
+        let MatrixCall { operation, a, b, mask, accumulator, descriptor, c, .. } = self;
+        let write = WriteBack { mask: mask.as_ref(), accumulator: *accumulator, descriptor };
+        let done = match operation {
+            MatrixOperation::Mxm(semiring) => suitesparse::mxm(c, write, semiring, a, b),
+            MatrixOperation::EwiseMult => suitesparse::ewise_mult(c, write, Binary::Times, a, b),
+            MatrixOperation::EwiseAdd => suitesparse::ewise_add(c, write, Binary::Times, a, b),
+            MatrixOperation::Apply => {
+                let apply = Apply::ScalarSecond(Binary::Times, SCALAR as i32);
+                suitesparse::apply(c, write, apply, a)
+            }
+            MatrixOperation::Extract { rows, cols } => suitesparse::extract(c, write, a, rows, cols),
+        };
+        done.expect(FAILED);
+    }
+
+    fn repeats(&self) -> bool {
+        false
+    }
+}
+
+impl Peer for MatrixCall {
+    fn result(&self) -> Entries {
+        let (rows, cols) = self.c.shape().expect(FAILED);
+        let triples = self.c.triples().expect(FAILED);
+        let cells = triples.into_iter().map(|(i, j, value)| ((i, j), value)).collect();
+        Entries { rows: rows as usize, cols: cols as usize, cells }
+    }
+}
+
+/// `vxm`, whose vectors are no matrices here.
+struct VectorCall {
+    semiring: Semiring,
+    u: Vector,
+    a: Matrix,
+    mask: Option<Vector>,
+    accumulator: Option<Binary>,
+    descriptor: Descriptor,
+    old: Vector,
+    w: Vector,
+}
+
+impl VectorCall {
+    fn new(job: &LentJob) -> Self {
+        VectorCall {
+            semiring: semiring(),
+            u: vector(&job.a),
+            a: matrix(&job.b),
+            mask: (job.options.has_mask != 0).then(|| vector(&job.mask)),
+            accumulator: accumulator(job),
+            descriptor: Descriptor::new(job.options.flags).expect(FAILED),
+            old: vector(&job.c),
+            w: vector(&job.c),
+        }
+    }
+}
+
+impl Subject for VectorCall {
+    fn restore(&mut self, _: &mut Buffers) {
+        self.w = self.old.duplicate().expect(FAILED);
+    }
+
+    fn call(&mut self, _: &mut Buffers) {
+        let write = WriteBack { mask: self.mask.as_ref(), accumulator: self.accumulator, descriptor: &self.descriptor };
+        suitesparse::vxm(&self.w, write, &self.semiring, &self.u, &self.a).expect(FAILED);
+    }
+
+    fn repeats(&self) -> bool {
+        false
+    }
+}
+
+impl Peer for VectorCall {
+    fn result(&self) -> Entries {
+        let cols = self.w.size().expect(FAILED) as usize;
+        let pairs = self.w.pairs().expect(FAILED);
+        Entries { rows: 1, cols, cells: pairs.into_iter().map(|(j, value)| ((0, j), value)).collect() }
+    }
+}

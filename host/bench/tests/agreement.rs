@@ -1,0 +1,136 @@
+//! The ordinary program and the library agree, word for word, on random calls: those that the second program makes.
+
+use bench::ordinary;
+use ostrubel::calls as library;
+use second::calls::{LentCall, LentOperation, Operation, StoreCall, StoreOperation};
+use second::generate_lent::lent_call;
+use second::generate_store::store_list;
+use second::rng::Rng;
+
+const SEED: u64 = 8;
+const LENT_CALLS: u64 = 14_000;
+const STORE_LISTS: u64 = 900;
+
+/// An answer, and the buffers that the call may have written.
+type Outcome = (u64, Vec<Vec<u32>>);
+
+/// The calls of the second program, carried out by the functions of a module.
+macro_rules! program {
+    ($name:ident, $calls:ident) => {
+        mod $name {
+            use super::*;
+
+            pub fn lent(call: &LentCall, work: Vec<u32>) -> Outcome {
+                match call {
+                    LentCall::Check { words } => ($calls::check(words), Vec::new()),
+                    LentCall::ReadCell { words, i, j } => ($calls::read_cell(*i, *j, words), Vec::new()),
+                    LentCall::RowView { first, second, i, values } => {
+                        ($calls::row_view(*i, *values, first, second), Vec::new())
+                    }
+                    LentCall::NewEmpty { words, rows, cols } => {
+                        let mut words = words.clone();
+                        ($calls::new_empty(*rows, *cols, &mut words), vec![words])
+                    }
+                    LentCall::Operation(call) => operation(call, work),
+                }
+            }
+
+            fn operation(call: &LentOperation, mut work_words: Vec<u32>) -> Outcome {
+                let options = call.options.numbers();
+                let [a, b, mask] = [call.a, call.b, call.mask].map(|role| call.inputs[role].as_slice());
+                let mut c_words = call.c.clone();
+                let (c, work) = (c_words.as_mut_slice(), work_words.as_mut_slice());
+                let answer = match &call.operation {
+                    Operation::Mxm { monoid, op } => $calls::mxm(options, *monoid, *op, a, b, mask, c, work),
+                    Operation::Vxm { monoid, op } => $calls::vxm(options, *monoid, *op, a, b, mask, c, work),
+                    Operation::EwiseMult { op } => $calls::ewise_mult(options, *op, a, b, mask, c, work),
+                    Operation::EwiseAdd { op } => $calls::ewise_add(options, *op, a, b, mask, c, work),
+                    Operation::Apply { kind, op, scalar } => {
+                        $calls::apply(options, *kind, *op, *scalar, a, mask, c, work)
+                    }
+                    Operation::Extract { rows, cols } => $calls::extract(options, a, rows, cols, mask, c, work),
+                };
+                (answer, vec![c_words, work_words])
+            }
+
+            pub fn store(words: &mut [u32], call: &StoreCall, work: Vec<u32>) -> (u64, Vec<u32>) {
+                match call {
+                    StoreCall::NewEmpty { slot, rows, cols } => {
+                        ($calls::store_new_empty(*slot, *rows, *cols, words), Vec::new())
+                    }
+                    StoreCall::Drop { slot } => ($calls::store_drop(*slot, words), Vec::new()),
+                    StoreCall::SetCell { slot, i, j, value } => {
+                        ($calls::store_set_cell(*slot, *i, *j, *value, words), Vec::new())
+                    }
+                    StoreCall::ClearCell { slot, i, j } => ($calls::store_clear_cell(*slot, *i, *j, words), Vec::new()),
+                    StoreCall::ReadCell { slot, i, j } => ($calls::store_read_cell(*slot, *i, *j, words), Vec::new()),
+                    StoreCall::Operation(call) => store_operation(words, call, work),
+                }
+            }
+
+            fn store_operation(words: &mut [u32], call: &StoreOperation, mut work_words: Vec<u32>) -> (u64, Vec<u32>) {
+                let options = call.options.numbers();
+                let StoreOperation { a, b, mask, c, .. } = *call;
+                let work = work_words.as_mut_slice();
+                let answer = match &call.operation {
+                    Operation::Mxm { monoid, op } => {
+                        $calls::store_mxm(options, *monoid, *op, a, b, mask, c, words, work)
+                    }
+                    Operation::Vxm { monoid, op } => {
+                        $calls::store_vxm(options, *monoid, *op, a, b, mask, c, words, work)
+                    }
+                    Operation::EwiseMult { op } => $calls::store_ewise_mult(options, *op, a, b, mask, c, words, work),
+                    Operation::EwiseAdd { op } => $calls::store_ewise_add(options, *op, a, b, mask, c, words, work),
+                    Operation::Apply { kind, op, scalar } => {
+                        $calls::store_apply(options, *kind, *op, *scalar, a, mask, c, words, work)
+                    }
+                    Operation::Extract { rows, cols } => {
+                        $calls::store_extract(options, a, mask, c, words, rows, cols, work)
+                    }
+                };
+                (answer, work_words)
+            }
+        }
+    };
+}
+
+program!(by_library, library);
+program!(by_ordinary, ordinary);
+
+#[test]
+fn calls_on_lent_matrices_agree() {
+    let mut accepted = 0;
+    for number in 0..LENT_CALLS {
+        let call = lent_call(&mut Rng::of_case(SEED, 1, number));
+        let work = match &call {
+            LentCall::Operation(call) => call.work.words(),
+            _ => Vec::new(),
+        };
+        let (expected, seen) = (by_library::lent(&call, work.clone()), by_ordinary::lent(&call, work));
+        assert!(expected == seen, "seed {SEED}, call {number}: {}", call.name());
+        accepted += u64::from(expected.0 & 255 == 0);
+    }
+    assert!(accepted * 4 > LENT_CALLS, "enough accepted calls: {accepted}");
+}
+
+#[test]
+fn calls_on_a_store_agree() {
+    let (mut calls, mut accepted) = (0, 0);
+    for number in 0..STORE_LISTS {
+        let list = store_list(&mut Rng::of_case(SEED, 2, number));
+        let (mut expected_store, mut seen_store) = (list.store.clone(), list.store.clone());
+        for call in &list.calls {
+            let work = match call {
+                StoreCall::Operation(call) => call.work.words(),
+                _ => Vec::new(),
+            };
+            let expected = by_library::store(&mut expected_store, call, work.clone());
+            let seen = by_ordinary::store(&mut seen_store, call, work);
+            let same = expected == seen && expected_store == seen_store;
+            assert!(same, "seed {SEED}, list {number}: {}", call.name());
+            calls += 1;
+            accepted += u64::from(expected.0 & 255 == 0);
+        }
+    }
+    assert!(calls > 10_000 && accepted * 4 > calls, "enough calls: {calls}, {accepted} accepted");
+}

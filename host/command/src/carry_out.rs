@@ -1,0 +1,99 @@
+//! A call carried out on a store in memory.
+
+use crate::call::{Call, Kind, Operation};
+use crate::names::{IndexList, Whole};
+use crate::refusal::Refusal;
+use ostrubel::{Error, Store, SLOTS};
+
+/// Carries out the call and answers what it prints. A refused call leaves the store as it was.
+pub fn carry_out(call: &Call, store: &mut Store) -> Result<String, Refusal> {
+    attempt(call, store).map_err(|error| Refusal::of_call(error, call, store))
+}
+
+fn attempt(call: &Call, store: &mut Store) -> Result<String, Error> {
+    match call {
+        Call::Lay { slot, rows, cols } => {
+            store.new_empty(slot.size(), rows.index(), cols.index())?;
+            Ok(format!("place {slot}: {rows} by {cols}, 0 entries"))
+        }
+        Call::Drop { slot } => {
+            store.drop_slot(slot.size())?;
+            Ok(format!("place {slot}: empty"))
+        }
+        Call::Set { cell, value } => {
+            let entries = store.set(cell.slot.size(), cell.row.index(), cell.col.index(), *value)?;
+            Ok(written(&cell.slot, entries))
+        }
+        Call::Clear { cell } => {
+            let entries = store.clear(cell.slot.size(), cell.row.index(), cell.col.index())?;
+            Ok(written(&cell.slot, entries))
+        }
+        Call::Read { cell } => {
+            let value = store.get(cell.slot.size(), cell.row.index(), cell.col.index())?;
+            Ok(value.map_or("empty".to_string(), |value| value.to_string()))
+        }
+        Call::Show { slot } => Ok(store.matrix(slot.size())?.to_string()),
+        Call::List => list(store),
+        Call::Operation(operation) => {
+            let entries = operate(operation, store)?;
+            Ok(written(&operation.c, entries))
+        }
+    }
+}
+
+fn written(slot: &Whole, entries: usize) -> String {
+    format!("place {slot}: {}", counted(entries, "entry", "entries"))
+}
+
+/// A count with its noun.
+pub fn counted(count: usize, one: &str, more: &str) -> String {
+    format!("{count} {}", if count == 1 { one } else { more })
+}
+
+fn operate(operation: &Operation, store: &mut Store) -> Result<usize, Error> {
+    let c = operation.c.size();
+    let options = operation.write_back.options();
+    match &operation.kind {
+        Kind::Mxm { semiring, a, b } => store.mxm(c, *semiring, a.size(), b.size(), &options),
+        Kind::Vxm { semiring, u, a } => store.vxm(c, *semiring, u.size(), a.size(), &options),
+        Kind::EwiseMult { op, a, b } => store.ewise_mult(c, *op, a.size(), b.size(), &options),
+        Kind::EwiseAdd { op, a, b } => store.ewise_add(c, *op, a.size(), b.size(), &options),
+        Kind::Apply { op, a } => store.apply(c, *op, a.size(), &options),
+        Kind::Extract { a, rows, cols } => {
+            // Without a matrix the call is refused whatever the lists are.
+            let (all_rows, all_cols) = shape(a, operation.write_back.transpose_first, store).unwrap_or((1, 1));
+            store.extract(c, a.size(), &indexes(rows, all_rows), &indexes(cols, all_cols), &options)
+        }
+    }
+}
+
+/// Rows and columns of a slot's matrix, as transposed.
+pub fn shape(slot: &Whole, transposed: bool, store: &Store) -> Option<(u32, u32)> {
+    let matrix = store.matrix(slot.size()).ok()?;
+    Some(if transposed { (matrix.cols(), matrix.rows()) } else { (matrix.rows(), matrix.cols()) })
+}
+
+fn indexes(list: &IndexList, all: u32) -> Vec<u32> {
+    match list {
+        IndexList::All => (0..all).collect(),
+        IndexList::Listed(indexes) => indexes.iter().map(|index| index.index()).collect(),
+    }
+}
+
+/// A line for each slot, and one for the words.
+fn list(store: &Store) -> Result<String, Error> {
+    let mut lines = Vec::new();
+    for slot in 0..SLOTS {
+        if store.occupied(slot) {
+            let matrix = store.matrix(slot)?;
+            let entries = counted(matrix.entries(), "entry", "entries");
+            let words = matrix.words().len();
+            lines.push(format!("place {slot}: {} by {}, {entries}, {words} words", matrix.rows(), matrix.cols()));
+        } else {
+            lines.push(format!("place {slot}: empty"));
+        }
+    }
+    let (used, all) = (store.used_words(), store.words().len());
+    lines.push(format!("words: {used} used, {} free, {all} in all", all.saturating_sub(used)));
+    Ok(lines.join("\n"))
+}

@@ -1,0 +1,128 @@
+//! The pages of the help, which are the texts in the folder `help`.
+
+use crate::commands::Command;
+use ostrubel::Error;
+
+const PAGE_WIDTH: usize = 98;
+
+/// The first page.
+pub const OVERVIEW: &str = include_str!("help/overview.txt");
+
+/// What the pages of the six operations end with.
+const OPTIONS: &str = include_str!("help/options.txt");
+
+/// The page about a command or another topic.
+pub fn page(topic: &str) -> Option<String> {
+    if let Some(command) = Command::find(topic) {
+        return Some(command_page(command));
+    }
+    match topic.to_lowercase().as_str() {
+        "options" => Some(format!("Options of the six operations\n\n{OPTIONS}")),
+        "operators" => Some(include_str!("help/operators.txt").to_string()),
+        "refusals" => Some(refusals()),
+        _ => None,
+    }
+}
+
+/// How a command is written.
+pub fn form(command: Command) -> &'static str {
+    command_text(command).lines().next().unwrap_or_default()
+}
+
+fn command_page(command: Command) -> String {
+    let text = command_text(command);
+    if command.is_operation() {
+        format!("{text}\n{OPTIONS}")
+    } else {
+        text.to_string()
+    }
+}
+
+fn command_text(command: Command) -> &'static str {
+    match command {
+        Command::New => include_str!("help/new.txt"),
+        Command::Lay => include_str!("help/lay.txt"),
+        Command::Drop => include_str!("help/drop.txt"),
+        Command::Set => include_str!("help/set.txt"),
+        Command::Clear => include_str!("help/clear.txt"),
+        Command::Read => include_str!("help/read.txt"),
+        Command::Show => include_str!("help/show.txt"),
+        Command::List => include_str!("help/list.txt"),
+        Command::Mxm => include_str!("help/mxm.txt"),
+        Command::Vxm => include_str!("help/vxm.txt"),
+        Command::EwiseMult => include_str!("help/ewise_mult.txt"),
+        Command::EwiseAdd => include_str!("help/ewise_add.txt"),
+        Command::Apply => include_str!("help/apply.txt"),
+        Command::Extract => include_str!("help/extract.txt"),
+        Command::Run => include_str!("help/run.txt"),
+        Command::Help => OVERVIEW,
+    }
+}
+
+/// The refusals that can come up here, with the library's sentences broken into lines.
+///
+/// The others are about numbers and buffers that the command makes itself.
+fn refusals() -> String {
+    let mut page = "Refusals: the first of these that applies is given\n\n".to_string();
+    for error in [
+        Error::InvalidStore,
+        Error::EmptySlot,
+        Error::IndexOutOfBounds,
+        Error::InvalidShape,
+        Error::TooManyEntries,
+        Error::InsufficientSpace,
+    ] {
+        let mut line = format!("{:>4} ", error.number());
+        for word in error.to_string().split(' ') {
+            if line.chars().count() + 1 + word.chars().count() > PAGE_WIDTH {
+                page.push_str(&format!("{line}\n"));
+                line = " ".repeat(5);
+            }
+            line.push(' ');
+            line.push_str(word);
+        }
+        page.push_str(&format!("{line}\n"));
+    }
+    page + include_str!("help/not_refused.txt")
+}
+
+#[cfg(test)]
+mod tests {
+    use super::*;
+    use crate::task::Task;
+    use std::ffi::OsString;
+
+    fn pages() -> Vec<String> {
+        let topics = Command::ALL.map(Command::name).into_iter().chain(["options", "operators", "refusals"]);
+        topics.map(|topic| page(topic).unwrap_or_else(|| panic!("no page {topic}"))).collect()
+    }
+
+    #[test]
+    fn each_page_fits_one_screen() {
+        for page in pages() {
+            assert!(page.lines().count() < 60, "{page}");
+            for line in page.lines() {
+                assert!(line.chars().count() <= 100, "{line}");
+            }
+        }
+    }
+
+    #[test]
+    fn each_example_is_a_command() {
+        for page in pages() {
+            for line in page.lines().filter_map(|line| line.strip_prefix("    ostrubel ")) {
+                let words: Vec<OsString> = line.split(' ').map(OsString::from).collect();
+                assert!(Task::parse(&words).is_ok(), "{line}");
+            }
+        }
+    }
+
+    #[test]
+    fn each_command_is_on_the_first_page_and_on_its_own() {
+        for command in Command::ALL {
+            assert!(OVERVIEW.lines().any(|line| line.starts_with(&format!("  {} ", command.name()))), "{command:?}");
+            let first = command_page(command);
+            assert!(command == Command::Help || first.starts_with(&format!("ostrubel {} FILE", command.name())));
+        }
+    }
+}

@@ -1,0 +1,66 @@
+//! The command `ostrubel`: a store of eight matrices kept in a file, in the words of its users: a matrix is a sheet, a
+//! store is a shelf, and a slot is a place on it.
+//!
+//! `task` reads the command line, `commands`, `arguments`, `names` and `call` what stands in it; `carry_out` does a
+//! call on a store in memory, `script` many of them; `shelf_file` reads and saves; `refusal` and `failure` say why
+//! something was not done. All rules about matrices are the library's.
+//!
+//! The exit status is 0, or 1 for a refused call, 2 for wrong usage, 3 where a file or the output cannot be read or
+//! written.
+
+#![forbid(unsafe_code)]
+
+mod arguments;
+mod call;
+mod carry_out;
+mod commands;
+mod failure;
+mod help;
+mod names;
+mod output;
+mod refusal;
+mod script;
+mod shelf_file;
+mod task;
+
+use failure::{Failure, WRONG_USAGE};
+use output::Output;
+use std::ffi::OsString;
+use std::io::Write;
+use std::process::ExitCode;
+use task::Task;
+
+fn main() -> ExitCode {
+    let words: Vec<OsString> = std::env::args_os().skip(1).collect();
+    if words.is_empty() {
+        complain(help::OVERVIEW);
+        return ExitCode::from(WRONG_USAGE);
+    }
+    match carry_out(&words) {
+        Ok(()) => ExitCode::SUCCESS,
+        Err(failure) => {
+            complain(&failure.to_string());
+            ExitCode::from(failure.exit_status())
+        }
+    }
+}
+
+fn carry_out(words: &[OsString]) -> Result<(), Failure> {
+    let task = Task::parse(words)?;
+    let mut output = Output::new();
+    match task.carry_out(&mut output) {
+        Ok(saved) => output.write().map_err(|error| Failure::output(saved, &error)),
+        Err(failure) => {
+            // A script tells how far it came. The failure is more important than one of the output.
+            if failure.is_at_line() {
+                let _ = output.write();
+            }
+            Err(failure)
+        }
+    }
+}
+
+/// Writes to standard error. Where that is closed, there is nobody to tell.
+fn complain(text: &str) {
+    let _ = writeln!(std::io::stderr(), "{}", text.trim_end());
+}

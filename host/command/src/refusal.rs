@@ -1,0 +1,234 @@
+//! A refusal: its number, what is wrong, and what it is about.
+
+use crate::call::{Call, Kind, Operation, Role};
+use crate::carry_out::{self, counted};
+use crate::names::{IndexList, Whole};
+use ostrubel::{Error, Store, MAX_COLS, MAX_INDEXES, MAX_ROWS, MAX_STORE_WORDS, MIN_STORE_WORDS, SLOTS};
+use std::fmt;
+use std::path::Path;
+
+#[derive(Debug)]
+pub struct Refusal {
+    error: Error,
+    /// The library's sentence, or one that fits the case better.
+    sentence: String,
+    /// The arguments that it is about; may be empty.
+    about: Vec<String>,
+}
+
+impl fmt::Display for Refusal {
+    fn fmt(&self, f: &mut fmt::Formatter<'_>) -> fmt::Result {
+        write!(f, "refused ({}): {}", self.error.number(), self.sentence)?;
+        if !self.about.is_empty() {
+            write!(f, " ({})", self.about.join(", "))?;
+        }
+        Ok(())
+    }
+}
+
+impl Refusal {
+    /// Of a new shelf of so many words.
+    pub fn of_length(error: Error, words: &Whole) -> Refusal {
+        let sentence = format!("A shelf has {MIN_STORE_WORDS} to {MAX_STORE_WORDS} words, and not {words}.");
+        Refusal { error, sentence, about: Vec::new() }
+    }
+
+    /// Of a file that holds no shelf. `size` is its length, as a text.
+    pub fn of_file(error: Error, path: &Path, size: &str) -> Refusal {
+        let name = path.display();
+        let sentence = format!("{name} is not a shelf, or is damaged ({size}): check the name, or take a sound copy.");
+        Refusal { error, sentence, about: Vec::new() }
+    }
+
+    /// The refusal of a call on this store, which is as it was before the call.
+    pub fn of_call(error: Error, call: &Call, store: &Store) -> Refusal {
+        let (sentence, about) = match (error, call) {
+            (Error::InvalidStore, _) => (no_place(call), Vec::new()),
+            (Error::InvalidShape, Call::Lay { rows, cols, .. }) => {
+                let sentence = format!("A sheet has 1 to {MAX_ROWS} rows and 1 to {MAX_COLS} columns.");
+                (Some(sentence), vec![format!("{rows} by {cols}")])
+            }
+            (Error::InvalidShape, Call::Operation(operation)) => misfits(operation, store),
+            (Error::EmptySlot, _) => (None, places(call, |role| !store.occupied(role.slot.size()))),
+            (Error::IndexOutOfBounds, _) => (None, outside(call, store)),
+            (Error::TooManyEntries, _) => (None, entries(call, store)),
+            (Error::InsufficientSpace, _) => (None, words(store)),
+            _ => (None, Vec::new()),
+        };
+        Refusal { error, sentence: sentence.unwrap_or_else(|| error.to_string()), about }
+    }
+}
+
+/// The place, and in an operation what it is there for.
+fn name(role: &Role) -> String {
+    if role.name.is_empty() {
+        format!("place {}", role.slot)
+    } else {
+        format!("place {} ({})", role.slot, role.name)
+    }
+}
+
+/// The places of a call that some test picks out.
+fn places(call: &Call, picked: impl Fn(&Role) -> bool) -> Vec<String> {
+    call.roles().iter().filter(|role| picked(role)).map(name).collect()
+}
+
+fn no_place(call: &Call) -> Option<String> {
+    let none = places(call, |role| role.slot.size() >= SLOTS);
+    let last = SLOTS - 1;
+    (!none.is_empty()).then(|| format!("There is no {}: places are 0 to {last}.", none.join(" and no ")))
+}
+
+/// A sheet of an operation: its name, and its shape as transposed.
+struct Sheet {
+    name: String,
+    transposed: &'static str,
+    rows: u32,
+    cols: u32,
+}
+
+impl Sheet {
+    fn of(role: &Role, store: &Store) -> Option<Sheet> {
+        let (rows, cols) = carry_out::shape(role.slot, role.transposed, store)?;
+        let transposed = if role.transposed { " as transposed" } else { "" };
+        Some(Sheet { name: name(role), transposed, rows, cols })
+    }
+
+    fn shape(&self) -> (u32, u32) {
+        (self.rows, self.cols)
+    }
+
+    fn is(&self) -> String {
+        format!("{} is {} by {}{}", self.name, self.rows, self.cols, self.transposed)
+    }
+
+    fn has_rows(&self) -> String {
+        format!("{} has {}{}", self.name, counted(self.rows as usize, "row", "rows"), self.transposed)
+    }
+
+    fn has_cols(&self) -> String {
+        format!("{} has {}{}", self.name, counted(self.cols as usize, "column", "columns"), self.transposed)
+    }
+
+    /// Nothing where it has this shape.
+    fn must_be(&self, (rows, cols): (u32, u32)) -> Option<String> {
+        (self.shape() != (rows, cols)).then(|| format!("{} and must be {rows} by {cols}", self.is()))
+    }
+}
+
+/// What an operation needs, and the shapes that are not so. No sentence where nothing is found.
+fn misfits(operation: &Operation, store: &Store) -> (Option<String>, Vec<String>) {
+    let sheets: Option<Vec<Sheet>> = operation.roles().iter().map(|role| Sheet::of(role, store)).collect();
+    let sheets = sheets.unwrap_or_default();
+    let (need, mut about) = match (&operation.kind, sheets.as_slice()) {
+        (Kind::Mxm { .. }, [a, b, .., c]) => {
+            let need = "A must have as many columns as B has rows, and C the rows of A and the columns of B";
+            (need, facts([inner(a, b), c.must_be((a.rows, b.cols))]))
+        }
+        (Kind::Vxm { .. }, [u, a, .., c]) => {
+            let need = "U must have one row and as many columns as A has rows, and C one row and the columns of A";
+            let row = (u.rows != 1).then(|| u.has_rows());
+            (need, facts([row, inner(u, a), c.must_be((1, a.cols))]))
+        }
+        (Kind::EwiseMult { .. } | Kind::EwiseAdd { .. }, [a, b, .., c]) => {
+            let inputs = (a.shape() != b.shape()).then(|| format!("{}, {}", a.is(), b.is()));
+            let output = c.must_be(a.shape()).filter(|_| inputs.is_none());
+            ("A, B and C must have the same shape", facts([inputs, output]))
+        }
+        (Kind::Apply { .. }, [a, .., c]) => ("C must have the shape of A", facts([c.must_be(a.shape())])),
+        (Kind::Extract { rows, cols, .. }, [a, .., c]) => {
+            let (rows, cols) = (chosen(rows, a.rows), chosen(cols, a.cols));
+            let fits = (c.rows as usize, c.cols as usize) == (rows, cols);
+            let chosen = (!fits).then(|| {
+                let (rows, cols) = (counted(rows, "row", "rows"), counted(cols, "column", "columns"));
+                format!("{rows} and {cols} are chosen, {}", c.is())
+            });
+            ("C must have as many rows and columns as are chosen", facts([chosen]))
+        }
+        _ => return (None, Vec::new()),
+    };
+    let mut needs: Vec<&str> = if about.is_empty() { Vec::new() } else { vec![need] };
+    let transposed = operation.roles().iter().any(|role| role.transposed) && !needs.is_empty();
+    let transposed = if transposed { " as transposed" } else { "" };
+    match (&operation.write_back.mask, sheets.as_slice()) {
+        (Some(_), [.., mask, c]) if mask.shape() != c.shape() => {
+            needs.push("the mask must have the shape of C");
+            about.push(mask.is());
+            if !about.iter().any(|fact| fact.contains(&c.name)) {
+                about.push(c.is());
+            }
+        }
+        _ => {}
+    }
+    ((!needs.is_empty()).then(|| format!("The shapes do not fit{transposed}: {}.", needs.join("; "))), about)
+}
+
+fn facts<const N: usize>(facts: [Option<String>; N]) -> Vec<String> {
+    facts.into_iter().flatten().collect()
+}
+
+/// The columns of the first and the rows of the second, where they differ.
+fn inner(first: &Sheet, second: &Sheet) -> Option<String> {
+    (first.cols != second.rows).then(|| format!("{}, {}", first.has_cols(), second.has_rows()))
+}
+
+/// How many a list chooses among so many.
+fn chosen(list: &IndexList, all: u32) -> usize {
+    match list {
+        IndexList::All => all as usize,
+        IndexList::Listed(indexes) => indexes.len(),
+    }
+}
+
+/// The row, the column or the index lists, and the sheet that they are outside of.
+fn outside(call: &Call, store: &Store) -> Vec<String> {
+    let asked = match call {
+        Call::Set { cell, .. } | Call::Clear { cell } | Call::Read { cell } => {
+            vec![format!("row {}", cell.row), format!("column {}", cell.col)]
+        }
+        Call::Operation(operation) => index_lists(operation, store),
+        _ => Vec::new(),
+    };
+    let sheet = call.roles().first().and_then(|role| Sheet::of(role, store));
+    asked.into_iter().chain(sheet.map(|sheet| sheet.is())).collect()
+}
+
+fn index_lists(operation: &Operation, store: &Store) -> Vec<String> {
+    let Kind::Extract { a, rows, cols } = &operation.kind else {
+        return Vec::new();
+    };
+    let Some((row_count, col_count)) = carry_out::shape(a, operation.write_back.transpose_first, store) else {
+        return Vec::new();
+    };
+    [index_list("--rows", rows, row_count), index_list("--cols", cols, col_count)].into_iter().flatten().collect()
+}
+
+/// What is wrong with a list whose indexes have to be below `limit`.
+fn index_list(option: &str, list: &IndexList, limit: u32) -> Option<String> {
+    let IndexList::Listed(indexes) = list else {
+        return None;
+    };
+    let past = |index: &&Whole| index.index() >= limit;
+    if indexes.is_empty() {
+        Some(format!("{option} has no index"))
+    } else if let Some(index) = indexes.iter().find(past) {
+        Some(format!("{option} has {index}"))
+    } else if indexes.len() > MAX_INDEXES {
+        Some(format!("{option} has more than {MAX_INDEXES} indexes"))
+    } else {
+        None
+    }
+}
+
+/// The sheet that would be too full, which is the last one that a call names.
+fn entries(call: &Call, store: &Store) -> Vec<String> {
+    let counted = call.roles().pop().and_then(|role| {
+        let entries = store.matrix(role.slot.size()).ok()?.entries();
+        Some(format!("{} has {} now", name(&role), counted(entries, "entry", "entries")))
+    });
+    counted.into_iter().collect()
+}
+
+fn words(store: &Store) -> Vec<String> {
+    vec![format!("{} of {} words are used now", store.used_words(), store.words().len())]
+}

@@ -1,0 +1,117 @@
+//! What one run of the command has to do, by its command line.
+
+use crate::arguments::Arguments;
+use crate::call::Call;
+use crate::carry_out::carry_out;
+use crate::commands::Command;
+use crate::failure::{Failure, Usage};
+use crate::help;
+use crate::names::Whole;
+use crate::output::Output;
+use crate::script::Script;
+use crate::shelf_file;
+use ostrubel::Store;
+use std::ffi::OsString;
+use std::path::{Path, PathBuf};
+
+pub enum Task {
+    /// Prints a text.
+    Print(String),
+    New {
+        file: PathBuf,
+        words: Whole,
+    },
+    Call {
+        file: PathBuf,
+        call: Call,
+    },
+    Run {
+        file: PathBuf,
+        script: OsString,
+    },
+}
+
+impl Task {
+    /// By the words after the program's name.
+    pub fn parse(words: &[OsString]) -> Result<Task, Usage> {
+        let texts: Vec<String> = words.iter().map(|word| word.to_string_lossy().into_owned()).collect();
+        let name = texts.first().map_or("", String::as_str);
+        let page = match name {
+            "--help" | "-h" => Some(help::OVERVIEW.to_string()),
+            "--version" | "-V" => Some(format!("ostrubel {}", env!("CARGO_PKG_VERSION"))),
+            _ => None,
+        };
+        match (page, Command::find(name), texts.get(1).map(String::as_str)) {
+            (Some(page), _, None) => Ok(Task::Print(page)),
+            (Some(_), _, Some(word)) => Err(Usage::new("", format!("{name}: {word:?} is one word too many"))),
+            (None, None, _) => Err(Usage::new("", format!("no command {name:?}"))),
+            (None, Some(Command::Help), _) => help_task(&texts[1..]),
+            (None, Some(command), Some("--help" | "-h")) => {
+                help_task(&[&[command.name().to_string()], &texts[2..]].concat())
+            }
+            (None, Some(command), _) => file_task(command, &words[1..]),
+        }
+    }
+
+    /// Whether a file was written.
+    pub fn carry_out(&self, output: &mut Output) -> Result<bool, Failure> {
+        match self {
+            Task::Print(text) => {
+                output.print(text);
+                Ok(false)
+            }
+            Task::New { file, words } => {
+                shelf_file::create(file, words)?;
+                output.print(&format!("{}: {words} words, all places empty", file.display()));
+                Ok(true)
+            }
+            Task::Call { file, call } => on_shelf(file, call.writes(), |store| {
+                output.print(&carry_out(call, store)?);
+                Ok(())
+            }),
+            Task::Run { file, script } => {
+                let script = Script::read(script)?;
+                on_shelf(file, script.writes(), |store| script.carry_out(store, output))
+            }
+        }
+    }
+}
+
+fn help_task(topics: &[String]) -> Result<Task, Usage> {
+    match topics {
+        [] => Ok(Task::Print(help::OVERVIEW.to_string())),
+        [topic] => match help::page(topic) {
+            Some(page) => Ok(Task::Print(page)),
+            None => Err(Usage::new("", format!("no help about {topic:?}"))),
+        },
+        _ => Err(Usage::new("", "help: one command at a time")),
+    }
+}
+
+/// A task of a command that has FILE, by the words behind the command's name.
+fn file_task(command: Command, words: &[OsString]) -> Result<Task, Usage> {
+    let (file, arguments) = Arguments::split_with_file(command, words)?;
+    match command {
+        Command::New => {
+            let words = arguments.whole(0)?;
+            arguments.finish()?;
+            Ok(Task::New { file, words })
+        }
+        Command::Run => {
+            let script = arguments.word(0)?;
+            arguments.finish()?;
+            Ok(Task::Run { file, script })
+        }
+        _ => Ok(Task::Call { file, call: Call::parse(command, arguments)? }),
+    }
+}
+
+/// Does some work on the shelf in a file. Whether the file was written.
+fn on_shelf(file: &Path, writes: bool, work: impl FnOnce(&mut Store) -> Result<(), Failure>) -> Result<bool, Failure> {
+    if writes {
+        shelf_file::update(file, work)
+    } else {
+        work(&mut shelf_file::read(file)?)?;
+        Ok(false)
+    }
+}

@@ -1,0 +1,100 @@
+//! Output that nobody reads, and output that cannot be written.
+
+mod common;
+
+use common::{Folder, OSTRUBEL};
+use std::fs::OpenOptions;
+use std::process::{Output, Stdio};
+
+/// Runs the command with standard output closed at the other end before it starts.
+fn run_closed(folder: &Folder, line: &str) -> Output {
+    let (reader, writer) = std::io::pipe().unwrap();
+    drop(reader);
+    folder.command(OSTRUBEL).args(line.split_whitespace()).stdout(writer).output().unwrap()
+}
+
+/// A shelf whose place 0 has 2,048 entries, and a script that prints them twenty times.
+fn long_output() -> Folder {
+    let folder = Folder::new();
+    folder.accept("new s 16384");
+    let zeros = vec!["0"; 512].join(",");
+    folder.script(
+        "s",
+        &format!("lay 1 1 1\nset 1 0 0 -2147483648\nlay 0 512 4\nextract 0 1 --rows {zeros} --cols 0,0,0,0\n"),
+    );
+    folder.write("script", format!("set 1 0 0 5\n{}", "show 0\n".repeat(20)));
+    folder
+}
+
+#[test]
+fn a_closed_pipe_is_no_failure() {
+    let folder = long_output();
+    for line in
+        ["show s 0", "list s", "read s 0 0 0", "help", "--version", "set s 1 0 0 4", "new t 100", "run s script"]
+    {
+        let output = run_closed(&folder, line);
+        assert_eq!((output.status.code(), output.stderr.as_slice()), (Some(0), &b""[..]), "{line}");
+    }
+    folder.prints("read s 1 0 0", "5\n");
+    assert_eq!(folder.bytes("t").len(), 400);
+}
+
+#[test]
+fn a_pipe_that_is_closed_midway() {
+    let folder = long_output();
+    let output = folder.shell("ostrubel run s script | head -n 3");
+    assert_eq!(String::from_utf8(output.stdout).unwrap(), "> set 1 0 0 5\nplace 1: 1 entry\n> show 0\n");
+    assert_eq!(output.stderr, b"");
+    folder.prints("read s 1 0 0", "5\n");
+}
+
+#[test]
+fn a_refusal_with_everything_closed() {
+    let folder = long_output();
+    let (reader, writer) = std::io::pipe().unwrap();
+    drop(reader);
+    for (line, status) in [("show s 7", 1), ("show s", 2), ("show nowhere 0", 3), ("", 2)] {
+        let mut command = folder.command(OSTRUBEL);
+        let command = command.args(line.split_whitespace()).stdout(Stdio::null()).stderr(writer.try_clone().unwrap());
+        assert_eq!(command.status().unwrap().code(), Some(status), "{line}");
+    }
+}
+
+/// A call that changed the shelf goes through, and the message says so.
+#[test]
+fn output_that_cannot_be_written() {
+    let folder = long_output();
+    let full = || OpenOptions::new().write(true).open("/dev/full").unwrap();
+    let reason = "standard output cannot be written: No space left on device (os error 28)\n";
+    for (line, done) in [
+        ("set s 1 0 0 6", "the call was carried out, but "),
+        ("set s 1 0 0 6", ""),
+        ("run s script", "the call was carried out, but "),
+        ("run s script", ""),
+        ("new t 8", "the call was carried out, but "),
+        ("show s 0", ""),
+        ("help", ""),
+    ] {
+        let output = folder.command(OSTRUBEL).args(line.split_whitespace()).stdout(full()).output().unwrap();
+        let message = String::from_utf8(output.stderr).unwrap();
+        assert_eq!((output.status.code(), message), (Some(3), format!("ostrubel: {done}{reason}")), "{line}");
+    }
+    folder.prints("read s 1 0 0", "5\n");
+}
+
+/// What a script prints is kept in memory, and so has a limit.
+#[test]
+fn a_script_that_prints_too_much() {
+    let folder = long_output();
+    let before = folder.state("s");
+    let shown = folder.accept("show s 0").len() + "> show 0\n".len();
+    let limit = (16 << 20) / shown;
+    folder.write("script", format!("set 1 0 0 5\n{}", "show 0\n".repeat(limit + 100)));
+    let output = folder.run("run s script");
+    let message = String::from_utf8(output.stderr).unwrap();
+    let expected = format!("line {}: this script prints too much: more than 16777216 bytes", limit + 2);
+    let expected = format!("{expected}\nNothing of this script was saved; the shelf is as it was.\n");
+    assert_eq!((output.status.code(), message), (Some(3), expected));
+    assert!(output.stdout.starts_with(b"> set 1 0 0 5\n"));
+    assert_eq!(folder.state("s"), before);
+}

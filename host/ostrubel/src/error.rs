@@ -1,0 +1,122 @@
+//! Refusals.
+
+use std::fmt;
+
+/// Why a call was refused. A refused call changes nothing.
+///
+/// `Display` gives a sentence for the person who asked for the call, in the words of the coordinators: a matrix is a
+/// sheet, a store is a shelf, and a slot is a place on it.
+///
+/// ```
+/// use ostrubel::{Error, Store};
+///
+/// let mut store = Store::new(100)?;
+/// let refusal = store.set(0, 0, 0, 1).unwrap_err();
+/// assert_eq!(refusal, Error::EmptySlot);
+/// assert_eq!(refusal.number(), 13);
+/// assert_eq!(refusal.to_string(), "The place holds no sheet: lay one there first.");
+/// # Ok::<(), Error>(())
+/// ```
+#[derive(Clone, Copy, Debug, PartialEq, Eq, Hash)]
+pub enum Error {
+    /// 1: flags above 31. No descriptor has them.
+    FlagsOutOfRange = 1,
+    /// 2: no such operator, monoid or accumulator. Given where a name is parsed.
+    UnknownOperator = 2,
+    /// 3: the first input, or the only one, is no valid matrix.
+    InvalidFirst = 3,
+    /// 4: the second input is no valid matrix.
+    InvalidSecond = 4,
+    /// 5: the mask is no valid matrix.
+    InvalidMask = 5,
+    /// 6: the output is no valid matrix.
+    InvalidOutput = 6,
+    /// 7: an index, row or column past the matrix, or an index list that is empty or has over 512 indexes.
+    IndexOutOfBounds = 7,
+    /// 8: rows or columns outside 1 to 512, shapes that disagree, or more than one row where a vector is due.
+    InvalidShape = 8,
+    /// 9: a workspace under 13,845 words. `Matrix` and `Store` provide one that is long enough.
+    WorkspaceTooShort = 9,
+    /// 10: a matrix would have over 2,048 entries.
+    TooManyEntries = 10,
+    /// 11: the matrices do not fit the store.
+    InsufficientSpace = 11,
+    /// 12: the length or the words are no store's, or a slot above 7.
+    InvalidStore = 12,
+    /// 13: a slot that must have a matrix is empty.
+    EmptySlot = 13,
+}
+
+impl Error {
+    /// All refusals, in the order of their numbers.
+    pub const ALL: [Error; 13] = [
+        Error::FlagsOutOfRange,
+        Error::UnknownOperator,
+        Error::InvalidFirst,
+        Error::InvalidSecond,
+        Error::InvalidMask,
+        Error::InvalidOutput,
+        Error::IndexOutOfBounds,
+        Error::InvalidShape,
+        Error::WorkspaceTooShort,
+        Error::TooManyEntries,
+        Error::InsufficientSpace,
+        Error::InvalidStore,
+        Error::EmptySlot,
+    ];
+
+    /// The refusal's number, 1 to 13.
+    pub const fn number(self) -> u32 {
+        self as u32
+    }
+
+    /// The refusal with a number, if there is one.
+    pub fn from_number(number: u32) -> Option<Error> {
+        Error::ALL.into_iter().find(|error| error.number() == number)
+    }
+
+    const fn sentence(self) -> &'static str {
+        match self {
+            Error::FlagsOutOfRange => "The flags are above 31: add up only 1, 2, 4, 8 and 16, each at most once.",
+            Error::UnknownOperator => {
+                "There is no such operator: choose among FIRST, SECOND, ONEB, PLUS, MINUS, TIMES, MIN and MAX for two \
+                 values (to add up: PLUS, TIMES, MIN, MAX), IDENTITY, AINV, ABS, LNOT and ONE for one, and ROWINDEX, \
+                 COLINDEX and DIAGINDEX for rows and columns."
+            }
+            Error::InvalidFirst => {
+                "The sheet, or the first of two, is damaged: take a sound copy of it, or write it anew."
+            }
+            Error::InvalidSecond => "The second sheet is damaged: take a sound copy of it, or write it anew.",
+            Error::InvalidMask => "The mask is damaged: take a sound copy of it, or write it anew.",
+            Error::InvalidOutput => "The sheet to write into is damaged: take a sound copy of it, or lay it anew.",
+            Error::IndexOutOfBounds => {
+                "A row or column lies past the edge of the sheet, or a list of them does not have 1 to 512 numbers: \
+                 count rows and columns from 0, and stay within the sheet."
+            }
+            Error::InvalidShape => {
+                "The shapes do not fit: a sheet has 1 to 512 rows and columns, a strip has one row, and the sheets of \
+                 one step must agree in shape."
+            }
+            Error::WorkspaceTooShort => "The work buffer is too short: give it at least 13,845 words.",
+            Error::TooManyEntries => {
+                "The sheet would hold more than 2,048 entries: clear some cells, or split it into two sheets."
+            }
+            Error::InsufficientSpace => {
+                "The shelf has too little room for this: drop a sheet that is no longer needed, or take a longer shelf."
+            }
+            Error::InvalidStore => {
+                "The place is not one of 0 to 7, or the shelf is damaged or not 8 to 16,384 words long: name a place \
+                 from 0 to 7, or take a sound copy of the shelf."
+            }
+            Error::EmptySlot => "The place holds no sheet: lay one there first.",
+        }
+    }
+}
+
+impl fmt::Display for Error {
+    fn fmt(&self, f: &mut fmt::Formatter<'_>) -> fmt::Result {
+        f.pad(self.sentence())
+    }
+}
+
+impl std::error::Error for Error {}

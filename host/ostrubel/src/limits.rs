@@ -1,0 +1,28 @@
+//! The library's limits and sizes. Sizes count words of 32 bits.
+
+/// The most rows a matrix may have.
+pub const MAX_ROWS: u32 = 512;
+
+/// The most columns a matrix may have.
+pub const MAX_COLS: u32 = 512;
+
+/// The most entries a matrix may have.
+pub const MAX_ENTRIES: usize = 2_048;
+
+/// The most indexes in an index list of `extract`.
+pub const MAX_INDEXES: usize = 512;
+
+/// The number of slots of a store.
+pub const SLOTS: usize = 8;
+
+/// The words of the shortest store, which has room for no matrix.
+pub const MIN_STORE_WORDS: usize = 8;
+
+/// The words of the longest store.
+pub const MAX_STORE_WORDS: usize = 16_384;
+
+/// The words of the largest matrix.
+pub const MAX_MATRIX_WORDS: usize = 4_615;
+
+/// The words that an operation needs to work in. `Matrix` and `Store` provide them.
+pub const WORKSPACE_WORDS: usize = 13_845;

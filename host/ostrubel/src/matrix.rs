@@ -1,0 +1,206 @@
+//! Matrices that own their words.
+
+use crate::{answer, calls, layout, picture, workspace};
+use crate::{Entries, Error, MAX_ENTRIES, MAX_MATRIX_WORDS, MAX_ROWS};
+use std::collections::BTreeMap;
+use std::fmt;
+
+/// What a row view shows of a row.
+#[derive(Clone, Copy, Debug, PartialEq, Eq, Hash)]
+pub enum Section {
+    /// The column numbers of its entries.
+    Columns,
+    /// The values of its entries, as words in two's complement.
+    Values,
+}
+
+/// A sparse matrix of whole numbers: each cell has a value or none, and a value of 0 is a value.
+///
+/// It has 1 to 512 rows and columns and at most 2,048 entries. Two matrices are equal where their shapes and all their
+/// cells are.
+///
+/// `Display` draws the cells, or lists the entries of a matrix that is too wide or too long for a page.
+///
+/// ```
+/// use ostrubel::{Error, Matrix};
+///
+/// let matrix = Matrix::from_triples(2, 4, [(0, 0, 10), (0, 1, 20), (1, 3, -5)])?;
+/// assert_eq!(matrix.get(1, 3)?, Some(-5));
+/// assert_eq!(matrix.get(1, 2)?, None);
+/// assert_eq!(matrix.to_string(), "    0   1  2   3\n0  10  20  .   .\n1   .   .  .  -5");
+/// # Ok::<(), Error>(())
+/// ```
+#[derive(Clone, Debug, PartialEq, Eq, Hash)]
+pub struct Matrix {
+    /// Exactly the words of one valid matrix.
+    words: Vec<u32>,
+}
+
+impl Matrix {
+    /// A matrix with no entries.
+    ///
+    /// # Errors
+    ///
+    /// `InvalidShape` where rows or columns are not 1 to 512.
+    pub fn new(rows: u32, cols: u32) -> Result<Matrix, Error> {
+        let mut words = vec![0; layout::size_of(MAX_ROWS as usize, 0)];
+        answer::entries(calls::new_empty(rows, cols, &mut words))?;
+        words.truncate(layout::size(&words));
+        Ok(Matrix { words })
+    }
+
+    /// A matrix with entries given as (row, column, value), in any order.
+    ///
+    /// The cells are set one after the other: of two triples for one cell the later one counts, and the first triple
+    /// that cannot be set gives the error.
+    ///
+    /// ```
+    /// use ostrubel::{Error, Matrix};
+    ///
+    /// let matrix = Matrix::from_triples(3, 3, [(2, 1, 7), (0, 0, 1), (2, 1, 8)])?;
+    /// assert_eq!(matrix.to_triples(), [(0, 0, 1), (2, 1, 8)]);
+    /// assert_eq!(Matrix::from_triples(3, 3, [(3, 0, 1)]), Err(Error::IndexOutOfBounds));
+    /// # Ok::<(), Error>(())
+    /// ```
+    ///
+    /// # Errors
+    ///
+    /// `InvalidShape` where rows or columns are not 1 to 512; `IndexOutOfBounds` for a cell outside the matrix;
+    /// `TooManyEntries` above 2,048 cells.
+    pub fn from_triples(
+        rows: u32,
+        cols: u32,
+        triples: impl IntoIterator<Item = (u32, u32, i32)>,
+    ) -> Result<Matrix, Error> {
+        Matrix::new(rows, cols)?;
+        let mut cells = BTreeMap::new();
+        for (row, col, value) in triples {
+            if row >= rows || col >= cols {
+                return Err(Error::IndexOutOfBounds);
+            }
+            cells.insert((row, col), value);
+            if cells.len() > MAX_ENTRIES {
+                return Err(Error::TooManyEntries);
+            }
+        }
+        let entries: Vec<_> = cells.into_iter().map(|((row, col), value)| (row, col, value)).collect();
+        Matrix::from_words(&layout::encode(rows, cols, &entries))
+    }
+
+    /// The matrix at the front of the words. Words after it are left out.
+    ///
+    /// ```
+    /// use ostrubel::{Error, Matrix};
+    ///
+    /// let vector = Matrix::from_words(&[2, 1, 4, 2, 0, 3, 3, 0, 1, 3, 3, 10, 20, 40])?;
+    /// assert_eq!(vector.to_triples(), [(0, 0, 10), (0, 1, 20), (0, 3, 40)]);
+    /// # Ok::<(), Error>(())
+    /// ```
+    ///
+    /// # Errors
+    ///
+    /// `InvalidFirst` where the words do not begin with a valid matrix.
+    pub fn from_words(words: &[u32]) -> Result<Matrix, Error> {
+        answer::entries(calls::check(words))?;
+        Ok(Matrix { words: words[..layout::size(words)].to_vec() })
+    }
+
+    /// The words of the matrix, as `include/ostrubel.h` describes them.
+    pub fn words(&self) -> &[u32] {
+        &self.words
+    }
+
+    /// The words of the matrix.
+    pub fn into_words(self) -> Vec<u32> {
+        self.words
+    }
+
+    /// The number of rows.
+    pub fn rows(&self) -> u32 {
+        layout::rows(&self.words)
+    }
+
+    /// The number of columns.
+    pub fn cols(&self) -> u32 {
+        layout::cols(&self.words)
+    }
+
+    /// The number of entries.
+    pub fn entries(&self) -> usize {
+        layout::entries(&self.words)
+    }
+
+    /// The value of the cell at row i and column j, or `None` where it has none.
+    ///
+    /// # Errors
+    ///
+    /// `IndexOutOfBounds` for a cell outside the matrix.
+    pub fn get(&self, i: u32, j: u32) -> Result<Option<i32>, Error> {
+        answer::cell(calls::read_cell(i, j, &self.words))
+    }
+
+    /// The entries as (row, column, value): row by row, in rising columns.
+    pub fn iter(&self) -> Entries<'_> {
+        Entries::new(&self.words)
+    }
+
+    /// The entries of row i as (column, value), in rising columns.
+    ///
+    /// # Errors
+    ///
+    /// `IndexOutOfBounds` for a row outside the matrix.
+    pub fn row(&self, i: u32) -> Result<impl ExactSizeIterator<Item = (u32, i32)> + '_, Error> {
+        self.get(i, 0)?;
+        let entry = |at| (layout::column_at(&self.words, at), layout::value_at(&self.words, at));
+        Ok(layout::row_positions(&self.words, i).map(entry))
+    }
+
+    /// Row i over two matrices of one shape: the row of this one where it has an entry, otherwise the row of `below`. The
+    /// part of their words with the row's column numbers or values, as asked. [`Matrix::row`] has the entries of one matrix.
+    ///
+    /// The part has no words where the shapes differ or there is no row i.
+    ///
+    /// ```
+    /// use ostrubel::{Error, Matrix, Section};
+    ///
+    /// let today = Matrix::from_triples(2, 4, [(0, 1, 9), (0, 3, 8)])?;
+    /// let before = Matrix::from_triples(2, 4, [(0, 0, 1), (1, 2, 5)])?;
+    /// assert_eq!(today.row_view(&before, 0, Section::Columns), [1, 3]);
+    /// assert_eq!(today.row_view(&before, 1, Section::Values), [5]);
+    /// assert!(today.row_view(&before, 2, Section::Values).is_empty());
+    /// # Ok::<(), Error>(())
+    /// ```
+    pub fn row_view<'a>(&'a self, below: &'a Matrix, i: u32, section: Section) -> &'a [u32] {
+        let answer = calls::row_view(i, section as u32, &self.words, &below.words);
+        answer::part(answer, &self.words, &below.words)
+    }
+
+    /// The entries as (row, column, value): row by row, in rising columns.
+    pub fn to_triples(&self) -> Vec<(u32, u32, i32)> {
+        self.iter().collect()
+    }
+
+    /// Lends the words, lengthened to those of the largest matrix, and a workspace to a call that writes here. A call
+    /// that is refused leaves them as they are. Answers the entries of the final matrix.
+    pub(crate) fn write(&mut self, call: impl FnOnce(&mut [u32], &mut [u32]) -> u64) -> Result<usize, Error> {
+        self.words.resize(MAX_MATRIX_WORDS, 0);
+        let answer = workspace::lend(|work| call(&mut self.words, work));
+        self.words.truncate(layout::size(&self.words));
+        answer::entries(answer)
+    }
+}
+
+impl<'a> IntoIterator for &'a Matrix {
+    type Item = (u32, u32, i32);
+    type IntoIter = Entries<'a>;
+
+    fn into_iter(self) -> Entries<'a> {
+        self.iter()
+    }
+}
+
+impl fmt::Display for Matrix {
+    fn fmt(&self, f: &mut fmt::Formatter<'_>) -> fmt::Result {
+        picture::write(self, f)
+    }
+}

@@ -1,0 +1,168 @@
+//! The six operations on matrices.
+
+use crate::calls::{self, OptionNumbers};
+use crate::{ApplyOp, BinaryOp, Error, Matrix, Options, Semiring};
+
+/// # Operations
+///
+/// Each works out a result and writes it into `self`, the output C, by its [`Options`]. It answers the number of
+/// entries of the final C. A refused operation leaves C as it was.
+///
+/// Inputs and mask may be one matrix. C cannot be among them: clone it, or keep it in a [`Store`](crate::Store), where
+/// one slot may have several roles.
+///
+/// # Errors
+///
+/// `IndexOutOfBounds` (only `extract`), `InvalidShape` where the shapes of inputs, mask, C and result disagree,
+/// `TooManyEntries` where the final C would have over 2,048 entries.
+impl Matrix {
+    /// C gets A times B. There is an entry at (i, j) where some k has both A(i, k) and B(k, j).
+    ///
+    /// ```
+    /// use ostrubel::{BinaryOp, Error, Matrix, Monoid, Options, Semiring};
+    ///
+    /// let a = Matrix::from_triples(2, 2, [(0, 0, 1), (0, 1, 2), (1, 1, 3)])?;
+    /// let b = Matrix::from_triples(2, 2, [(0, 0, 4), (1, 0, 5)])?;
+    /// let mut c = Matrix::new(2, 2)?;
+    /// assert_eq!(c.mxm(Semiring::new(Monoid::Plus, BinaryOp::Times), &a, &b, &Options::new())?, 2);
+    /// assert_eq!(c.to_triples(), [(0, 0, 14), (1, 0, 15)]);
+    /// # Ok::<(), Error>(())
+    /// ```
+    pub fn mxm(
+        &mut self,
+        semiring: Semiring,
+        a: &Matrix,
+        b: &Matrix,
+        options: &Options<&Matrix>,
+    ) -> Result<usize, Error> {
+        let (monoid, op) = semiring.numbers();
+        self.operate(options, |numbers, mask, c, work| {
+            calls::mxm(numbers, monoid, op, a.words(), b.words(), mask, c, work)
+        })
+    }
+
+    /// C gets u times A, where u has one row. `InvalidShape` where it has more.
+    ///
+    /// ```
+    /// use ostrubel::{BinaryOp, Error, Matrix, Monoid, Options, Semiring};
+    ///
+    /// let u = Matrix::from_triples(1, 2, [(0, 0, 10), (0, 1, 20)])?;
+    /// let a = Matrix::from_triples(2, 3, [(0, 2, 7), (1, 0, 5), (1, 2, 1)])?;
+    /// let mut c = Matrix::new(1, 3)?;
+    /// c.vxm(Semiring::new(Monoid::Min, BinaryOp::Plus), &u, &a, &Options::new())?;
+    /// assert_eq!(c.to_triples(), [(0, 0, 25), (0, 2, 17)]);
+    /// # Ok::<(), Error>(())
+    /// ```
+    pub fn vxm(
+        &mut self,
+        semiring: Semiring,
+        u: &Matrix,
+        a: &Matrix,
+        options: &Options<&Matrix>,
+    ) -> Result<usize, Error> {
+        let (monoid, op) = semiring.numbers();
+        self.operate(options, |numbers, mask, c, work| {
+            calls::vxm(numbers, monoid, op, u.words(), a.words(), mask, c, work)
+        })
+    }
+
+    /// The intersection: where both A and B have an entry, op of the two.
+    ///
+    /// ```
+    /// use ostrubel::{BinaryOp, Error, Matrix, Options};
+    ///
+    /// let a = Matrix::from_triples(1, 3, [(0, 0, 2), (0, 1, 3)])?;
+    /// let b = Matrix::from_triples(1, 3, [(0, 1, 5), (0, 2, 7)])?;
+    /// let mut c = Matrix::new(1, 3)?;
+    /// c.ewise_mult(BinaryOp::Times, &a, &b, &Options::new())?;
+    /// assert_eq!(c.to_triples(), [(0, 1, 15)]);
+    /// # Ok::<(), Error>(())
+    /// ```
+    pub fn ewise_mult(
+        &mut self,
+        op: BinaryOp,
+        a: &Matrix,
+        b: &Matrix,
+        options: &Options<&Matrix>,
+    ) -> Result<usize, Error> {
+        self.operate(options, |numbers, mask, c, work| {
+            calls::ewise_mult(numbers, op.number(), a.words(), b.words(), mask, c, work)
+        })
+    }
+
+    /// The union: where both A and B have an entry, op of the two; where one has, its value as it is.
+    ///
+    /// ```
+    /// use ostrubel::{BinaryOp, Error, Matrix, Options};
+    ///
+    /// let a = Matrix::from_triples(1, 3, [(0, 0, 2), (0, 1, 3)])?;
+    /// let b = Matrix::from_triples(1, 3, [(0, 1, 5), (0, 2, 7)])?;
+    /// let mut c = Matrix::new(1, 3)?;
+    /// c.ewise_add(BinaryOp::Minus, &a, &b, &Options::new())?;
+    /// assert_eq!(c.to_triples(), [(0, 0, 2), (0, 1, -2), (0, 2, 7)]);
+    /// # Ok::<(), Error>(())
+    /// ```
+    pub fn ewise_add(
+        &mut self,
+        op: BinaryOp,
+        a: &Matrix,
+        b: &Matrix,
+        options: &Options<&Matrix>,
+    ) -> Result<usize, Error> {
+        self.operate(options, |numbers, mask, c, work| {
+            calls::ewise_add(numbers, op.number(), a.words(), b.words(), mask, c, work)
+        })
+    }
+
+    /// An operator on every entry of A.
+    ///
+    /// ```
+    /// use ostrubel::{ApplyOp, BinaryOp, Error, Matrix, Options};
+    ///
+    /// let a = Matrix::from_triples(1, 4, [(0, 0, 10), (0, 1, 20), (0, 3, 40)])?;
+    /// let mut c = Matrix::new(1, 4)?;
+    /// c.apply(ApplyOp::ScalarSecond(BinaryOp::Minus, 15), &a, &Options::new())?;
+    /// assert_eq!(c.to_triples(), [(0, 0, -5), (0, 1, 5), (0, 3, 25)]);
+    /// # Ok::<(), Error>(())
+    /// ```
+    pub fn apply(&mut self, op: ApplyOp, a: &Matrix, options: &Options<&Matrix>) -> Result<usize, Error> {
+        let [kind, op, scalar] = op.numbers();
+        self.operate(options, |numbers, mask, c, work| {
+            calls::apply(numbers, kind, op, scalar, a.words(), mask, c, work)
+        })
+    }
+
+    /// At (i, j) the cell of A at row `rows[i]` and column `cols[j]`. An index may repeat.
+    ///
+    /// `IndexOutOfBounds` where a list is empty or has over 512 indexes, or an index is outside A (as transposed).
+    ///
+    /// ```
+    /// use ostrubel::{Error, Matrix, Options};
+    ///
+    /// let a = Matrix::from_triples(3, 2, [(0, 0, 1), (1, 1, 2), (2, 0, 3)])?;
+    /// let mut c = Matrix::new(2, 3)?;
+    /// c.extract(&a, &[2, 1], &[0, 1, 0], &Options::new())?;
+    /// assert_eq!(c.to_triples(), [(0, 0, 3), (0, 2, 3), (1, 1, 2)]);
+    /// # Ok::<(), Error>(())
+    /// ```
+    pub fn extract(
+        &mut self,
+        a: &Matrix,
+        rows: &[u32],
+        cols: &[u32],
+        options: &Options<&Matrix>,
+    ) -> Result<usize, Error> {
+        self.operate(options, |numbers, mask, c, work| calls::extract(numbers, a.words(), rows, cols, mask, c, work))
+    }
+
+    /// Lends an operation its options, the mask's words, those of C and a workspace. Where there is no mask, it gets a
+    /// word that the library does not look at.
+    fn operate(
+        &mut self,
+        options: &Options<&Matrix>,
+        call: impl FnOnce(OptionNumbers, &[u32], &mut [u32], &mut [u32]) -> u64,
+    ) -> Result<usize, Error> {
+        let mask = options.mask.map_or(&[0][..], Matrix::words);
+        self.write(|c, work| call(options.numbers(), mask, c, work))
+    }
+}

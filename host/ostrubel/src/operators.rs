@@ -1,0 +1,192 @@
+//! Operators, by the numbers and names of the GraphBLAS operators they are.
+
+use crate::Error;
+use std::fmt;
+use std::str::FromStr;
+
+/// An enum of operators, each with its number and its name.
+macro_rules! operators {
+    ($(#[$about:meta])* $name:ident { $($(#[$case_about:meta])* $case:ident = $number:literal $text:literal,)* }) => {
+        $(#[$about])*
+        #[derive(Clone, Copy, Debug, PartialEq, Eq, Hash)]
+        pub enum $name {
+            $($(#[$case_about])* $case = $number,)*
+        }
+
+        impl $name {
+            /// All of them, in the order of their numbers.
+            pub const ALL: &'static [$name] = &[$($name::$case),*];
+
+            /// The number by which the library knows it.
+            pub const fn number(self) -> u32 {
+                self as u32
+            }
+
+            /// The name, in capitals.
+            pub const fn name(self) -> &'static str {
+                match self {
+                    $($name::$case => $text,)*
+                }
+            }
+        }
+
+        /// The name, in capitals.
+        impl fmt::Display for $name {
+            fn fmt(&self, f: &mut fmt::Formatter<'_>) -> fmt::Result {
+                f.pad(self.name())
+            }
+        }
+
+        /// By the name, in capitals or not. Any other text is `Error::UnknownOperator`.
+        impl FromStr for $name {
+            type Err = Error;
+
+            fn from_str(text: &str) -> Result<$name, Error> {
+                let named = |op: &&$name| op.name().eq_ignore_ascii_case(text);
+                $name::ALL.iter().find(named).copied().ok_or(Error::UnknownOperator)
+            }
+        }
+    };
+}
+
+operators! {
+    /// A binary operator on x and y. As an accumulator it takes the old value as x and the new one as y.
+    ///
+    /// ```
+    /// use ostrubel::BinaryOp;
+    ///
+    /// assert_eq!("max".parse(), Ok(BinaryOp::Max));
+    /// assert_eq!(BinaryOp::Max.name(), "MAX");
+    /// ```
+    BinaryOp {
+        /// x
+        First = 0 "FIRST",
+        /// y
+        Second = 1 "SECOND",
+        /// 1
+        Oneb = 2 "ONEB",
+        /// x + y, wrapping
+        Plus = 3 "PLUS",
+        /// x - y, wrapping
+        Minus = 4 "MINUS",
+        /// x times y, wrapping
+        Times = 5 "TIMES",
+        /// the smaller of the two
+        Min = 6 "MIN",
+        /// the larger of the two
+        Max = 7 "MAX",
+    }
+}
+
+operators! {
+    /// A binary operator that adds up the products of `mxm` and `vxm`.
+    Monoid {
+        /// the sum, wrapping
+        Plus = 3 "PLUS",
+        /// the product, wrapping
+        Times = 5 "TIMES",
+        /// the smallest
+        Min = 6 "MIN",
+        /// the largest
+        Max = 7 "MAX",
+    }
+}
+
+operators! {
+    /// An operator on one value.
+    UnaryOp {
+        /// x
+        Identity = 0 "IDENTITY",
+        /// -x, wrapping: that of `i32::MIN` is `i32::MIN`
+        Ainv = 1 "AINV",
+        /// x without its sign; `i32::MIN` stays
+        Abs = 2 "ABS",
+        /// 1 where x is 0, else 0
+        Lnot = 3 "LNOT",
+        /// 1
+        One = 4 "ONE",
+    }
+}
+
+operators! {
+    /// An operator on an entry's row i and column j, as the matrix is stored, and a scalar s.
+    IndexUnaryOp {
+        /// i + s, wrapping
+        RowIndex = 0 "ROWINDEX",
+        /// j + s, wrapping
+        ColIndex = 1 "COLINDEX",
+        /// j - i + s, wrapping
+        DiagIndex = 2 "DIAGINDEX",
+    }
+}
+
+/// What `apply` does to every entry: one of four kinds, each with its operator.
+#[derive(Clone, Copy, Debug, PartialEq, Eq, Hash)]
+pub enum ApplyOp {
+    /// A unary operator.
+    Unary(UnaryOp),
+    /// A binary operator with the scalar as x.
+    ScalarFirst(i32, BinaryOp),
+    /// A binary operator with the scalar as y.
+    ScalarSecond(BinaryOp, i32),
+    /// An operator on the entry's row and column, with a scalar.
+    Index(IndexUnaryOp, i32),
+}
+
+impl ApplyOp {
+    /// The kind, the operator and the scalar, as numbers.
+    pub(crate) const fn numbers(self) -> [u32; 3] {
+        match self {
+            ApplyOp::Unary(op) => [0, op.number(), 0],
+            ApplyOp::ScalarFirst(scalar, op) => [1, op.number(), scalar as u32],
+            ApplyOp::ScalarSecond(op, scalar) => [2, op.number(), scalar as u32],
+            ApplyOp::Index(op, scalar) => [3, op.number(), scalar as u32],
+        }
+    }
+}
+
+/// What a matrix product multiplies and adds up with.
+///
+/// As text it is the monoid and the operator with a dot between, in capitals or not.
+///
+/// ```
+/// use ostrubel::{BinaryOp, Monoid, Semiring};
+///
+/// let shortest_path = Semiring::new(Monoid::Min, BinaryOp::Plus);
+/// assert_eq!("min.plus".parse(), Ok(shortest_path));
+/// assert_eq!(shortest_path.to_string(), "MIN.PLUS");
+/// ```
+#[derive(Clone, Copy, Debug, PartialEq, Eq, Hash)]
+pub struct Semiring {
+    /// What adds up.
+    pub monoid: Monoid,
+    /// What multiplies.
+    pub op: BinaryOp,
+}
+
+impl Semiring {
+    /// The semiring of a monoid and an operator.
+    pub const fn new(monoid: Monoid, op: BinaryOp) -> Semiring {
+        Semiring { monoid, op }
+    }
+
+    /// The monoid and the operator, as numbers.
+    pub(crate) const fn numbers(self) -> (u32, u32) {
+        (self.monoid.number(), self.op.number())
+    }
+}
+
+impl fmt::Display for Semiring {
+    fn fmt(&self, f: &mut fmt::Formatter<'_>) -> fmt::Result {
+        write!(f, "{}.{}", self.monoid, self.op)
+    }
+}
+
+impl FromStr for Semiring {
+    type Err = Error;
+
+    fn from_str(text: &str) -> Result<Semiring, Error> {
+        let (monoid, op) = text.split_once('.').ok_or(Error::UnknownOperator)?;
+        Ok(Semiring::new(monoid.parse()?, op.parse()?))
+    }
+}

@@ -1,0 +1,110 @@
+//! The six operations on a store.
+
+use crate::calls::{self, OptionNumbers};
+use crate::{ApplyOp, BinaryOp, Error, Options, Semiring, Store};
+
+/// # Operations
+///
+/// Those of [`Matrix`](crate::Matrix), by slots: `c` is the slot of the output, and each answers the number of entries
+/// of the final C. One slot may have several roles: all are read before C is written. C has to have a matrix of the
+/// result's shape. A refused operation leaves the store as it was.
+///
+/// # Errors
+///
+/// `EmptySlot`; `IndexOutOfBounds` (only `extract`); `InvalidShape` where the shapes of inputs, mask, C and result
+/// disagree; `TooManyEntries` where the final C would have over 2,048 entries; `InsufficientSpace` where it does not
+/// fit the store.
+impl Store {
+    /// C gets A times B. There is an entry at (i, j) where some k has both A(i, k) and B(k, j).
+    pub fn mxm(
+        &mut self,
+        c: usize,
+        semiring: Semiring,
+        a: usize,
+        b: usize,
+        options: &Options<usize>,
+    ) -> Result<usize, Error> {
+        let (monoid, op) = semiring.numbers();
+        self.operate(options, |numbers, mask, store, work| {
+            calls::store_mxm(numbers, monoid, op, a, b, mask, c, store, work)
+        })
+    }
+
+    /// C gets u times A, where u has one row. `InvalidShape` where it has more.
+    pub fn vxm(
+        &mut self,
+        c: usize,
+        semiring: Semiring,
+        u: usize,
+        a: usize,
+        options: &Options<usize>,
+    ) -> Result<usize, Error> {
+        let (monoid, op) = semiring.numbers();
+        self.operate(options, |numbers, mask, store, work| {
+            calls::store_vxm(numbers, monoid, op, u, a, mask, c, store, work)
+        })
+    }
+
+    /// The intersection: where both A and B have an entry, op of the two.
+    pub fn ewise_mult(
+        &mut self,
+        c: usize,
+        op: BinaryOp,
+        a: usize,
+        b: usize,
+        options: &Options<usize>,
+    ) -> Result<usize, Error> {
+        self.operate(options, |numbers, mask, store, work| {
+            calls::store_ewise_mult(numbers, op.number(), a, b, mask, c, store, work)
+        })
+    }
+
+    /// The union: where both A and B have an entry, op of the two; where one has, its value as it is.
+    pub fn ewise_add(
+        &mut self,
+        c: usize,
+        op: BinaryOp,
+        a: usize,
+        b: usize,
+        options: &Options<usize>,
+    ) -> Result<usize, Error> {
+        self.operate(options, |numbers, mask, store, work| {
+            calls::store_ewise_add(numbers, op.number(), a, b, mask, c, store, work)
+        })
+    }
+
+    /// An operator on every entry of A.
+    pub fn apply(&mut self, c: usize, op: ApplyOp, a: usize, options: &Options<usize>) -> Result<usize, Error> {
+        let [kind, op, scalar] = op.numbers();
+        self.operate(options, |numbers, mask, store, work| {
+            calls::store_apply(numbers, kind, op, scalar, a, mask, c, store, work)
+        })
+    }
+
+    /// At (i, j) the cell of A at row `rows[i]` and column `cols[j]`. An index may repeat.
+    ///
+    /// `IndexOutOfBounds` where a list is empty or has over 512 indexes, or an index is outside A (as transposed).
+    pub fn extract(
+        &mut self,
+        c: usize,
+        a: usize,
+        rows: &[u32],
+        cols: &[u32],
+        options: &Options<usize>,
+    ) -> Result<usize, Error> {
+        self.operate(options, |numbers, mask, store, work| {
+            calls::store_extract(numbers, a, mask, c, store, rows, cols, work)
+        })
+    }
+
+    /// Lends an operation its options, the mask's slot, the words of the store and a workspace. Where there is no mask,
+    /// it gets a slot that the library does not look at.
+    fn operate(
+        &mut self,
+        options: &Options<usize>,
+        call: impl FnOnce(OptionNumbers, usize, &mut [u32], &mut [u32]) -> u64,
+    ) -> Result<usize, Error> {
+        let mask = options.mask.unwrap_or(0);
+        self.write(|store, work| call(options.numbers(), mask, store, work))
+    }
+}

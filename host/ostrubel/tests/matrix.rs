@@ -1,0 +1,132 @@
+//! Making matrices and reading them.
+
+use ostrubel::{Error, Matrix, Section};
+
+/// Document 01's strip: 10, 20, 40 at columns 0, 1, 3.
+const STRIP: [u32; 14] = [2, 1, 4, 2, 0, 3, 3, 0, 1, 3, 3, 10, 20, 40];
+
+#[test]
+fn a_new_matrix_is_empty() -> Result<(), Error> {
+    let matrix = Matrix::new(3, 5)?;
+    assert_eq!((matrix.rows(), matrix.cols(), matrix.entries()), (3, 5, 0));
+    assert_eq!(matrix.words(), [2, 3, 5, 4, 0, 0, 0, 0, 0, 0]);
+    assert_eq!(matrix.get(2, 4)?, None);
+    assert_eq!(matrix.iter().next(), None);
+    Ok(())
+}
+
+#[test]
+fn triples_give_the_words_of_document_01() -> Result<(), Error> {
+    let strip = Matrix::from_triples(1, 4, [(0, 3, 40), (0, 0, 10), (0, 1, 20)])?;
+    assert_eq!(strip.words(), STRIP);
+    assert_eq!(strip, Matrix::from_words(&STRIP)?);
+    assert_eq!(strip.into_words(), STRIP);
+    Ok(())
+}
+
+#[test]
+fn negative_values_are_in_twos_complement() -> Result<(), Error> {
+    let matrix = Matrix::from_triples(1, 1, [(0, 0, -5)])?;
+    assert_eq!(matrix.words().last(), Some(&4_294_967_291));
+    assert_eq!(matrix.get(0, 0)?, Some(-5));
+    Ok(())
+}
+
+#[test]
+fn spare_words_are_left_out() -> Result<(), Error> {
+    let mut words = STRIP.to_vec();
+    words.extend([7, 8, 9]);
+    assert_eq!(Matrix::from_words(&words)?.words(), STRIP);
+    Ok(())
+}
+
+#[test]
+fn the_later_of_two_triples_counts() -> Result<(), Error> {
+    let matrix = Matrix::from_triples(2, 2, [(1, 1, 1), (0, 0, 2), (1, 1, 3), (0, 0, 0)])?;
+    assert_eq!(matrix.to_triples(), [(0, 0, 0), (1, 1, 3)]);
+    Ok(())
+}
+
+#[test]
+fn cells_are_read() -> Result<(), Error> {
+    let strip = Matrix::from_words(&STRIP)?;
+    let cells: Result<Vec<_>, _> = (0..4).map(|j| strip.get(0, j)).collect();
+    assert_eq!(cells?, [Some(10), Some(20), None, Some(40)]);
+    assert_eq!(strip.get(0, 4), Err(Error::IndexOutOfBounds));
+    assert_eq!(strip.get(1, 0), Err(Error::IndexOutOfBounds));
+    assert_eq!(strip.get(u32::MAX, u32::MAX), Err(Error::IndexOutOfBounds));
+    Ok(())
+}
+
+#[test]
+fn entries_come_row_by_row() -> Result<(), Error> {
+    let triples = [(1, 0, 1), (1, 2, 2), (4, 1, 3)];
+    let matrix = Matrix::from_triples(6, 3, triples)?;
+    let mut entries = matrix.iter();
+    for (at, triple) in triples.into_iter().enumerate() {
+        assert_eq!(entries.len(), 3 - at);
+        assert_eq!(entries.next(), Some(triple));
+    }
+    assert_eq!((entries.next(), entries.next(), entries.len()), (None, None, 0));
+    let mut sum = 0;
+    for (_, _, value) in &matrix {
+        sum += value;
+    }
+    assert_eq!(sum, 6);
+    Ok(())
+}
+
+#[test]
+fn rows_are_read_one_by_one() -> Result<(), Error> {
+    let matrix = Matrix::from_triples(3, 3, [(0, 1, 4), (2, 0, 5), (2, 2, 6)])?;
+    assert_eq!(matrix.row(0)?.collect::<Vec<_>>(), [(1, 4)]);
+    assert_eq!(matrix.row(1)?.len(), 0);
+    assert_eq!(matrix.row(2)?.collect::<Vec<_>>(), [(0, 5), (2, 6)]);
+    assert_eq!(matrix.row(3).err(), Some(Error::IndexOutOfBounds));
+    assert_eq!(matrix.row(u32::MAX).err(), Some(Error::IndexOutOfBounds));
+    Ok(())
+}
+
+#[test]
+fn matrices_are_equal_where_their_cells_are() -> Result<(), Error> {
+    let stored_zero = Matrix::from_triples(2, 2, [(0, 0, 0)])?;
+    assert_eq!(stored_zero, Matrix::from_triples(2, 2, stored_zero.to_triples())?);
+    assert_ne!(stored_zero, Matrix::new(2, 2)?);
+    assert_ne!(Matrix::new(2, 2)?, Matrix::new(2, 3)?);
+    Ok(())
+}
+
+#[test]
+fn matrices_go_between_threads() -> Result<(), Error> {
+    let matrix = Matrix::from_triples(2, 2, [(0, 1, 7)])?;
+    let copy = matrix.clone();
+    let value = std::thread::spawn(move || copy.get(0, 1)).join();
+    assert_eq!(value.ok(), Some(Ok(Some(7))));
+    assert_eq!(matrix.get(0, 1)?, Some(7));
+    Ok(())
+}
+
+#[test]
+fn a_row_view_shows_the_first_matrix_with_entries_in_the_row() -> Result<(), Error> {
+    let first = Matrix::from_triples(3, 4, [(0, 1, 9), (0, 3, -1), (2, 0, 6)])?;
+    let second = Matrix::from_triples(3, 4, [(0, 0, 1), (1, 2, 5)])?;
+    for (i, columns, values) in [(0, vec![1, 3], vec![9, u32::MAX]), (1, vec![2], vec![5]), (2, vec![0], vec![6])] {
+        assert_eq!(first.row_view(&second, i, Section::Columns), columns);
+        assert_eq!(first.row_view(&second, i, Section::Values), values);
+    }
+    let part = first.row_view(&second, 1, Section::Columns);
+    assert!(second.words().as_ptr_range().contains(&part.as_ptr()));
+    Ok(())
+}
+
+#[test]
+fn a_row_view_of_other_shapes_or_no_row_is_empty() -> Result<(), Error> {
+    let matrix = Matrix::from_triples(3, 4, [(0, 1, 9)])?;
+    let wide = Matrix::from_triples(3, 5, [(0, 1, 9)])?;
+    let long = Matrix::from_triples(4, 4, [(0, 1, 9)])?;
+    for (second, i) in [(&wide, 0), (&long, 0), (&matrix, 3), (&matrix, u32::MAX), (&matrix, 1)] {
+        assert!(matrix.row_view(second, i, Section::Columns).is_empty());
+        assert!(matrix.row_view(second, i, Section::Values).is_empty());
+    }
+    Ok(())
+}

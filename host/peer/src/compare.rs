@@ -1,0 +1,73 @@
+//! Compares all generated calls, and shows a disagreement.
+
+use crate::case::{see_lent, see_store, Seen};
+use crate::counts::Counts;
+use crate::judge::judge;
+use crate::stream::{generate, Call, Generated};
+use crate::suite::Tools;
+use second::calls::StoreList;
+use second::{describe, shrink};
+use std::time::Instant;
+
+/// Whether there is no disagreement; the first one is shown.
+pub fn compare_all(tools: &Tools, seed: u64, calls: u64) -> bool {
+    let begin = Instant::now();
+    let mut counts = Counts::default();
+    let mut disagrees = false;
+    generate(seed, calls, |call, seen| {
+        match seen {
+            Seen::NoOperation => counts.add_no_operation(),
+            Seen::Refused(code) => counts.add_refused(code),
+            Seen::Accepted(case) => match judge(tools, &case) {
+                Ok(adjustments) => counts.add(&case, &adjustments),
+                Err(_) => {
+                    show(tools, seed, call);
+                    disagrees = true;
+                }
+            },
+        }
+        !disagrees
+    });
+    counts.print();
+    println!("seed {seed}: {} calls generated, in {:.1} s", counts.generated(), begin.elapsed().as_secs_f64());
+    let outcome = if disagrees { "then a disagreement" } else { "no disagreement" };
+    println!("peer: {} accepted calls compared, {outcome}; {}", counts.calls(), counts.summary());
+    !disagrees
+}
+
+/// What differs in a call, if it is an accepted one.
+fn differences(tools: &Tools, seen: Seen) -> Option<Vec<String>> {
+    match seen {
+        Seen::Accepted(case) => judge(tools, &case).err(),
+        _ => None,
+    }
+}
+
+fn list_differences(tools: &Tools, list: &StoreList) -> Option<Vec<String>> {
+    let mut store = list.store.clone();
+    for call in &list.calls {
+        let (seen, after) = see_store(&store, call);
+        if let Some(lines) = differences(tools, seen) {
+            return Some(lines);
+        }
+        store = after;
+    }
+    None
+}
+
+/// Shows a call that differs, made small.
+fn show(tools: &Tools, seed: u64, Generated { number, call }: Generated) {
+    let (place, lines, differing) = match call {
+        Call::Lent(call) => {
+            let small = shrink::lent_call(call, |call| differences(tools, see_lent(call)).is_some());
+            ("call", describe::lent_call(&small), differences(tools, see_lent(&small)))
+        }
+        Call::Store(store, call) => {
+            let list = StoreList { store, calls: vec![call] };
+            let small = shrink::store_list(list, |list| list_differences(tools, list).is_some());
+            ("list", describe::store_list(&small), list_differences(tools, &small))
+        }
+    };
+    println!("seed {seed}, {place} {number}: SuiteSparse and the library disagree; the case, made small:");
+    lines.iter().chain(differing.iter().flatten()).for_each(|line| println!("{line}"));
+}

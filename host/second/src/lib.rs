@@ -1,0 +1,26 @@
+//! An independent second program: document 01 written again in plain Rust, from the papers and not
+//! from the library's code, compared with the library on random calls. After each call the answer
+//! and every word of every lent buffer are held against the model's.
+//!
+//! `calls` says what a call is; `operators`, `grid`, `model`, `lent` and `wall` are the model, with
+//! places for the planted faults of `fault`; `generate*` makes calls; `ffi` and `library` carry them
+//! out; `compare` finds differences; `shrink` and `describe` show a small failing case.
+
+pub mod calls;
+pub mod compare;
+pub mod describe;
+pub mod fault;
+mod ffi;
+mod generate;
+pub mod generate_lent;
+pub mod generate_store;
+pub mod grid;
+mod lent;
+pub mod library;
+pub mod model;
+mod operators;
+pub mod rng;
+pub mod shrink;
+pub mod wall;
+#[cfg(test)]
+mod worked_sheets;

@@ -1,0 +1,12 @@
+#!/bin/sh
+# The tests of what is in host/: the C test, the tests of the Rust programs, and the second program on random calls.
+set -e
+cd "$(dirname "$0")/.."
+sh host/library.sh
+sh host/c/run.sh
+# The archive that was just tested, and no earlier copy of it.
+OSTRUBEL_LIB_DIR=$PWD/target/staticlib
+export OSTRUBEL_LIB_DIR
+cargo test --manifest-path host/Cargo.toml --release --offline --quiet
+cargo run --manifest-path host/Cargo.toml --release --offline --quiet -p second -- --calls 200000
+cargo run --manifest-path host/Cargo.toml --release --offline --quiet -p second -- --faults
