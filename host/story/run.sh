@@ -2,6 +2,7 @@
 # Builds everything, and runs the story of a lost key: a late phone's old sheet merged, and the same sheet written over.
 set -e
 cd "$(dirname "$0")/../.."
+PATH=$PATH:${CARGO_HOME:-$HOME/.cargo}/bin # where cargo is by default, though the PATH may lack it
 if ! command -v cargo > /dev/null; then
     echo "cargo (Rust 1.89 or newer) is not on the PATH" >&2
     exit 1
