@@ -35,7 +35,7 @@ stamp=$(mktemp)
 trap 'rm -f "$stamp"' EXIT
 begin=$(date +%s)
 proved=0
-echo "Proving the library: $count crates, about six minutes on two free cores the first time."
+echo "Proving the library: $count crates, about seven minutes on two free cores the first time."
 {
     status=0
     rt staticlib exports 2>&1 || status=$?
@@ -43,10 +43,12 @@ echo "Proving the library: $count crates, about six minutes on two free cores th
 } | {
     while IFS= read -r line; do
         case $line in
-        "rt: "*" proved ("*)
+        "rt: "*" proved ("* | "rt: $archive has "*)
             proved=$((proved + 1))
             name=${line#rt: }
-            echo "  crate $proved of $count: ${name%% *} proved, $(($(date +%s) - begin)) s so far"
+            name=${name%% *}
+            [ "$name" = "$archive" ] && name=exports
+            echo "  crate $proved of $count: $name proved, $(($(date +%s) - begin)) s so far"
             ;;
         "rt ended with 0") exit 0 ;;
         *) printf '%s\n' "$line" >> "$log" ;;
