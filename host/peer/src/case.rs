@@ -4,7 +4,7 @@ use second::calls::{code_of, counted, LentCall, LentOperation, Operation, Option
 use second::fault::Fault;
 use second::grid::Grid;
 use second::library;
-use second::wall::Wall;
+use second::store_grids::StoreGrids;
 
 /// An operation that the library accepted. The roles are positions in `grids`, so that one matrix may have several.
 #[derive(Clone, Debug)]
@@ -108,7 +108,7 @@ pub fn see_store(before: &[u32], call: &StoreCall) -> (Seen, Vec<u32>) {
 
 /// The matrices of a store; none at all where the words are no store.
 fn slots(words: &[u32]) -> Vec<Option<Grid>> {
-    Wall::read(words, Fault::None).map_or(Vec::new(), |wall| wall.slots.into())
+    StoreGrids::read(words, Fault::None).map_or(Vec::new(), |grids| grids.slots.into())
 }
 
 fn store_case(

@@ -4,7 +4,7 @@ use crate::calls::{answers_of, Answers, LentCall, Outcome, StoreCall, StoreList}
 use crate::describe::answer_text;
 use crate::library;
 use crate::model::Model;
-use crate::wall::StoreState;
+use crate::store_grids::StoreState;
 
 /// What differs, in sentences; nothing if the outcomes are equal. `answers` tells how the answer is
 /// to be shown.

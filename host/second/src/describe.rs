@@ -3,7 +3,7 @@
 use crate::calls::*;
 use crate::fault::Fault;
 use crate::grid::Grid;
-use crate::wall::Wall;
+use crate::store_grids::StoreGrids;
 
 const SHOWN: usize = 80;
 
@@ -147,10 +147,10 @@ pub fn store_call(call: &StoreCall) -> String {
 
 pub fn store_list(list: &StoreList) -> Vec<String> {
     let mut lines = vec![format!("a store of {} words", list.store.len())];
-    match Wall::read(&list.store, Fault::None) {
+    match StoreGrids::read(&list.store, Fault::None) {
         None => lines.push(format!("  no valid store: {}", list_text(&list.store))),
-        Some(wall) => {
-            for (slot, grid) in wall.slots.iter().enumerate() {
+        Some(grids) => {
+            for (slot, grid) in grids.slots.iter().enumerate() {
                 if let Some(grid) = grid {
                     lines.push(format!("  place {slot}: {}", grid_text(grid)));
                 }

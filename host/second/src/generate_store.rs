@@ -6,7 +6,7 @@ use crate::generate::*;
 use crate::grid::{Grid, MAX_ENTRIES, MAX_SIDE};
 use crate::model::{Sheets, SOUND};
 use crate::rng::Rng;
-use crate::wall::{StoreState, Wall, MAX_STORE, SLOTS};
+use crate::store_grids::{StoreGrids, StoreState, MAX_STORE, SLOTS};
 
 pub fn store_list(rng: &mut Rng) -> StoreList {
     let sides = [1, side(rng).min(rng.pick(&[12, MAX_SIDE])), side(rng).min(40)];
@@ -15,17 +15,17 @@ pub fn store_list(rng: &mut Rng) -> StoreList {
     let mut state = StoreState::new(&store, Fault::None);
     let mut calls = Vec::new();
     let mut rooms = Vec::new();
-    let length = if state.wall.is_some() { 1 + rng.below(28) } else { 1 + rng.below(6) };
+    let length = if state.grids.is_some() { 1 + rng.below(28) } else { 1 + rng.below(6) };
     let first_lays = if is_fresh && rng.percent(85) { rng.below(7) } else { 0 };
     while calls.len() < length {
         let next = if calls.len() < first_lays {
-            vec![lay(rng, state.wall.as_ref(), &sides)]
+            vec![lay(rng, state.grids.as_ref(), &sides)]
         } else {
-            next_calls(rng, state.wall.as_ref(), &sides)
+            next_calls(rng, state.grids.as_ref(), &sides)
         };
         for call in next {
             SOUND.store(&mut state, &call);
-            rooms.extend(state.wall.as_ref().map(Wall::room));
+            rooms.extend(state.grids.as_ref().map(StoreGrids::room));
             calls.push(call);
         }
     }
@@ -65,7 +65,7 @@ fn first_store(rng: &mut Rng, sides: &[u32; 3]) -> Vec<u32> {
 
 /// A store with sheets in some places.
 fn prepared(rng: &mut Rng, sides: &[u32; 3]) -> Vec<u32> {
-    let mut wall = Wall::fresh(MAX_STORE);
+    let mut grids = StoreGrids::fresh(MAX_STORE);
     for slot in 0..SLOTS {
         if rng.percent(35) {
             continue;
@@ -82,19 +82,19 @@ fn prepared(rng: &mut Rng, sides: &[u32; 3]) -> Vec<u32> {
                 grid(rng, rows, cols)
             }
         };
-        wall.slots[slot] = Some(grid);
-        if wall.room() > MAX_STORE {
-            wall.slots[slot] = None;
+        grids.slots[slot] = Some(grid);
+        if grids.room() > MAX_STORE {
+            grids.slots[slot] = None;
         }
     }
     let spare = rng.pick(&[0, 0, 1, 2, 3, 10, 50, 600, MAX_STORE]);
-    wall.length = (wall.room() + spare).min(MAX_STORE);
-    wall.words()
+    grids.length = (grids.room() + spare).min(MAX_STORE);
+    grids.words()
 }
 
 /// Three sheets of one shape; the union of the first two has 2,047 to 2,050 entries.
 fn near_most_entries(rng: &mut Rng) -> Vec<u32> {
-    let mut wall = Wall::fresh(MAX_STORE);
+    let mut grids = StoreGrids::fresh(MAX_STORE);
     let side = rng.between(46, 60);
     let wanted = entries_near_limit(rng);
     let (left, right) = two_parts(rng, (side, side), wanted);
@@ -102,10 +102,10 @@ fn near_most_entries(rng: &mut Rng) -> Vec<u32> {
     let third = grid_of(rng, side, side, entries);
     for grid in [left, right, third] {
         let slot = rng.below(SLOTS);
-        wall.slots[slot] = Some(grid);
+        grids.slots[slot] = Some(grid);
     }
-    wall.length = (wall.room() + rng.pick(&[0, 4, 3000, MAX_STORE])).min(MAX_STORE);
-    wall.words()
+    grids.length = (grids.room() + rng.pick(&[0, 4, 3000, MAX_STORE])).min(MAX_STORE);
+    grids.words()
 }
 
 fn damage_store(rng: &mut Rng, words: &mut Vec<u32>) {
@@ -158,12 +158,12 @@ fn damage_store(rng: &mut Rng, words: &mut Vec<u32>) {
 }
 
 /// A place: mostly one that holds a sheet, at times none or above 7.
-fn slot(rng: &mut Rng, wall: Option<&Wall>) -> usize {
+fn slot(rng: &mut Rng, grids: Option<&StoreGrids>) -> usize {
     if rng.once_in(80) {
         return rng.pick(&[8, 8, 9, 1 << 32, (1 << 32) + 3, usize::MAX]);
     }
-    let full: Vec<usize> = match wall {
-        Some(wall) => (0..SLOTS).filter(|&slot| wall.slots[slot].is_some()).collect(),
+    let full: Vec<usize> = match grids {
+        Some(grids) => (0..SLOTS).filter(|&slot| grids.slots[slot].is_some()).collect(),
         None => Vec::new(),
     };
     if full.is_empty() || rng.percent(3) {
@@ -173,13 +173,13 @@ fn slot(rng: &mut Rng, wall: Option<&Wall>) -> usize {
     }
 }
 
-fn grid_in(wall: Option<&Wall>, slot: usize) -> Option<&Grid> {
-    wall?.slots.get(slot)?.as_ref()
+fn grid_in(grids: Option<&StoreGrids>, slot: usize) -> Option<&Grid> {
+    grids?.slots.get(slot)?.as_ref()
 }
 
-fn next_calls(rng: &mut Rng, wall: Option<&Wall>, sides: &[u32; 3]) -> Vec<StoreCall> {
-    let named = slot(rng, wall);
-    let (rows, cols) = grid_in(wall, named).map_or((3, 3), Grid::shape);
+fn next_calls(rng: &mut Rng, grids: Option<&StoreGrids>, sides: &[u32; 3]) -> Vec<StoreCall> {
+    let named = slot(rng, grids);
+    let (rows, cols) = grid_in(grids, named).map_or((3, 3), Grid::shape);
     let near = |rng: &mut Rng, side: u32| match rng.below(60) {
         0 => side,
         1 => rng.pick(&[u32::MAX, MAX_SIDE, side + 1]),
@@ -187,17 +187,17 @@ fn next_calls(rng: &mut Rng, wall: Option<&Wall>, sides: &[u32; 3]) -> Vec<Store
     };
     let (i, j) = (near(rng, rows), near(rng, cols));
     match rng.below(100) {
-        0..=13 => vec![lay(rng, wall, sides)],
+        0..=13 => vec![lay(rng, grids, sides)],
         14..=18 => vec![StoreCall::Drop { slot: if rng.percent(20) { rng.below(SLOTS) } else { named } }],
         19..=43 => vec![StoreCall::SetCell { slot: named, i, j, value: value(rng) as u32 }],
         44..=50 => vec![StoreCall::ClearCell { slot: named, i, j }],
         51..=57 => vec![StoreCall::ReadCell { slot: named, i, j }],
-        _ => operation_calls(rng, wall),
+        _ => operation_calls(rng, grids),
     }
 }
 
-fn lay(rng: &mut Rng, wall: Option<&Wall>, sides: &[u32; 3]) -> StoreCall {
-    let slot = if rng.percent(75) { rng.below(SLOTS) } else { slot(rng, wall) };
+fn lay(rng: &mut Rng, grids: Option<&StoreGrids>, sides: &[u32; 3]) -> StoreCall {
+    let slot = if rng.percent(75) { rng.below(SLOTS) } else { slot(rng, grids) };
     let (mut rows, mut cols) = (rng.pick(sides), rng.pick(sides));
     if rng.once_in(15) {
         let odd = rng.pick(&[0, MAX_SIDE, MAX_SIDE, MAX_SIDE + 1, u32::MAX]);
@@ -211,31 +211,31 @@ fn lay(rng: &mut Rng, wall: Option<&Wall>, sides: &[u32; 3]) -> StoreCall {
 }
 
 /// An operation, at times after a lay that makes a C of its shape.
-fn operation_calls(rng: &mut Rng, wall: Option<&Wall>) -> Vec<StoreCall> {
+fn operation_calls(rng: &mut Rng, grids: Option<&StoreGrids>) -> Vec<StoreCall> {
     let mut options = options(rng);
     let mut operation = operation(rng);
     let mut work = work(rng);
     let mut calls = Vec::new();
-    let [mut a, mut b, mut mask, mut c] = [(); 4].map(|()| slot(rng, wall));
+    let [mut a, mut b, mut mask, mut c] = [(); 4].map(|()| slot(rng, grids));
     if rng.percent(8) {
         (b, mask, c) = (a, a, a);
     }
     // Some tries for inputs that agree.
     for _ in 0..12 {
-        if shape_of_t(wall, &operation, &options, a, b).is_some() {
+        if shape_of_t(grids, &operation, &options, a, b).is_some() {
             break;
         }
-        (a, b) = (slot(rng, wall), slot(rng, wall));
+        (a, b) = (slot(rng, grids), slot(rng, grids));
     }
-    if let (Operation::Extract { rows, cols }, Some(grid)) = (&mut operation, grid_in(wall, a)) {
-        let shape = grid_in(wall, c).map_or((2, 2), Grid::shape);
+    if let (Operation::Extract { rows, cols }, Some(grid)) = (&mut operation, grid_in(grids, a)) {
+        let shape = grid_in(grids, c).map_or((2, 2), Grid::shape);
         let (height, width) = grid.transposed_if(options.has(TRANSPOSE_FIRST)).shape();
         *rows = index_list(rng, shape.0 as usize, height);
         *cols = index_list(rng, shape.1 as usize, width);
     }
-    if let (Some(wall), Some(shape)) = (wall, shape_of_t(wall, &operation, &options, a, b)) {
+    if let (Some(grids), Some(shape)) = (grids, shape_of_t(grids, &operation, &options, a, b)) {
         let fitting: Vec<usize> =
-            (0..SLOTS).filter(|&slot| wall.slots[slot].as_ref().is_some_and(|grid| grid.shape() == shape)).collect();
+            (0..SLOTS).filter(|&slot| grids.slots[slot].as_ref().is_some_and(|grid| grid.shape() == shape)).collect();
         if !fitting.is_empty() && rng.percent(95) {
             if !fitting.contains(&c) {
                 c = rng.pick(&fitting);
@@ -265,8 +265,14 @@ fn operation_calls(rng: &mut Rng, wall: Option<&Wall>) -> Vec<StoreCall> {
     calls
 }
 
-fn shape_of_t(wall: Option<&Wall>, operation: &Operation, options: &Options, a: usize, b: usize) -> Option<(u32, u32)> {
-    let a = grid_in(wall, a)?;
-    let b = if operation.has_second() { Some(grid_in(wall, b)?) } else { None };
+fn shape_of_t(
+    grids: Option<&StoreGrids>,
+    operation: &Operation,
+    options: &Options,
+    a: usize,
+    b: usize,
+) -> Option<(u32, u32)> {
+    let a = grid_in(grids, a)?;
+    let b = if operation.has_second() { Some(grid_in(grids, b)?) } else { None };
     SOUND.shape_of_t(operation, options, &Sheets { a, b, mask: None, c: a })
 }

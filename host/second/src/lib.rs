@@ -2,7 +2,7 @@
 //! from the library's code, compared with the library on random calls. After each call the answer
 //! and every word of every lent buffer are held against the model's.
 //!
-//! `calls` says what a call is; `operators`, `grid`, `model`, `lent` and `wall` are the model, with
+//! `calls` says what a call is; `operators`, `grid`, `model`, `lent` and `store_grids` are the model, with
 //! places for the planted faults of `fault`; `generate*` makes calls; `ffi` and `library` carry them
 //! out; `compare` finds differences; `shrink` and `describe` show a small failing case.
 
@@ -21,6 +21,6 @@ pub mod model;
 mod operators;
 pub mod rng;
 pub mod shrink;
-pub mod wall;
+pub mod store_grids;
 #[cfg(test)]
 mod worked_sheets;

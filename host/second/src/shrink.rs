@@ -3,7 +3,7 @@
 use crate::calls::*;
 use crate::fault::Fault;
 use crate::grid::Grid;
-use crate::wall::Wall;
+use crate::store_grids::StoreGrids;
 use std::collections::BTreeSet;
 
 /// The most cases tried for one failure.
@@ -358,7 +358,7 @@ fn smaller_lists(list: &StoreList) -> Vec<StoreList> {
         }
     }
     let mut sides: BTreeSet<u32> = BTreeSet::new();
-    let wall = Wall::read(&list.store, Fault::None);
+    let grids = StoreGrids::read(&list.store, Fault::None);
     for call in &list.calls {
         match call {
             StoreCall::NewEmpty { rows, cols, .. } => sides.extend([*rows, *cols]),
@@ -368,24 +368,24 @@ fn smaller_lists(list: &StoreList) -> Vec<StoreList> {
             _ => {}
         }
     }
-    sides.extend(sides_of(wall.iter().flat_map(|wall| wall.slots.iter().flatten().cloned())));
+    sides.extend(sides_of(grids.iter().flat_map(|grids| grids.slots.iter().flatten().cloned())));
     for crop in crops(&sides) {
-        all.push(crop_list(list, wall.as_ref(), crop));
+        all.push(crop_list(list, grids.as_ref(), crop));
     }
     all
 }
 
 /// The list with one side cut everywhere; the length of the store goes with its sheets.
-fn crop_list(list: &StoreList, wall: Option<&Wall>, crop: Crop) -> StoreList {
+fn crop_list(list: &StoreList, grids: Option<&StoreGrids>, crop: Crop) -> StoreList {
     let mut cropped = list.clone();
-    if let Some(wall) = wall {
-        let mut wall = wall.clone();
-        let before = wall.room();
-        for grid in wall.slots.iter_mut().flatten() {
+    if let Some(grids) = grids {
+        let mut grids = grids.clone();
+        let before = grids.room();
+        for grid in grids.slots.iter_mut().flatten() {
             *grid = crop_grid(grid, crop);
         }
-        wall.length -= before - wall.room();
-        cropped.store = wall.words();
+        grids.length -= before - grids.room();
+        cropped.store = grids.words();
     }
     for call in &mut cropped.calls {
         match call {
@@ -401,21 +401,21 @@ fn crop_list(list: &StoreList, wall: Option<&Wall>, crop: Crop) -> StoreList {
 
 fn smaller_stores(words: &[u32]) -> Vec<Vec<u32>> {
     let mut all = Vec::new();
-    match Wall::read(words, Fault::None) {
-        Some(wall) => {
-            let spare = wall.length - wall.room();
+    match StoreGrids::read(words, Fault::None) {
+        Some(grids) => {
+            let spare = grids.length - grids.room();
             for cut in shorter(spare) {
-                let mut smaller = wall.clone();
-                smaller.length = wall.room() + cut;
+                let mut smaller = grids.clone();
+                smaller.length = grids.room() + cut;
                 all.push(smaller.words());
             }
-            for slot in 0..wall.slots.len() {
-                let Some(grid) = &wall.slots[slot] else {
+            for slot in 0..grids.slots.len() {
+                let Some(grid) = &grids.slots[slot] else {
                     continue;
                 };
                 let fewer = smaller_grids(grid).into_iter().map(Some);
                 for replacement in [None].into_iter().chain(fewer) {
-                    let mut smaller = wall.clone();
+                    let mut smaller = grids.clone();
                     smaller.slots[slot] = replacement;
                     all.push(smaller.words());
                     smaller.length = smaller.room() + spare;

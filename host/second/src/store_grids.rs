@@ -1,4 +1,4 @@
-//! The wall of eight plain grids, and the store's words.
+//! The eight plain grids of a store ("a wall of eight plain grids"), and the store's words.
 
 use crate::calls::*;
 use crate::fault::Fault;
@@ -12,14 +12,14 @@ const ORDER: [u32; 9] = [12, 1, 2, 13, 7, 8, 9, 10, 11];
 
 /// Eight grids and the store's length.
 #[derive(Clone, PartialEq, Eq, Debug)]
-pub struct Wall {
+pub struct StoreGrids {
     pub length: usize,
     pub slots: [Option<Grid>; SLOTS],
 }
 
-impl Wall {
+impl StoreGrids {
     pub fn fresh(length: usize) -> Self {
-        Wall { length, slots: Default::default() }
+        StoreGrids { length, slots: Default::default() }
     }
 
     /// 8 plus the sizes of all grids.
@@ -54,16 +54,16 @@ impl Wall {
         words
     }
 
-    /// The wall that the words are the writing of, if they are a store.
+    /// The grids that the words are the writing of, where they are a store.
     pub fn read(words: &[u32], fault: Fault) -> Option<Self> {
         let least = SLOTS + usize::from(fault == Fault::ShortestStoreRefused);
         let most = MAX_STORE + usize::from(fault == Fault::LongerStoreAccepted);
         if !(least..=most).contains(&words.len()) {
             return None;
         }
-        let mut wall = Wall::fresh(words.len());
+        let mut grids = StoreGrids::fresh(words.len());
         let mut rest = words;
-        for slot in &mut wall.slots {
+        for slot in &mut grids.slots {
             let (&count, behind) = rest.split_first()?;
             let section = behind.get(..count as usize)?;
             rest = &behind[section.len()..];
@@ -76,32 +76,32 @@ impl Wall {
             }
         }
         let tail_is_zero = rest.iter().all(|&word| word == 0);
-        (tail_is_zero || fault == Fault::StoreTailFree).then_some(wall)
+        (tail_is_zero || fault == Fault::StoreTailFree).then_some(grids)
     }
 }
 
-/// A store's words beside the wall that they are the writing of, if they are a store.
+/// A store's words beside the grids that they are the writing of, where they are a store.
 #[derive(Clone)]
 pub struct StoreState {
     pub words: Vec<u32>,
-    pub wall: Option<Wall>,
+    pub grids: Option<StoreGrids>,
 }
 
 impl StoreState {
     pub fn new(words: &[u32], fault: Fault) -> Self {
-        StoreState { words: words.to_vec(), wall: Wall::read(words, fault) }
+        StoreState { words: words.to_vec(), grids: StoreGrids::read(words, fault) }
     }
 }
 
 impl Model {
     /// Carries out one call on the store.
     pub fn store(&self, state: &mut StoreState, call: &StoreCall) -> Outcome {
-        let before = state.wall.clone();
-        let answer = self.store_answer(state.wall.as_mut(), call);
-        if let (Some(wall), true) = (&state.wall, state.wall != before) {
-            let mut words = wall.words();
+        let before = state.grids.clone();
+        let answer = self.store_answer(state.grids.as_mut(), call);
+        if let (Some(grids), true) = (&state.grids, state.grids != before) {
+            let mut words = grids.words();
             if self.has(Fault::StoreTailStale) {
-                let end = wall.sections().len();
+                let end = grids.sections().len();
                 words.truncate(end);
                 words.extend(state.words.iter().skip(end));
             }
@@ -116,9 +116,9 @@ impl Model {
         Outcome { answer, buffers }
     }
 
-    fn store_answer(&self, wall: Option<&mut Wall>, call: &StoreCall) -> u64 {
+    fn store_answer(&self, grids: Option<&mut StoreGrids>, call: &StoreCall) -> u64 {
         if let StoreCall::Operation(call) = call {
-            return self.store_operation(wall, call);
+            return self.store_operation(grids, call);
         }
         let (StoreCall::NewEmpty { slot, .. }
         | StoreCall::Drop { slot }
@@ -127,20 +127,20 @@ impl Model {
         | StoreCall::ReadCell { slot, .. }
         | StoreCall::Operation(StoreOperation { a: slot, .. })) = call;
         let slot = *slot;
-        let Some(wall) = wall.filter(|_| slot < SLOTS) else {
+        let Some(grids) = grids.filter(|_| slot < SLOTS) else {
             return counted(12, 0);
         };
         match call {
-            StoreCall::NewEmpty { rows, cols, .. } => self.store_new_empty(wall, slot, *rows, *cols),
+            StoreCall::NewEmpty { rows, cols, .. } => self.store_new_empty(grids, slot, *rows, *cols),
             StoreCall::Drop { .. } => {
-                if self.has(Fault::DropAbsentRefused) && wall.slots[slot].is_none() {
+                if self.has(Fault::DropAbsentRefused) && grids.slots[slot].is_none() {
                     return counted(13, 0);
                 }
-                wall.slots[slot] = None;
+                grids.slots[slot] = None;
                 counted(0, 0)
             }
-            StoreCall::SetCell { i, j, value, .. } => self.store_set_cell(wall, slot, (*i, *j), *value as i32),
-            StoreCall::ClearCell { i, j, .. } => match &mut wall.slots[slot] {
+            StoreCall::SetCell { i, j, value, .. } => self.store_set_cell(grids, slot, (*i, *j), *value as i32),
+            StoreCall::ClearCell { i, j, .. } => match &mut grids.slots[slot] {
                 None => counted(13, 0),
                 Some(grid) if *i >= grid.rows || *j >= grid.cols => counted(7, 0),
                 Some(grid) => {
@@ -151,7 +151,7 @@ impl Model {
                     counted(0, grid.cells.len())
                 }
             },
-            StoreCall::ReadCell { i, j, .. } => match &wall.slots[slot] {
+            StoreCall::ReadCell { i, j, .. } => match &grids.slots[slot] {
                 None => counted(13, 0),
                 Some(grid) if *i >= grid.rows || *j >= grid.cols => counted(7, 0),
                 Some(grid) => present_or_absent(grid.get(*i, *j)),
@@ -161,32 +161,32 @@ impl Model {
     }
 
     /// Whether a sheet of this size fits in the place's stead.
-    fn fits(&self, wall: &Wall, slot: usize, size: usize) -> bool {
+    fn fits(&self, grids: &StoreGrids, slot: usize, size: usize) -> bool {
         let beside = match self.fault {
-            Fault::StoreRoomOldToo => wall.room(),
-            Fault::StoreRoomOneMore => wall.room_beside(slot) + 1,
-            _ => wall.room_beside(slot),
+            Fault::StoreRoomOldToo => grids.room(),
+            Fault::StoreRoomOneMore => grids.room_beside(slot) + 1,
+            _ => grids.room_beside(slot),
         };
-        beside + size <= wall.length
+        beside + size <= grids.length
     }
 
-    fn store_new_empty(&self, wall: &mut Wall, slot: usize, rows: u32, cols: u32) -> u64 {
+    fn store_new_empty(&self, grids: &mut StoreGrids, slot: usize, rows: u32, cols: u32) -> u64 {
         if !self.is_shape(rows, cols) {
             return counted(8, 0);
         }
         let grid = Grid::empty(rows, cols);
-        if !self.fits(wall, slot, grid.size()) {
+        if !self.fits(grids, slot, grid.size()) {
             if self.has(Fault::RefusedLayDrops) {
-                wall.slots[slot] = None;
+                grids.slots[slot] = None;
             }
             return counted(11, 0);
         }
-        wall.slots[slot] = Some(grid);
+        grids.slots[slot] = Some(grid);
         counted(0, 0)
     }
 
-    fn store_set_cell(&self, wall: &mut Wall, slot: usize, at: (u32, u32), value: i32) -> u64 {
-        let Some(mut grid) = wall.slots[slot].clone() else {
+    fn store_set_cell(&self, grids: &mut StoreGrids, slot: usize, at: (u32, u32), value: i32) -> u64 {
+        let Some(mut grid) = grids.slots[slot].clone() else {
             return counted(13, 0);
         };
         if at.0 >= grid.rows || at.1 >= grid.cols {
@@ -198,15 +198,15 @@ impl Model {
         if entries > MAX_ENTRIES {
             return counted(10, 0);
         }
-        if !self.fits(wall, slot, grid.size()) {
+        if !self.fits(grids, slot, grid.size()) {
             return counted(11, 0);
         }
         let entries = grid.cells.len();
-        wall.slots[slot] = Some(grid);
+        grids.slots[slot] = Some(grid);
         counted(0, entries)
     }
 
-    fn store_operation(&self, wall: Option<&mut Wall>, call: &StoreOperation) -> u64 {
+    fn store_operation(&self, grids: Option<&mut StoreGrids>, call: &StoreOperation) -> u64 {
         let StoreOperation { operation, options, .. } = call;
         let mut applying = self.number_refusals(operation, options);
         let mut roles = vec![call.a, call.c];
@@ -216,27 +216,27 @@ impl Model {
         if options.has_mask || self.has(Fault::AbsentMaskRead) {
             roles.push(call.mask);
         }
-        let wall = wall.filter(|_| roles.iter().all(|&slot| slot < SLOTS));
-        let Some(wall) = wall else {
+        let grids = grids.filter(|_| roles.iter().all(|&slot| slot < SLOTS));
+        let Some(grids) = grids else {
             applying.push(12);
             return counted(self.first_refusal(&applying, &ORDER).unwrap_or(0), 0);
         };
-        if self.has(Fault::EmptyMaskAccepted) && options.has_mask && wall.slots[call.mask].is_none() {
+        if self.has(Fault::EmptyMaskAccepted) && options.has_mask && grids.slots[call.mask].is_none() {
             roles.pop();
         }
-        if roles.iter().any(|&slot| wall.slots[slot].is_none()) {
+        if roles.iter().any(|&slot| grids.slots[slot].is_none()) {
             applying.push(13);
         }
-        let a = wall.slots[call.a].as_ref();
+        let a = grids.slots[call.a].as_ref();
         if a.is_some_and(|a| self.has_bad_list(operation, options, a)) {
             applying.push(7);
         }
         if self.has_short_work(&call.work) {
             applying.push(9);
         }
-        if let (Some(a), Some(c), false) = (a, &wall.slots[call.c], applying.contains(&13)) {
-            let b = if operation.has_second() { wall.slots[call.b].as_ref() } else { None };
-            let mask = if options.has_mask { wall.slots[call.mask].as_ref() } else { None };
+        if let (Some(a), Some(c), false) = (a, &grids.slots[call.c], applying.contains(&13)) {
+            let b = if operation.has_second() { grids.slots[call.b].as_ref() } else { None };
+            let mask = if options.has_mask { grids.slots[call.mask].as_ref() } else { None };
             let sheets = Sheets { a, b, mask, c };
             if self.has_other_shapes(operation, options, &sheets) {
                 applying.push(8);
@@ -247,12 +247,12 @@ impl Model {
                 if self.has_too_many(&result) {
                     applying.push(10);
                 }
-                if !self.fits(wall, call.c, result.grid.size()) {
+                if !self.fits(grids, call.c, result.grid.size()) {
                     applying.push(11);
                 }
                 if applying.is_empty() {
                     let answer = counted(0, self.count(&result));
-                    wall.slots[call.c] = Some(result.grid);
+                    grids.slots[call.c] = Some(result.grid);
                     return answer;
                 }
             }
@@ -274,7 +274,7 @@ mod tests {
     fn lengths_of_a_fresh_store() {
         for (length, valid) in [(0, false), (7, false), (8, true), (16_384, true), (16_385, false)] {
             let state = StoreState::new(&vec![0; length], SOUND.fault);
-            assert_eq!(state.wall.is_some(), valid, "{length} words");
+            assert_eq!(state.grids.is_some(), valid, "{length} words");
         }
     }
 
