@@ -23,6 +23,8 @@ use Rattle.operations.specs.declared.Call.{Call}
 use Rattle.operations.specs.declared.Operation.{Operation}
 use Rattle.operations.specs.declared.Operation.the-variants.{Mxm, EwiseMult, EwiseAdd, Apply, Extract}
 use Rattle.call_codes.specs.declared.Options.{Options}
+use Rattle.call_codes.specs.declared.Verb.{Verb}
+use Rattle.call_codes.specs.declared.Verb.the-variants as verb
 
 abbrev pub binaryKnown : BinaryCode → Bool
 binaryKnown (binary.Known op) = true
@@ -73,12 +75,6 @@ productCall vector o m op =
     callOf o (monoidKnown (monoidNumbered m) and binaryKnown (binaryNumbered op))
     (Mxm (monoidOf (monoidNumbered m)) (binaryOf (binaryNumbered op))) vector
 
-abbrev pub mxmCall : Options → ℕ → ℕ → Call
-mxmCall = productCall false
-
-abbrev pub vxmCall : Options → ℕ → ℕ → Call
-vxmCall = productCall true
-
 abbrev pub ewiseMultCall : Options → ℕ → Call
 ewiseMultCall o op = callOf o (binaryKnown (binaryNumbered op)) (EwiseMult (binaryOf (binaryNumbered op))) false
 
@@ -89,5 +85,11 @@ abbrev pub applyCall : Options → ℕ → ℕ → ℕ → Call
 applyCall o kind op s =
     callOf o (applyKnown (applyNumbered kind op s)) (Apply (applyOf (applyNumbered kind op s))) false
 
-abbrev pub extractCall : Options → Call
-extractCall o = callOf o true Extract false
+-- a call of any of them
+abbrev pub decoded : Options → Verb → Call
+decoded o (verb.Mxm m op) = productCall false o m op
+decoded o (verb.Vxm m op) = productCall true o m op
+decoded o (verb.EwiseMult op) = ewiseMultCall o op
+decoded o (verb.EwiseAdd op) = ewiseAddCall o op
+decoded o (verb.Apply kind op s) = applyCall o kind op s
+decoded o verb.Extract = callOf o true Extract false

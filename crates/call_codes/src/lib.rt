@@ -14,8 +14,8 @@ ghost use mathlib.Core.Path.{_≡_};
 ghost use Rattle.words.specs.Tests.{_and_};
 ghost use Rattle.operator_codes.specs.Codes.{binaryNumbered, monoidNumbered, applyNumbered};
 ghost use Rattle.call_codes.specs.Decoding.{binaryKnown, binaryOf, monoidKnown, monoidOf, applyKnown, applyOf};
-ghost use Rattle.call_codes.specs.Decoding.{accumulatorKnown, accumulatorOf, callOf, productCall, mxmCall, vxmCall};
-ghost use Rattle.call_codes.specs.Decoding.{ewiseMultCall, ewiseAddCall, applyCall, extractCall};
+ghost use Rattle.call_codes.specs.Decoding.{accumulatorKnown, accumulatorOf, callOf, productCall};
+ghost use Rattle.call_codes.specs.Decoding.{ewiseMultCall, ewiseAddCall, applyCall, decoded};
 
 // What a call says beside its inputs: the flags, whether there is a mask, whether there is an accumulator and its number.
 pub struct Options {
@@ -23,6 +23,31 @@ pub struct Options {
     pub has_mask: bool,
     pub has_accumulator: bool,
     pub accumulator: u32,
+}
+
+// What a call computes, by its numbers as they come: for a product a monoid and an operator, for apply a kind, an operator
+// of that kind and a scalar.
+pub enum Verb {
+    Mxm(u32, u32),
+    Vxm(u32, u32),
+    EwiseMult(u32),
+    EwiseAdd(u32),
+    Apply(u32, u32, u32),
+    Extract,
+}
+
+// A call with its numbers decoded.
+pub fn decode(options: Options, verb: Verb) -> Call
+    ensures { λ r. ⌜ r ≡ decoded options verb ⌝ }
+{
+    match verb {
+        Verb::Mxm(monoid, op) => product_call(false, options, monoid, op),
+        Verb::Vxm(monoid, op) => product_call(true, options, monoid, op),
+        Verb::EwiseMult(op) => ewise_mult_call(options, op),
+        Verb::EwiseAdd(op) => ewise_add_call(options, op),
+        Verb::Apply(kind, op, scalar) => apply_call(options, kind, op, scalar),
+        Verb::Extract => call_of(options, true, Operation::Extract, false),
+    }
 }
 
 fn accumulator_known(options: Options) -> bool
@@ -133,19 +158,7 @@ fn product_call(vector: bool, options: Options, monoid: u32, op: u32) -> Call
     )
 }
 
-pub fn mxm_call(options: Options, monoid: u32, op: u32) -> Call
-    ensures { λ r. ⌜ r ≡ mxmCall options monoid op ⌝ }
-{
-    product_call(false, options, monoid, op)
-}
-
-pub fn vxm_call(options: Options, monoid: u32, op: u32) -> Call
-    ensures { λ r. ⌜ r ≡ vxmCall options monoid op ⌝ }
-{
-    product_call(true, options, monoid, op)
-}
-
-pub fn ewise_mult_call(options: Options, op: u32) -> Call
+fn ewise_mult_call(options: Options, op: u32) -> Call
     ensures { λ r. ⌜ r ≡ ewiseMultCall options op ⌝ }
 {
     call_of(
@@ -156,7 +169,7 @@ pub fn ewise_mult_call(options: Options, op: u32) -> Call
     )
 }
 
-pub fn ewise_add_call(options: Options, op: u32) -> Call
+fn ewise_add_call(options: Options, op: u32) -> Call
     ensures { λ r. ⌜ r ≡ ewiseAddCall options op ⌝ }
 {
     call_of(
@@ -167,7 +180,7 @@ pub fn ewise_add_call(options: Options, op: u32) -> Call
     )
 }
 
-pub fn apply_call(options: Options, kind: u32, op: u32, scalar: u32) -> Call
+fn apply_call(options: Options, kind: u32, op: u32, scalar: u32) -> Call
     ensures { λ r. ⌜ r ≡ applyCall options kind op scalar ⌝ }
 {
     call_of(
@@ -176,10 +189,4 @@ pub fn apply_call(options: Options, kind: u32, op: u32, scalar: u32) -> Call
         Operation::Apply(apply_of(kind, op, scalar)),
         false,
     )
-}
-
-pub fn extract_call(options: Options) -> Call
-    ensures { λ r. ⌜ r ≡ extractCall options ⌝ }
-{
-    call_of(options, true, Operation::Extract, false)
 }

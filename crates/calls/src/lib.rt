@@ -1,179 +1,28 @@
-// The six operations on lent matrices. Any words and any numbers may be lent: each call answers 0 and the number of
+// The operations on lent matrices. Any words and any numbers may be lent: a call answers 0 and the number of
 // entries of the final C, or the lowest refusal that applies and 0. A refused call changes no word but the workspace's,
 // and every call leaves the workspace all zeros.
 use answers::Answer;
 use answers::INSUFFICIENT_SPACE;
 use answers::TOO_MANY_ENTRIES;
 use call_codes::Options;
+use call_codes::Verb;
 use compute::Outcome;
 use matrix::layout::FIXED_WORDS;
 use operations::Call;
 ghost use mathlib.Core.Path.{_≡_};
-ghost use mathlib.Core.List.{[]};
 ghost use Prim.Native.Nat.{_≤_};
 ghost use lib.ListN.{length};
 ghost use Rattle.limits.specs.Limits.{maxEntries};
 ghost use Rattle.matrix.specs.Layout.{rows, sizeOf};
 ghost use Rattle.matrix.specs.Facts.{Header};
-ghost use Rattle.call_codes.specs.Decoding.{mxmCall, vxmCall, ewiseMultCall, ewiseAddCall, applyCall, extractCall};
+ghost use Rattle.call_codes.specs.Decoding.{decoded};
 ghost use Rattle.calls.specs.Completion.{Attempted, Completed, Committed};
 
-// "Product": C gets A times B, by a monoid and an operator.
-pub fn mxm<'a>(
+// Any operation, by its verb: its numbers are decoded, it is attempted, and the workspace is cleared. Where it has no
+// second input, no mask or no index lists, any words may stand for them: they are not looked at.
+pub fn operate<'a>(
     options: Options,
-    monoid: u32,
-    op: u32,
-    a: &'a [u32],
-    b: &'a [u32],
-    mask: &[u32],
-    c: &mut [u32],
-    work: &mut [u32],
-) -> Answer
-    ensures { λ r. ⌜ Completed (mxmCall options monoid op) (now (a .entry)) (now (b .entry)) (now (mask .entry))
-        (now (c .entry)) [] [] (now (work .entry)) r (now (c .exit)) (now (work .exit)) ⌝ }
-{
-    run(
-        call_codes::mxm_call(options, monoid, op),
-        a,
-        b,
-        mask,
-        &a[0..0],
-        &a[0..0],
-        c,
-        work,
-    )
-}
-
-// "Strip times sheet": the product with a vector as first input.
-pub fn vxm<'a>(
-    options: Options,
-    monoid: u32,
-    op: u32,
-    u: &'a [u32],
-    a: &'a [u32],
-    mask: &[u32],
-    c: &mut [u32],
-    work: &mut [u32],
-) -> Answer
-    ensures { λ r. ⌜ Completed (vxmCall options monoid op) (now (u .entry)) (now (a .entry)) (now (mask .entry))
-        (now (c .entry)) [] [] (now (work .entry)) r (now (c .exit)) (now (work .exit)) ⌝ }
-{
-    run(
-        call_codes::vxm_call(options, monoid, op),
-        u,
-        a,
-        mask,
-        &u[0..0],
-        &u[0..0],
-        c,
-        work,
-    )
-}
-
-// "Intersection".
-pub fn ewise_mult<'a>(
-    options: Options,
-    op: u32,
-    a: &'a [u32],
-    b: &'a [u32],
-    mask: &[u32],
-    c: &mut [u32],
-    work: &mut [u32],
-) -> Answer
-    ensures { λ r. ⌜ Completed (ewiseMultCall options op) (now (a .entry)) (now (b .entry)) (now (mask .entry))
-        (now (c .entry)) [] [] (now (work .entry)) r (now (c .exit)) (now (work .exit)) ⌝ }
-{
-    run(
-        call_codes::ewise_mult_call(options, op),
-        a,
-        b,
-        mask,
-        &a[0..0],
-        &a[0..0],
-        c,
-        work,
-    )
-}
-
-// "Union".
-pub fn ewise_add<'a>(
-    options: Options,
-    op: u32,
-    a: &'a [u32],
-    b: &'a [u32],
-    mask: &[u32],
-    c: &mut [u32],
-    work: &mut [u32],
-) -> Answer
-    ensures { λ r. ⌜ Completed (ewiseAddCall options op) (now (a .entry)) (now (b .entry)) (now (mask .entry))
-        (now (c .entry)) [] [] (now (work .entry)) r (now (c .exit)) (now (work .exit)) ⌝ }
-{
-    run(
-        call_codes::ewise_add_call(options, op),
-        a,
-        b,
-        mask,
-        &a[0..0],
-        &a[0..0],
-        c,
-        work,
-    )
-}
-
-// "Apply": a kind, an operator of that kind and a scalar.
-pub fn apply(
-    options: Options,
-    kind: u32,
-    op: u32,
-    scalar: u32,
-    a: &[u32],
-    mask: &[u32],
-    c: &mut [u32],
-    work: &mut [u32],
-) -> Answer
-    ensures { λ r. ⌜ Completed (applyCall options kind op scalar) (now (a .entry)) [] (now (mask .entry))
-        (now (c .entry)) [] [] (now (work .entry)) r (now (c .exit)) (now (work .exit)) ⌝ }
-{
-    run(
-        call_codes::apply_call(options, kind, op, scalar),
-        a,
-        &a[0..0],
-        mask,
-        &a[0..0],
-        &a[0..0],
-        c,
-        work,
-    )
-}
-
-// "Extract": the listed rows and columns of A.
-pub fn extract(
-    options: Options,
-    a: &[u32],
-    is: &[u32],
-    js: &[u32],
-    mask: &[u32],
-    c: &mut [u32],
-    work: &mut [u32],
-) -> Answer
-    ensures { λ r. ⌜ Completed (extractCall options) (now (a .entry)) [] (now (mask .entry)) (now (c .entry))
-        (now (is .entry)) (now (js .entry)) (now (work .entry)) r (now (c .exit)) (now (work .exit)) ⌝ }
-{
-    run(
-        call_codes::extract_call(options),
-        a,
-        &a[0..0],
-        mask,
-        is,
-        js,
-        c,
-        work,
-    )
-}
-
-// Any of the six: the attempt, and then the workspace is cleared.
-fn run<'a>(
-    call: Call,
+    verb: Verb,
     a: &'a [u32],
     b: &'a [u32],
     mask: &[u32],
@@ -182,9 +31,10 @@ fn run<'a>(
     c: &mut [u32],
     work: &mut [u32],
 ) -> Answer
-    ensures { λ r. ⌜ Completed call (now (a .entry)) (now (b .entry)) (now (mask .entry)) (now (c .entry))
-        (now (is .entry)) (now (js .entry)) (now (work .entry)) r (now (c .exit)) (now (work .exit)) ⌝ }
+    ensures { λ r. ⌜ Completed (decoded options verb) (now (a .entry)) (now (b .entry)) (now (mask .entry))
+        (now (c .entry)) (now (is .entry)) (now (js .entry)) (now (work .entry)) r (now (c .exit)) (now (work .exit)) ⌝ }
 {
+    let call = call_codes::decode(options, verb);
     let answer = attempt(call, a, b, mask, is, js, c, work);
     words::clear(work);
     answer

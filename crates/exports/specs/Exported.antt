@@ -12,6 +12,7 @@ use Rattle.create.specs.Create.{Created}
 use Rattle.operations.specs.declared.Call.{Call}
 use Rattle.call_codes.specs.declared.Options.{Options}
 use Rattle.calls.specs.Completion.{Completed}
+use Rattle.model.specs.declared.Roles.{Roles}
 use Rattle.model.specs.Calls.{StoreCall, wrote, found}
 use Rattle.model.specs.Stores.{replyOn, Performed}
 use Rattle.exports.specs.Packing.{packed, packedCell}
@@ -24,6 +25,10 @@ optionsOf flags mask accumulated number = record {
   «has_accumulator» = not (eqb accumulated 0);
   accumulator = number;
 }
+
+-- the slots that a call names for A, B, the mask and C
+abbrev pub rolesNamed : ℕ → ℕ → ℕ → ℕ → Roles
+rolesNamed a b m c = record { first = a; second = b; mask = m; output = c }
 
 -- column numbers or values: 0 asks for the column numbers, any other number for the values
 abbrev pub sectionOf : ℕ → Section

@@ -5,7 +5,9 @@
 // entries of what was written or checked, or the value of the cell that was read, in the upper.
 use answers::Answer;
 use call_codes::Options;
+use call_codes::Verb;
 use cells::CellAnswer;
+use model::Roles;
 use row_view::Place;
 use row_view::Section;
 ghost use mathlib.Core.Path.{_≡_};
@@ -15,11 +17,12 @@ ghost use lib.ListN.{length, replicate};
 ghost use Rattle.matrix.specs.Valid.{checkAnswer};
 ghost use Rattle.cells.specs.Read.{readAnswer};
 ghost use Rattle.row_view.specs.View.{rowView, placeOf};
-ghost use Rattle.call_codes.specs.Decoding.{mxmCall, vxmCall, ewiseMultCall, ewiseAddCall, applyCall, extractCall};
-ghost use Rattle.model.specs.Calls.{newEmpty, dropSlot, setCell, clearCell, readCell, operation};
-ghost use Rattle.model.specs.Calls.{mxm, vxm, ewiseMult, ewiseAdd, apply, extract};
+ghost use Rattle.call_codes.specs.declared.Verb.the-variants as verbs;
+ghost use Rattle.call_codes.specs.Decoding.{decoded};
+ghost use Rattle.model.specs.Calls.{newEmpty, dropSlot, setCell, clearCell, readCell, operate};
 ghost use Rattle.exports.specs.Packing.{packed, packedCell, presentBit, packedPlace, secondBit, SmallPlace, codeLimit};
-ghost use Rattle.exports.specs.Exported.{optionsOf, sectionOf, LentCreated, LentCompleted, StorePerformed, StoreRead};
+ghost use Rattle.exports.specs.Exported.{optionsOf, rolesNamed, sectionOf};
+ghost use Rattle.exports.specs.Exported.{LentCreated, LentCompleted, StorePerformed, StoreRead};
 
 // In the answer of a read, what stands for a cell that is present.
 const PRESENT: u64 = 256;
@@ -79,12 +82,24 @@ pub extern "C" fn ostrubel_mxm<'a>(
     c: &mut [u32],
     work: &mut [u32],
 ) -> u64
-    ensures { λ r. ⌜ LentCompleted (mxmCall (optionsOf flags «has_mask» «has_accumulator» accumulator) monoid op)
+    ensures { λ r. ⌜ LentCompleted (decoded (optionsOf flags «has_mask» «has_accumulator» accumulator) (verbs.Mxm monoid op))
         (now (a .entry)) (now (b .entry)) (now (mask .entry)) (now (c .entry)) [] [] (now (work .entry))
         r (now (c .exit)) (now (work .exit)) ⌝ }
 {
-    let options = options_of(flags, has_mask, has_accumulator, accumulator);
-    pack(calls::mxm(options, monoid, op, a, b, mask, c, work))
+    lent(
+        flags,
+        has_mask,
+        has_accumulator,
+        accumulator,
+        Verb::Mxm(monoid, op),
+        a,
+        b,
+        mask,
+        &a[0..0],
+        &a[0..0],
+        c,
+        work,
+    )
 }
 
 // "Strip times sheet": the product with a vector u as first input.
@@ -102,12 +117,24 @@ pub extern "C" fn ostrubel_vxm<'a>(
     c: &mut [u32],
     work: &mut [u32],
 ) -> u64
-    ensures { λ r. ⌜ LentCompleted (vxmCall (optionsOf flags «has_mask» «has_accumulator» accumulator) monoid op)
+    ensures { λ r. ⌜ LentCompleted (decoded (optionsOf flags «has_mask» «has_accumulator» accumulator) (verbs.Vxm monoid op))
         (now (u .entry)) (now (a .entry)) (now (mask .entry)) (now (c .entry)) [] [] (now (work .entry))
         r (now (c .exit)) (now (work .exit)) ⌝ }
 {
-    let options = options_of(flags, has_mask, has_accumulator, accumulator);
-    pack(calls::vxm(options, monoid, op, u, a, mask, c, work))
+    lent(
+        flags,
+        has_mask,
+        has_accumulator,
+        accumulator,
+        Verb::Vxm(monoid, op),
+        u,
+        a,
+        mask,
+        &u[0..0],
+        &u[0..0],
+        c,
+        work,
+    )
 }
 
 // "Intersection".
@@ -124,12 +151,24 @@ pub extern "C" fn ostrubel_ewise_mult<'a>(
     c: &mut [u32],
     work: &mut [u32],
 ) -> u64
-    ensures { λ r. ⌜ LentCompleted (ewiseMultCall (optionsOf flags «has_mask» «has_accumulator» accumulator) op)
+    ensures { λ r. ⌜ LentCompleted (decoded (optionsOf flags «has_mask» «has_accumulator» accumulator) (verbs.EwiseMult op))
         (now (a .entry)) (now (b .entry)) (now (mask .entry)) (now (c .entry)) [] [] (now (work .entry))
         r (now (c .exit)) (now (work .exit)) ⌝ }
 {
-    let options = options_of(flags, has_mask, has_accumulator, accumulator);
-    pack(calls::ewise_mult(options, op, a, b, mask, c, work))
+    lent(
+        flags,
+        has_mask,
+        has_accumulator,
+        accumulator,
+        Verb::EwiseMult(op),
+        a,
+        b,
+        mask,
+        &a[0..0],
+        &a[0..0],
+        c,
+        work,
+    )
 }
 
 // "Union".
@@ -146,12 +185,24 @@ pub extern "C" fn ostrubel_ewise_add<'a>(
     c: &mut [u32],
     work: &mut [u32],
 ) -> u64
-    ensures { λ r. ⌜ LentCompleted (ewiseAddCall (optionsOf flags «has_mask» «has_accumulator» accumulator) op)
+    ensures { λ r. ⌜ LentCompleted (decoded (optionsOf flags «has_mask» «has_accumulator» accumulator) (verbs.EwiseAdd op))
         (now (a .entry)) (now (b .entry)) (now (mask .entry)) (now (c .entry)) [] [] (now (work .entry))
         r (now (c .exit)) (now (work .exit)) ⌝ }
 {
-    let options = options_of(flags, has_mask, has_accumulator, accumulator);
-    pack(calls::ewise_add(options, op, a, b, mask, c, work))
+    lent(
+        flags,
+        has_mask,
+        has_accumulator,
+        accumulator,
+        Verb::EwiseAdd(op),
+        a,
+        b,
+        mask,
+        &a[0..0],
+        &a[0..0],
+        c,
+        work,
+    )
 }
 
 // "Apply": a kind, an operator of that kind and a scalar.
@@ -169,13 +220,24 @@ pub extern "C" fn ostrubel_apply(
     c: &mut [u32],
     work: &mut [u32],
 ) -> u64
-    ensures { λ r. ⌜ LentCompleted
-        (applyCall (optionsOf flags «has_mask» «has_accumulator» accumulator) kind op scalar)
+    ensures { λ r. ⌜ LentCompleted (decoded (optionsOf flags «has_mask» «has_accumulator» accumulator) (verbs.Apply kind op scalar))
         (now (a .entry)) [] (now (mask .entry)) (now (c .entry)) [] [] (now (work .entry))
         r (now (c .exit)) (now (work .exit)) ⌝ }
 {
-    let options = options_of(flags, has_mask, has_accumulator, accumulator);
-    pack(calls::apply(options, kind, op, scalar, a, mask, c, work))
+    lent(
+        flags,
+        has_mask,
+        has_accumulator,
+        accumulator,
+        Verb::Apply(kind, op, scalar),
+        a,
+        &a[0..0],
+        mask,
+        &a[0..0],
+        &a[0..0],
+        c,
+        work,
+    )
 }
 
 // "Extract": the listed rows and columns of A.
@@ -192,12 +254,24 @@ pub extern "C" fn ostrubel_extract(
     c: &mut [u32],
     work: &mut [u32],
 ) -> u64
-    ensures { λ r. ⌜ LentCompleted (extractCall (optionsOf flags «has_mask» «has_accumulator» accumulator))
+    ensures { λ r. ⌜ LentCompleted (decoded (optionsOf flags «has_mask» «has_accumulator» accumulator) verbs.Extract)
         (now (a .entry)) [] (now (mask .entry)) (now (c .entry)) (now (is .entry)) (now (js .entry)) (now (work .entry))
         r (now (c .exit)) (now (work .exit)) ⌝ }
 {
-    let options = options_of(flags, has_mask, has_accumulator, accumulator);
-    pack(calls::extract(options, a, is, js, mask, c, work))
+    lent(
+        flags,
+        has_mask,
+        has_accumulator,
+        accumulator,
+        Verb::Extract,
+        a,
+        &a[0..0],
+        mask,
+        is,
+        js,
+        c,
+        work,
+    )
 }
 
 // An empty matrix in a slot, whatever was there.
@@ -267,14 +341,28 @@ pub extern "C" fn ostrubel_store_mxm(
     store: &mut [u32],
     work: &mut [u32],
 ) -> u64
-    ensures { λ r. ⌜ StorePerformed (now (store .entry))
-        (operation (mxm (optionsOf flags «has_mask» «has_accumulator» accumulator)
-        monoid op a b mask c (length (now (work .entry)))))
-        r (now (store .exit)) ⌝ ∗
-        ⌜ now (work .exit) ≡ replicate (length (now (work .entry))) 0 ⌝ }
+    ensures { λ r. ⌜ StorePerformed (now (store .entry)) (operate
+        (optionsOf flags «has_mask» «has_accumulator» accumulator) (verbs.Mxm monoid op) (rolesNamed a b mask c)
+        [] [] (length (now (work .entry)))) r (now (store .exit)) ⌝
+        ∗ ⌜ now (work .exit) ≡ replicate (length (now (work .entry))) 0 ⌝ }
 {
-    let options = options_of(flags, has_mask, has_accumulator, accumulator);
-    pack(store_calls::mxm(store, options, monoid, op, a, b, mask, c, work))
+    stored(
+        flags,
+        has_mask,
+        has_accumulator,
+        accumulator,
+        Verb::Mxm(monoid, op),
+        Roles {
+            first: a,
+            second: b,
+            mask: mask,
+            output: c,
+        },
+        store,
+        &[],
+        &[],
+        work,
+    )
 }
 
 // "Strip times sheet": the product with a vector u as first input.
@@ -293,14 +381,28 @@ pub extern "C" fn ostrubel_store_vxm(
     store: &mut [u32],
     work: &mut [u32],
 ) -> u64
-    ensures { λ r. ⌜ StorePerformed (now (store .entry))
-        (operation (vxm (optionsOf flags «has_mask» «has_accumulator» accumulator)
-        monoid op u a mask c (length (now (work .entry)))))
-        r (now (store .exit)) ⌝ ∗
-        ⌜ now (work .exit) ≡ replicate (length (now (work .entry))) 0 ⌝ }
+    ensures { λ r. ⌜ StorePerformed (now (store .entry)) (operate
+        (optionsOf flags «has_mask» «has_accumulator» accumulator) (verbs.Vxm monoid op) (rolesNamed u a mask c)
+        [] [] (length (now (work .entry)))) r (now (store .exit)) ⌝
+        ∗ ⌜ now (work .exit) ≡ replicate (length (now (work .entry))) 0 ⌝ }
 {
-    let options = options_of(flags, has_mask, has_accumulator, accumulator);
-    pack(store_calls::vxm(store, options, monoid, op, u, a, mask, c, work))
+    stored(
+        flags,
+        has_mask,
+        has_accumulator,
+        accumulator,
+        Verb::Vxm(monoid, op),
+        Roles {
+            first: u,
+            second: a,
+            mask: mask,
+            output: c,
+        },
+        store,
+        &[],
+        &[],
+        work,
+    )
 }
 
 // "Intersection".
@@ -318,14 +420,28 @@ pub extern "C" fn ostrubel_store_ewise_mult(
     store: &mut [u32],
     work: &mut [u32],
 ) -> u64
-    ensures { λ r. ⌜ StorePerformed (now (store .entry))
-        (operation (ewiseMult (optionsOf flags «has_mask» «has_accumulator» accumulator)
-        op a b mask c (length (now (work .entry)))))
-        r (now (store .exit)) ⌝ ∗
-        ⌜ now (work .exit) ≡ replicate (length (now (work .entry))) 0 ⌝ }
+    ensures { λ r. ⌜ StorePerformed (now (store .entry)) (operate
+        (optionsOf flags «has_mask» «has_accumulator» accumulator) (verbs.EwiseMult op) (rolesNamed a b mask c)
+        [] [] (length (now (work .entry)))) r (now (store .exit)) ⌝
+        ∗ ⌜ now (work .exit) ≡ replicate (length (now (work .entry))) 0 ⌝ }
 {
-    let options = options_of(flags, has_mask, has_accumulator, accumulator);
-    pack(store_calls::ewise_mult(store, options, op, a, b, mask, c, work))
+    stored(
+        flags,
+        has_mask,
+        has_accumulator,
+        accumulator,
+        Verb::EwiseMult(op),
+        Roles {
+            first: a,
+            second: b,
+            mask: mask,
+            output: c,
+        },
+        store,
+        &[],
+        &[],
+        work,
+    )
 }
 
 // "Union".
@@ -343,14 +459,28 @@ pub extern "C" fn ostrubel_store_ewise_add(
     store: &mut [u32],
     work: &mut [u32],
 ) -> u64
-    ensures { λ r. ⌜ StorePerformed (now (store .entry))
-        (operation (ewiseAdd (optionsOf flags «has_mask» «has_accumulator» accumulator)
-        op a b mask c (length (now (work .entry)))))
-        r (now (store .exit)) ⌝ ∗
-        ⌜ now (work .exit) ≡ replicate (length (now (work .entry))) 0 ⌝ }
+    ensures { λ r. ⌜ StorePerformed (now (store .entry)) (operate
+        (optionsOf flags «has_mask» «has_accumulator» accumulator) (verbs.EwiseAdd op) (rolesNamed a b mask c)
+        [] [] (length (now (work .entry)))) r (now (store .exit)) ⌝
+        ∗ ⌜ now (work .exit) ≡ replicate (length (now (work .entry))) 0 ⌝ }
 {
-    let options = options_of(flags, has_mask, has_accumulator, accumulator);
-    pack(store_calls::ewise_add(store, options, op, a, b, mask, c, work))
+    stored(
+        flags,
+        has_mask,
+        has_accumulator,
+        accumulator,
+        Verb::EwiseAdd(op),
+        Roles {
+            first: a,
+            second: b,
+            mask: mask,
+            output: c,
+        },
+        store,
+        &[],
+        &[],
+        work,
+    )
 }
 
 // "Apply": a kind, an operator of that kind and a scalar.
@@ -369,14 +499,28 @@ pub extern "C" fn ostrubel_store_apply(
     store: &mut [u32],
     work: &mut [u32],
 ) -> u64
-    ensures { λ r. ⌜ StorePerformed (now (store .entry))
-        (operation (apply (optionsOf flags «has_mask» «has_accumulator» accumulator)
-        kind op scalar a mask c (length (now (work .entry)))))
-        r (now (store .exit)) ⌝ ∗
-        ⌜ now (work .exit) ≡ replicate (length (now (work .entry))) 0 ⌝ }
+    ensures { λ r. ⌜ StorePerformed (now (store .entry)) (operate
+        (optionsOf flags «has_mask» «has_accumulator» accumulator) (verbs.Apply kind op scalar) (rolesNamed a a mask c)
+        [] [] (length (now (work .entry)))) r (now (store .exit)) ⌝
+        ∗ ⌜ now (work .exit) ≡ replicate (length (now (work .entry))) 0 ⌝ }
 {
-    let options = options_of(flags, has_mask, has_accumulator, accumulator);
-    pack(store_calls::apply(store, options, kind, op, scalar, a, mask, c, work))
+    stored(
+        flags,
+        has_mask,
+        has_accumulator,
+        accumulator,
+        Verb::Apply(kind, op, scalar),
+        Roles {
+            first: a,
+            second: a,
+            mask: mask,
+            output: c,
+        },
+        store,
+        &[],
+        &[],
+        work,
+    )
 }
 
 // "Extract": the listed rows and columns of A.
@@ -394,14 +538,73 @@ pub extern "C" fn ostrubel_store_extract(
     js: &[u32],
     work: &mut [u32],
 ) -> u64
-    ensures { λ r. ⌜ StorePerformed (now (store .entry))
-        (operation (extract (optionsOf flags «has_mask» «has_accumulator» accumulator)
-        a (now (is .entry)) (now (js .entry)) mask c (length (now (work .entry)))))
-        r (now (store .exit)) ⌝ ∗
-        ⌜ now (work .exit) ≡ replicate (length (now (work .entry))) 0 ⌝ }
+    ensures { λ r. ⌜ StorePerformed (now (store .entry)) (operate
+        (optionsOf flags «has_mask» «has_accumulator» accumulator) verbs.Extract (rolesNamed a a mask c)
+        (now (is .entry)) (now (js .entry)) (length (now (work .entry)))) r (now (store .exit)) ⌝
+        ∗ ⌜ now (work .exit) ≡ replicate (length (now (work .entry))) 0 ⌝ }
+{
+    stored(
+        flags,
+        has_mask,
+        has_accumulator,
+        accumulator,
+        Verb::Extract,
+        Roles {
+            first: a,
+            second: a,
+            mask: mask,
+            output: c,
+        },
+        store,
+        is,
+        js,
+        work,
+    )
+}
+
+// Any operation on lent matrices.
+fn lent<'a>(
+    flags: u32,
+    has_mask: u32,
+    has_accumulator: u32,
+    accumulator: u32,
+    verb: Verb,
+    a: &'a [u32],
+    b: &'a [u32],
+    mask: &[u32],
+    is: &[u32],
+    js: &[u32],
+    c: &mut [u32],
+    work: &mut [u32],
+) -> u64
+    ensures { λ r. ⌜ LentCompleted (decoded (optionsOf flags «has_mask» «has_accumulator» accumulator) verb)
+        (now (a .entry)) (now (b .entry)) (now (mask .entry)) (now (c .entry)) (now (is .entry)) (now (js .entry))
+        (now (work .entry)) r (now (c .exit)) (now (work .exit)) ⌝ }
 {
     let options = options_of(flags, has_mask, has_accumulator, accumulator);
-    pack(store_calls::extract(store, options, a, is, js, mask, c, work))
+    pack(calls::operate(options, verb, a, b, mask, is, js, c, work))
+}
+
+// Any operation on a store.
+fn stored(
+    flags: u32,
+    has_mask: u32,
+    has_accumulator: u32,
+    accumulator: u32,
+    verb: Verb,
+    named: Roles,
+    store: &mut [u32],
+    is: &[u32],
+    js: &[u32],
+    work: &mut [u32],
+) -> u64
+    ensures { λ r. ⌜ StorePerformed (now (store .entry)) (operate
+        (optionsOf flags «has_mask» «has_accumulator» accumulator) verb named
+        (now (is .entry)) (now (js .entry)) (length (now (work .entry)))) r (now (store .exit)) ⌝
+        ∗ ⌜ now (work .exit) ≡ replicate (length (now (work .entry))) 0 ⌝ }
+{
+    let options = options_of(flags, has_mask, has_accumulator, accumulator);
+    pack(store_calls::operate(store, options, verb, named, is, js, work))
 }
 
 // The code in the lower word, the entries in the upper.

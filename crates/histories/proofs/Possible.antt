@@ -12,12 +12,6 @@ use Rattle.cells.specs.Read.{refusedRead}
 use Rattle.slots.specs.Valid.{storeValid}
 use Rattle.model.specs.Calls.{
   OperationCall,
-  mxm,
-  vxm,
-  ewiseMult,
-  ewiseAdd,
-  apply,
-  extract,
   StoreCall,
   newEmpty,
   dropSlot,
@@ -25,6 +19,7 @@ use Rattle.model.specs.Calls.{
   clearCell,
   readCell,
   operation,
+  operate,
   Reply,
   wrote,
   found,
@@ -39,12 +34,7 @@ use Rattle.histories.specs.Lists.{
   set-cell-step,
   clear-cell-step,
   read-cell-step,
-  mxm-step,
-  vxm-step,
-  ewise-mult-step,
-  ewise-add-step,
-  apply-step,
-  extract-step,
+  operate-step,
 }
 use Rattle.histories.specs.Promise.{Possible}
 
@@ -82,50 +72,28 @@ stepped h = record { answer = _; after = _; step = h }
 abbrev zeros : ℕ → List ℕ
 zeros n = replicate n 0
 
-operates : (κ₂ : Lfts 2) (κ₄ : Lfts 4) (s : List ℕ) (x : OperationCall) → Possible s (operation x)
+operates : (κs : Lfts 4) (s : List ℕ) (x : OperationCall) → Possible s (operation x)
 unfolding replyOn reply
-operates κ₂ κ₄ s (mxm o monoid op a b m c w) =
-    rw (← (length-replicate {A = ℕ} w 0))
+operates κs s x =
+    rw (← (length-replicate {A = ℕ} (x .work) 0))
     (stepped
-    (mxm-step (zeros w) (zeros (length (zeros w))) somewhere somewhere κ₂
-    (writes s (operation (mxm o monoid op a b m c (length (zeros w)))) (wrote-either (storeValid s) _ _), refl)))
-operates κ₂ κ₄ s (vxm o monoid op u a m c w) =
-    rw (← (length-replicate {A = ℕ} w 0))
-    (stepped
-    (vxm-step (zeros w) (zeros (length (zeros w))) somewhere somewhere κ₂
-    (writes s (operation (vxm o monoid op u a m c (length (zeros w)))) (wrote-either (storeValid s) _ _), refl)))
-operates κ₂ κ₄ s (ewiseMult o op a b m c w) =
-    rw (← (length-replicate {A = ℕ} w 0))
-    (stepped
-    (ewise-mult-step (zeros w) (zeros (length (zeros w))) somewhere somewhere κ₂
-    (writes s (operation (ewiseMult o op a b m c (length (zeros w)))) (wrote-either (storeValid s) _ _), refl)))
-operates κ₂ κ₄ s (ewiseAdd o op a b m c w) =
-    rw (← (length-replicate {A = ℕ} w 0))
-    (stepped
-    (ewise-add-step (zeros w) (zeros (length (zeros w))) somewhere somewhere κ₂
-    (writes s (operation (ewiseAdd o op a b m c (length (zeros w)))) (wrote-either (storeValid s) _ _), refl)))
-operates κ₂ κ₄ s (apply o kind op scalar a m c w) =
-    rw (← (length-replicate {A = ℕ} w 0))
-    (stepped
-    (apply-step (zeros w) (zeros (length (zeros w))) somewhere somewhere κ₂
-    (writes s (operation (apply o kind op scalar a m c (length (zeros w)))) (wrote-either (storeValid s) _ _), refl)))
-operates κ₂ κ₄ s (extract o a is js m c w) =
-    rw (← (length-replicate {A = ℕ} w 0))
-    (stepped
-    (extract-step (zeros w) (zeros (length (zeros w))) somewhere somewhere somewhere somewhere κ₄
-    (writes s (operation (extract o a is js m c (length (zeros w)))) (wrote-either (storeValid s) _ _), refl)))
+    (operate-step (zeros (x .work)) (zeros (length (zeros (x .work)))) somewhere somewhere somewhere somewhere κs (
+      writes s (operate (x .options) (x .verb) (x .named) (x .is) (x .js) (length (zeros (x .work))))
+          (wrote-either (storeValid s) _ _),
+      refl,
+    )))
 
-pub possible : Lfts 1 → Lfts 2 → Lfts 4 → (s : List ℕ) (c : StoreCall) → Possible s c
+pub possible : Lfts 1 → Lfts 4 → (s : List ℕ) (c : StoreCall) → Possible s c
 unfolding replyOn reply
-possible κ₁ κ₂ κ₄ s (newEmpty k r c) =
+possible κ₁ κ₄ s (newEmpty k r c) =
     stepped (new-empty-step somewhere κ₁ (writes s (newEmpty k r c) (wrote-either (storeValid s) _ _)))
-possible κ₁ κ₂ κ₄ s (dropSlot k) =
+possible κ₁ κ₄ s (dropSlot k) =
     stepped (drop-slot-step somewhere κ₁ (writes s (dropSlot k) (wrote-either (storeValid s) _ _)))
-possible κ₁ κ₂ κ₄ s (setCell k i j v) =
+possible κ₁ κ₄ s (setCell k i j v) =
     stepped (set-cell-step somewhere κ₁ (writes s (setCell k i j v) (wrote-either (storeValid s) _ _)))
-possible κ₁ κ₂ κ₄ s (clearCell k i j) =
+possible κ₁ κ₄ s (clearCell k i j) =
     stepped (clear-cell-step somewhere κ₁ (writes s (clearCell k i j) (wrote-either (storeValid s) _ _)))
-possible κ₁ κ₂ κ₄ s (readCell k i j) =
+possible κ₁ κ₄ s (readCell k i j) =
     stepped
     (read-cell-step {answer = cellIn (replyOn s (readCell k i j))} somewhere κ₁ (found-either (storeValid s) _ _))
-possible κ₁ κ₂ κ₄ s (operation x) = operates κ₂ κ₄ s x
+possible κ₁ κ₄ s (operation x) = operates κ₄ s x

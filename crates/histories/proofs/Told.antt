@@ -18,12 +18,7 @@ use Rattle.histories.specs.Lists.{
   set-cell-step,
   clear-cell-step,
   read-cell-step,
-  mxm-step,
-  vxm-step,
-  ewise-mult-step,
-  ewise-add-step,
-  apply-step,
-  extract-step,
+  operate-step,
 }
 
 -- a read leaves the words as they are, which are the writing of their model
@@ -42,9 +37,4 @@ told (drop-slot-step p κs t) = t
 told (set-cell-step p κs t) = t
 told (clear-cell-step p κs t) = t
 told (read-cell-step p κs t) = read-performed _ _ _ _ _ t
-told (mxm-step w w′ p q κs t) = t .0
-told (vxm-step w w′ p q κs t) = t .0
-told (ewise-mult-step w w′ p q κs t) = t .0
-told (ewise-add-step w w′ p q κs t) = t .0
-told (apply-step w w′ p q κs t) = t .0
-told (extract-step w w′ p q x y κs t) = t .0
+told (operate-step w w′ p q x y κs t) = t .0

@@ -13,22 +13,18 @@ use Rattle.limits.specs.Limits.{slotCount, maxStoreWords}
 use Rattle.answers.specs.declared.Answer.{Answer}
 use Rattle.cells.specs.declared.CellAnswer.{CellAnswer}
 use Rattle.call_codes.specs.declared.Options.{Options}
+use Rattle.call_codes.specs.declared.Verb.{Verb}
 use Rattle.slots.specs.Valid.{storeValid}
+use Rattle.model.specs.declared.Roles.{Roles}
 use Rattle.model.specs.Model.{Model, fresh, modelWriting}
 use Rattle.model.specs.Calls.{
-  mxm,
-  vxm,
-  ewiseMult,
-  ewiseAdd,
-  apply,
-  extract,
   StoreCall,
   newEmpty,
   dropSlot,
   setCell,
   clearCell,
   readCell,
-  operation,
+  operate,
   Reply,
   wrote,
   found,
@@ -40,12 +36,7 @@ use Rattle.store_cells.proofs.drop_slot.Reads as drop-slot-reads
 use Rattle.store_cells.proofs.set_cell.Reads as set-cell-reads
 use Rattle.store_cells.proofs.clear_cell.Reads as clear-cell-reads
 use Rattle.store_cells.proofs.read_cell.Reads as read-cell-reads
-use Rattle.store_calls.proofs.mxm.Reads as mxm-reads
-use Rattle.store_calls.proofs.vxm.Reads as vxm-reads
-use Rattle.store_calls.proofs.ewise_mult.Reads as ewise-mult-reads
-use Rattle.store_calls.proofs.ewise_add.Reads as ewise-add-reads
-use Rattle.store_calls.proofs.apply.Reads as apply-reads
-use Rattle.store_calls.proofs.extract.Reads as extract-reads
+use Rattle.store_calls.proofs.operate.Reads as operate-reads
 
 -- a lent slice: where it is, and the words that it holds. It is at the same address when the call returns.
 pub record Address : Type 0 where
@@ -74,36 +65,11 @@ pub data Step : List ℕ → StoreCall → Reply → List ℕ → Type 0 where
   read-cell-step : {s : List ℕ} {k i j : ℕ} {answer : CellAnswer} (p : Address) (κs : Lfts 1)
       → read-cell-reads.Learnt κs (lent p s, (k, (i, (j, tt)))) answer (lent p s, (k, (i, (j, tt))))
       → Step s (readCell k i j) (found answer) s
-  mxm-step : {s s′ : List ℕ} (w w′ : List ℕ) {o : Options} {monoid op a b m c : ℕ} {answer : Answer}
-      (p q : Address) (κs : Lfts 2)
-      → mxm-reads.Learnt κs (lent p s, (o, (monoid, (op, (a, (b, (m, (c, (lent q w, tt))))))))) answer
-      (lent p s′, (o, (monoid, (op, (a, (b, (m, (c, (lent q w′, tt)))))))))
-      → Step s (operation (mxm o monoid op a b m c (length w))) (wrote answer) s′
-  vxm-step : {s s′ : List ℕ} (w w′ : List ℕ) {o : Options} {monoid op u a m c : ℕ} {answer : Answer}
-      (p q : Address) (κs : Lfts 2)
-      → vxm-reads.Learnt κs (lent p s, (o, (monoid, (op, (u, (a, (m, (c, (lent q w, tt))))))))) answer
-      (lent p s′, (o, (monoid, (op, (u, (a, (m, (c, (lent q w′, tt)))))))))
-      → Step s (operation (vxm o monoid op u a m c (length w))) (wrote answer) s′
-  ewise-mult-step : {s s′ : List ℕ} (w w′ : List ℕ) {o : Options} {op a b m c : ℕ} {answer : Answer}
-      (p q : Address) (κs : Lfts 2)
-      → ewise-mult-reads.Learnt κs (lent p s, (o, (op, (a, (b, (m, (c, (lent q w, tt)))))))) answer
-      (lent p s′, (o, (op, (a, (b, (m, (c, (lent q w′, tt))))))))
-      → Step s (operation (ewiseMult o op a b m c (length w))) (wrote answer) s′
-  ewise-add-step : {s s′ : List ℕ} (w w′ : List ℕ) {o : Options} {op a b m c : ℕ} {answer : Answer}
-      (p q : Address) (κs : Lfts 2)
-      → ewise-add-reads.Learnt κs (lent p s, (o, (op, (a, (b, (m, (c, (lent q w, tt)))))))) answer
-      (lent p s′, (o, (op, (a, (b, (m, (c, (lent q w′, tt))))))))
-      → Step s (operation (ewiseAdd o op a b m c (length w))) (wrote answer) s′
-  apply-step : {s s′ : List ℕ} (w w′ : List ℕ) {o : Options} {kind op scalar a m c : ℕ} {answer : Answer}
-      (p q : Address) (κs : Lfts 2)
-      → apply-reads.Learnt κs (lent p s, (o, (kind, (op, (scalar, (a, (m, (c, (lent q w, tt))))))))) answer
-      (lent p s′, (o, (kind, (op, (scalar, (a, (m, (c, (lent q w′, tt)))))))))
-      → Step s (operation (apply o kind op scalar a m c (length w))) (wrote answer) s′
-  extract-step : {s s′ : List ℕ} (w w′ : List ℕ) {o : Options} {a m c : ℕ} {is js : List ℕ} {answer : Answer}
-      (p q x y : Address) (κs : Lfts 4)
-      → extract-reads.Learnt κs (lent p s, (o, (a, (lent x is, (lent y js, (m, (c, (lent q w, tt)))))))) answer
-      (lent p s′, (o, (a, (lent x is, (lent y js, (m, (c, (lent q w′, tt))))))))
-      → Step s (operation (extract o a is js m c (length w))) (wrote answer) s′
+  operate-step : {s s′ : List ℕ} (w w′ : List ℕ) {o : Options} {verb : Verb} {named : Roles} {is js : List ℕ}
+      {answer : Answer} (p q x y : Address) (κs : Lfts 4)
+      → operate-reads.Learnt κs (lent p s, (o, (verb, (named, (lent x is, (lent y js, (lent q w, tt))))))) answer
+      (lent p s′, (o, (verb, (named, (lent x is, (lent y js, (lent q w′, tt)))))))
+      → Step s (operate o verb named is js (length w)) (wrote answer) s′
 
 -- a list of calls, each on the words that the one before left
 pub data Runs : List ℕ → List StoreCall → List Reply → List ℕ → Type 0 where

@@ -8,6 +8,8 @@ use contract.Lifetimes.{Lfts}
 use denote.Ref.{RefT}
 use Rattle.answers.specs.declared.Answer.{Answer}
 use Rattle.call_codes.specs.declared.Options.{Options}
+use Rattle.call_codes.specs.declared.Verb.{Verb}
+use Rattle.model.specs.declared.Roles.{Roles}
 use Rattle.model.specs.Calls.{StoreCall, Reply, wrote, found}
 use Rattle.model.specs.Stores.{Performed}
 use Rattle.store_cells.proofs.new_empty.Reads as new-empty-reads
@@ -20,18 +22,8 @@ use Rattle.store_cells.proofs.clear_cell.Reads as clear-cell-reads
 use Rattle.store_cells.proofs.clear_cell.Statement as clear-cell-statement
 use Rattle.store_cells.proofs.read_cell.Reads as read-cell-reads
 use Rattle.store_cells.proofs.read_cell.Statement as read-cell-statement
-use Rattle.store_calls.proofs.mxm.Reads as mxm-reads
-use Rattle.store_calls.proofs.mxm.Statement as mxm-statement
-use Rattle.store_calls.proofs.vxm.Reads as vxm-reads
-use Rattle.store_calls.proofs.vxm.Statement as vxm-statement
-use Rattle.store_calls.proofs.ewise_mult.Reads as ewise-mult-reads
-use Rattle.store_calls.proofs.ewise_mult.Statement as ewise-mult-statement
-use Rattle.store_calls.proofs.ewise_add.Reads as ewise-add-reads
-use Rattle.store_calls.proofs.ewise_add.Statement as ewise-add-statement
-use Rattle.store_calls.proofs.apply.Reads as apply-reads
-use Rattle.store_calls.proofs.apply.Statement as apply-statement
-use Rattle.store_calls.proofs.extract.Reads as extract-reads
-use Rattle.store_calls.proofs.extract.Statement as extract-statement
+use Rattle.store_calls.proofs.operate.Reads as operate-reads
+use Rattle.store_calls.proofs.operate.Statement as operate-statement
 use Rattle.histories.specs.Lists.{Address, lent, Step, Claim, Resumed}
 
 -- each function's code meets its contract
@@ -41,12 +33,7 @@ pub record Met : Type 3 where
   pub set-cell : {M : Type 1} → set-cell-statement.statement M
   pub clear-cell : {M : Type 1} → clear-cell-statement.statement M
   pub read-cell : {M : Type 1} → read-cell-statement.statement M
-  pub mxm : {M : Type 1} → mxm-statement.statement M
-  pub vxm : {M : Type 1} → vxm-statement.statement M
-  pub ewise-mult : {M : Type 1} → ewise-mult-statement.statement M
-  pub ewise-add : {M : Type 1} → ewise-add-statement.statement M
-  pub apply : {M : Type 1} → apply-statement.statement M
-  pub extract : {M : Type 1} → extract-statement.statement M
+  pub operate : {M : Type 1} → operate-statement.statement M
 
 -- a caller has nothing to show
 pub record Free : Type 3 where
@@ -55,46 +42,16 @@ pub record Free : Type 3 where
   pub set-cell : (κs : Lfts 1) (s : RefT (List ℕ)) (k i j v : ℕ) → set-cell-reads.Asked κs (s, (k, (i, (j, (v, tt)))))
   pub clear-cell : (κs : Lfts 1) (s : RefT (List ℕ)) (k i j : ℕ) → clear-cell-reads.Asked κs (s, (k, (i, (j, tt))))
   pub read-cell : (κs : Lfts 1) (s : RefT (List ℕ)) (k i j : ℕ) → read-cell-reads.Asked κs (s, (k, (i, (j, tt))))
-  pub mxm : (κs : Lfts 2) (s w : RefT (List ℕ)) (o : Options) (monoid op a b m c : ℕ)
-      → mxm-reads.Asked κs (s, (o, (monoid, (op, (a, (b, (m, (c, (w, tt)))))))))
-  pub vxm : (κs : Lfts 2) (s w : RefT (List ℕ)) (o : Options) (monoid op u a m c : ℕ)
-      → vxm-reads.Asked κs (s, (o, (monoid, (op, (u, (a, (m, (c, (w, tt)))))))))
-  pub ewise-mult : (κs : Lfts 2) (s w : RefT (List ℕ)) (o : Options) (op a b m c : ℕ)
-      → ewise-mult-reads.Asked κs (s, (o, (op, (a, (b, (m, (c, (w, tt))))))))
-  pub ewise-add : (κs : Lfts 2) (s w : RefT (List ℕ)) (o : Options) (op a b m c : ℕ)
-      → ewise-add-reads.Asked κs (s, (o, (op, (a, (b, (m, (c, (w, tt))))))))
-  pub apply : (κs : Lfts 2) (s w : RefT (List ℕ)) (o : Options) (kind op scalar a m c : ℕ)
-      → apply-reads.Asked κs (s, (o, (kind, (op, (scalar, (a, (m, (c, (w, tt)))))))))
-  pub extract : (κs : Lfts 4) (s w is js : RefT (List ℕ)) (o : Options) (a m c : ℕ)
-      → extract-reads.Asked κs (s, (o, (a, (is, (js, (m, (c, (w, tt))))))))
+  pub operate : (κs : Lfts 4) (s w is js : RefT (List ℕ)) (o : Options) (verb : Verb) (named : Roles)
+      → operate-reads.Asked κs (s, (o, (verb, (named, (is, (js, (w, tt)))))))
 
 -- "The work buffer is all zeros over its whole length after every call that has one"
-pub record Cleared : Type 0 where
-  pub mxm : (κs : Lfts 2) (p q : Address) (s s′ w w′ : List ℕ) (o : Options) (monoid op a b m c : ℕ) (answer : Answer)
-      → mxm-reads.Learnt κs (lent p s, (o, (monoid, (op, (a, (b, (m, (c, (lent q w, tt))))))))) answer
-      (lent p s′, (o, (monoid, (op, (a, (b, (m, (c, (lent q w′, tt)))))))))
-      → w′ ≡ replicate (length w) 0
-  pub vxm : (κs : Lfts 2) (p q : Address) (s s′ w w′ : List ℕ) (o : Options) (monoid op u a m c : ℕ) (answer : Answer)
-      → vxm-reads.Learnt κs (lent p s, (o, (monoid, (op, (u, (a, (m, (c, (lent q w, tt))))))))) answer
-      (lent p s′, (o, (monoid, (op, (u, (a, (m, (c, (lent q w′, tt)))))))))
-      → w′ ≡ replicate (length w) 0
-  pub ewise-mult : (κs : Lfts 2) (p q : Address) (s s′ w w′ : List ℕ) (o : Options) (op a b m c : ℕ) (answer : Answer)
-      → ewise-mult-reads.Learnt κs (lent p s, (o, (op, (a, (b, (m, (c, (lent q w, tt)))))))) answer
-      (lent p s′, (o, (op, (a, (b, (m, (c, (lent q w′, tt))))))))
-      → w′ ≡ replicate (length w) 0
-  pub ewise-add : (κs : Lfts 2) (p q : Address) (s s′ w w′ : List ℕ) (o : Options) (op a b m c : ℕ) (answer : Answer)
-      → ewise-add-reads.Learnt κs (lent p s, (o, (op, (a, (b, (m, (c, (lent q w, tt)))))))) answer
-      (lent p s′, (o, (op, (a, (b, (m, (c, (lent q w′, tt))))))))
-      → w′ ≡ replicate (length w) 0
-  pub apply : (κs : Lfts 2) (p q : Address) (s s′ w w′ : List ℕ) (o : Options) (kind op scalar a m c : ℕ) (answer : Answer)
-      → apply-reads.Learnt κs (lent p s, (o, (kind, (op, (scalar, (a, (m, (c, (lent q w, tt))))))))) answer
-      (lent p s′, (o, (kind, (op, (scalar, (a, (m, (c, (lent q w′, tt)))))))))
-      → w′ ≡ replicate (length w) 0
-  pub extract : (κs : Lfts 4) (p q x y : Address) (s s′ w w′ : List ℕ) (o : Options) (a m c : ℕ) (is js : List ℕ)
-      (answer : Answer)
-      → extract-reads.Learnt κs (lent p s, (o, (a, (lent x is, (lent y js, (m, (c, (lent q w, tt)))))))) answer
-      (lent p s′, (o, (a, (lent x is, (lent y js, (m, (c, (lent q w′, tt))))))))
-      → w′ ≡ replicate (length w) 0
+abbrev pub Cleared : Type 0
+Cleared = (κs : Lfts 4) (p q x y : Address) (s s′ w w′ : List ℕ) (o : Options) (verb : Verb) (named : Roles)
+    (is js : List ℕ) (answer : Answer)
+    → operate-reads.Learnt κs (lent p s, (o, (verb, (named, (lent x is, (lent y js, (lent q w, tt))))))) answer
+    (lent p s′, (o, (verb, (named, (lent x is, (lent y js, (lent q w′, tt)))))))
+    → w′ ≡ replicate (length w) 0
 
 -- a step of a call on the words s
 pub record Possible (s : List ℕ) (c : StoreCall) : Type 0 where
@@ -117,7 +74,7 @@ pub record Promise : Type 3 where
   pub kept : {s s′ : List ℕ} {c : StoreCall} {r : Reply} → Step s c r s′ → (codeOf r ≡ 0 → ⊥) → s′ ≡ s
   pub cleared : Cleared
   -- there is a step of every call on any words
-  pub possible : Lfts 1 → Lfts 2 → Lfts 4 → (s : List ℕ) (c : StoreCall) → Possible s c
+  pub possible : Lfts 1 → Lfts 4 → (s : List ℕ) (c : StoreCall) → Possible s c
   -- every list of calls, on a fresh store and on any
   pub every : Claim
   pub resumed : Resumed

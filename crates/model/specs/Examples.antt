@@ -16,17 +16,17 @@ use Rattle.operators.specs.Operators.{binaryWord}
 use Rattle.operator_codes.specs.Codes.{binaryNumbered}
 use Rattle.twos_complement.specs.TwosComplement.{signed, word}
 use Rattle.call_codes.specs.declared.Options.{Options}
+use Rattle.call_codes.specs.declared.Verb.the-variants.{EwiseAdd}
 use Rattle.slots.specs.Sections.{writing}
 use Rattle.model.specs.Model.{fresh, modelWriting}
 use Rattle.model.specs.Calls.{
-  ewiseAdd,
   StoreCall,
   newEmpty,
   dropSlot,
   setCell,
   clearCell,
   readCell,
-  operation,
+  operate,
   Reply,
   wrote,
   found,
@@ -45,6 +45,10 @@ use Rattle.model.specs.Histories.{replies, modelAfter}
 abbrev plain : Options
 plain = record { flags = 0; «has_mask» = false; «has_accumulator» = false; accumulator = 9 }
 
+-- the union of slot 0 and another into slot 0, with no mask
+abbrev united : ℕ → ℕ → ℕ → StoreCall
+united op b work = operate plain (EwiseAdd op) (record { first = 0; second = b; mask = 9; output = 0 }) [] [] work
+
 -- slot 0 gets a 1 by 2 matrix with 7 at column 1; slot 1 has no room; slot 0 is added to itself under PLUS
 abbrev calls : List StoreCall
 calls =
@@ -57,10 +61,10 @@ calls =
     ∷ clearCell 0 0 0
     ∷ newEmpty 1 1 1
     ∷ dropSlot 8
-    ∷ operation (ewiseAdd plain 3 0 0 9 0 13844)
-    ∷ operation (ewiseAdd plain 3 0 0 9 0 13845)
-    ∷ operation (ewiseAdd plain 8 0 1 9 0 13845)
-    ∷ operation (ewiseAdd plain 3 0 1 9 0 13845)
+    ∷ united 3 0 13844
+    ∷ united 3 0 13845
+    ∷ united 8 1 13845
+    ∷ united 3 1 13845
     ∷ []
 
 abbrev answers : List Reply

@@ -1,6 +1,7 @@
 // What the programs that run the six operations share: options, and each call with its report: the answer, whether the
 // workspace is clear, and the words of C's buffer. The workspace is filled before each call.
 use call_codes::Options;
+use call_codes::Verb;
 
 // No mask and no accumulator: the number 9 is not looked at.
 pub fn plain(flags: u32) -> Options {
@@ -30,7 +31,8 @@ pub fn accumulated(flags: u32, has_mask: bool, accumulator: u32) -> Options {
     }
 }
 
-// The six calls, each with its report. The words of a mask that the call does not have are not looked at.
+// The six operations, each with its report. The words of a second input, a mask and lists that a call does not have are
+// not looked at.
 pub fn mxm<'a>(
     label: &[u8],
     options: Options,
@@ -42,7 +44,7 @@ pub fn mxm<'a>(
     work: &mut [u32],
 ) {
     refill(work);
-    let r = calls::mxm(options, monoid, op, a, b, a, c, work);
+    let r = calls::operate(options, Verb::Mxm(monoid, op), a, b, a, a, a, c, work);
     report(label, r.code, r.entries, &c[..], &work[..]);
 }
 
@@ -57,7 +59,7 @@ pub fn vxm<'a>(
     work: &mut [u32],
 ) {
     refill(work);
-    let r = calls::vxm(options, monoid, op, u, a, u, c, work);
+    let r = calls::operate(options, Verb::Vxm(monoid, op), u, a, u, u, u, c, work);
     report(label, r.code, r.entries, &c[..], &work[..]);
 }
 
@@ -71,7 +73,7 @@ pub fn ewise_mult<'a>(
     work: &mut [u32],
 ) {
     refill(work);
-    let r = calls::ewise_mult(options, op, a, b, a, c, work);
+    let r = calls::operate(options, Verb::EwiseMult(op), a, b, a, a, a, c, work);
     report(label, r.code, r.entries, &c[..], &work[..]);
 }
 
@@ -86,7 +88,7 @@ pub fn ewise_add<'a>(
     work: &mut [u32],
 ) {
     refill(work);
-    let r = calls::ewise_add(options, op, a, b, mask, c, work);
+    let r = calls::operate(options, Verb::EwiseAdd(op), a, b, mask, a, a, c, work);
     report(label, r.code, r.entries, &c[..], &work[..]);
 }
 
@@ -102,7 +104,17 @@ pub fn apply(
     work: &mut [u32],
 ) {
     refill(work);
-    let r = calls::apply(options, kind, op, scalar, a, mask, c, work);
+    let r = calls::operate(
+        options,
+        Verb::Apply(kind, op, scalar),
+        a,
+        a,
+        mask,
+        a,
+        a,
+        c,
+        work,
+    );
     report(label, r.code, r.entries, &c[..], &work[..]);
 }
 
@@ -116,7 +128,7 @@ pub fn extract(
     work: &mut [u32],
 ) {
     refill(work);
-    let r = calls::extract(options, a, is, js, a, c, work);
+    let r = calls::operate(options, Verb::Extract, a, a, a, is, js, c, work);
     report(label, r.code, r.entries, &c[..], &work[..]);
 }
 

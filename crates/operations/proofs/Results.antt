@@ -3,7 +3,7 @@ use Prim.Native.Nat.{ℕ, zero, suc, _<_}
 use native.Mathlib.Omega.{arith}
 use mathlib.Core.Path.{_≡_, refl, sym, ap, _∙_}
 use mathlib.Core.List.{List}
-use mathlib.Core.Bool.{Bool, true}
+use mathlib.Core.Bool.{Bool, true, false, false≢true}
 use lib.ListN.{length}
 use borrow.Author.Tests.{eqb-true}
 use Rattle.words.specs.Words.{at}
@@ -16,7 +16,7 @@ use Rattle.operations.specs.declared.Operation.{Operation}
 use Rattle.operations.specs.declared.Operation.the-variants.{Mxm, EwiseMult, EwiseAdd, Apply, Extract}
 use Rattle.operations.specs.CellOperations.{dot, intersect, unite, applyCell}
 use Rattle.operations.specs.GridOperations.{resultGrid, storedRow, storedCol}
-use Rattle.operations.specs.Calls.{hasSecond, inputsAgree, listsValid}
+use Rattle.operations.specs.Calls.{hasSecond, hasLists, inputsAgree, listsValid}
 use Rattle.operations.proofs.Lists.{list-facts}
 
 -- a dot product depends only on the terms that it adds up
@@ -31,6 +31,30 @@ dot-same monoid op (suc n) f f′ g g′ p q =
       q n (omega arith),
     )
 
+-- T does not depend on a second input or on lists that the operation does not have
+module _ (flag : Bool) (a b b′ : Grid) (is is′ js js′ : List ℕ) where
+  pub second-unread : (op : Operation) → hasSecond op ≡ false → resultGrid op flag a b is js ≡ resultGrid op flag a b′ is js
+  second-unread (Mxm monoid op) h = absurd (false≢true (sym h))
+  second-unread (EwiseMult op) h = absurd (false≢true (sym h))
+  second-unread (EwiseAdd op) h = absurd (false≢true (sym h))
+  second-unread (Apply op) h = refl
+  second-unread Extract h = refl
+
+  pub lists-unread : (op : Operation) → hasLists op ≡ false → resultGrid op flag a b is js ≡ resultGrid op flag a b is′ js′
+  lists-unread (Mxm monoid op) h = refl
+  lists-unread (EwiseMult op) h = refl
+  lists-unread (EwiseAdd op) h = refl
+  lists-unread (Apply op) h = refl
+  lists-unread Extract h = absurd (false≢true (sym h))
+
+-- and neither does the test of the inputs
+pub agree-unread : (a b b′ : Grid) (op : Operation) → hasSecond op ≡ false → inputsAgree op a b ≡ inputsAgree op a b′
+agree-unread a b b′ (Mxm monoid op) h = absurd (false≢true (sym h))
+agree-unread a b b′ (EwiseMult op) h = absurd (false≢true (sym h))
+agree-unread a b b′ (EwiseAdd op) h = absurd (false≢true (sym h))
+agree-unread a b b′ (Apply op) h = refl
+agree-unread a b b′ Extract h = refl
+
 module _ (a a′ b b′ : Grid) (is js : List ℕ) (s : Same a a′) where
   -- the tests of shapes and lists
   pub agree-same : (op : Operation) → (hasSecond op ≡ true → Same b b′) → inputsAgree op a b ≡ inputsAgree op a′ b′
@@ -41,11 +65,7 @@ module _ (a a′ b b′ : Grid) (is js : List ℕ) (s : Same a a′) where
   agree-same Extract t = refl
 
   pub lists-same : (op : Operation) → listsValid op a is js ≡ listsValid op a′ is js
-  lists-same (Mxm monoid op) = refl
-  lists-same (EwiseMult op) = refl
-  lists-same (EwiseAdd op) = refl
-  lists-same (Apply op) = refl
-  lists-same Extract = rw (s .rows, s .cols)
+  lists-same op = rw (s .rows, s .cols)
 
   -- the shape of T
   pub rows-same : (op : Operation) (flag flag′ : Bool)

@@ -46,6 +46,14 @@ hasSecond (EwiseAdd op) = true
 hasSecond (Apply op) = false
 hasSecond Extract = false
 
+-- whether it has index lists
+abbrev pub hasLists : Operation → Bool
+hasLists (Mxm monoid op) = false
+hasLists (EwiseMult op) = false
+hasLists (EwiseAdd op) = false
+hasLists (Apply op) = false
+hasLists Extract = true
+
 -- T, of the inputs a and b as stored
 abbrev pub callResult : Call → Grid → Grid → List ℕ → List ℕ → Grid
 callResult call a b is js =
@@ -60,13 +68,9 @@ callFinal call a b m c is js = finalGrid (writeBackOf call) m c (callResult call
 unfoldable pub listValid : ℕ → List ℕ → Bool
 listValid n l = leb 1 (length l) and leb (length l) maxList and all (length l) (λ k. ltb (at l k) n)
 
--- not 7: "past A (as transposed)". Only extract has lists.
+-- not 7: "past A (as transposed)", where there are lists
 abbrev pub listsValid : Operation → Grid → List ℕ → List ℕ → Bool
-listsValid (Mxm monoid op) a is js = true
-listsValid (EwiseMult op) a is js = true
-listsValid (EwiseAdd op) a is js = true
-listsValid (Apply op) a is js = true
-listsValid Extract a is js = listValid (a .rows) is and listValid (a .cols) js
+listsValid op a is js = cond (hasLists op) (listValid (a .rows) is and listValid (a .cols) js) true
 
 unfoldable pub indexesValid : Call → Grid → List ℕ → List ℕ → Bool
 indexesValid call a is js = listsValid (call .operation) (oriented (transposeFirst call) a) is js

@@ -1,6 +1,7 @@
 // Runs the six operations where they are refused: each refusal in its order, and both sides of the limits. C's spare words
 // are 9.
 use call_codes::Options;
+use call_codes::Verb;
 use operation_runs::accumulated;
 use operation_runs::ewise_add;
 use operation_runs::extract;
@@ -168,7 +169,7 @@ fn square(
     work: &mut [u32],
 ) {
     refill(work);
-    let r = calls::mxm(options, 3, 5, v, v, mask, c, work);
+    let r = calls::operate(options, Verb::Mxm(3, 5), v, v, mask, v, v, c, work);
     report(label, r.code, r.entries, &c[..], &work[..]);
 }
 

@@ -23,7 +23,7 @@ ghost use Rattle.words.specs.Tests.{_and_};
 ghost use Rattle.matrix.specs.Layout.{gridOf};
 ghost use Rattle.matrix.specs.Valid.{valid};
 ghost use Rattle.matrix.specs.Facts.{Matrix};
-ghost use Rattle.operations.specs.Calls.{flagSet, transposeFirst, transposeSecond, hasSecond};
+ghost use Rattle.operations.specs.Calls.{flagSet, transposeFirst, transposeSecond, hasSecond, hasLists};
 ghost use Rattle.operations.specs.Calls.{listValid, indexesValid, shapesAgree};
 ghost use Rattle.operations.specs.GridOperations.{oriented};
 ghost use Rattle.requests.specs.Cases.{numbersRefusal, agreementRefusal};
@@ -136,6 +136,19 @@ pub fn has_second(operation: Operation) -> bool
     }
 }
 
+// Whether it has index lists.
+fn has_lists(operation: Operation) -> bool
+    ensures { λ r. ⌜ r ≡ hasLists operation ⌝ }
+{
+    match operation {
+        Operation::Mxm(_, _) => false,
+        Operation::EwiseMult(_) => false,
+        Operation::EwiseAdd(_) => false,
+        Operation::Apply(_) => false,
+        Operation::Extract => true,
+    }
+}
+
 // Whether a flag is set.
 pub fn flag_set(bit: u32, flags: u32) -> bool
     requires { ⌜ 0 < bit ⌝ }
@@ -209,15 +222,11 @@ fn indexes_valid(call: Call, a: &[u32], is: &[u32], js: &[u32]) -> bool
     requires { ⌜ Matrix (now a) ⌝ }
     ensures { λ r. ⌜ r ≡ indexesValid call (gridOf (now (a .entry))) (now (is .entry)) (now (js .entry)) ⌝ }
 {
-    let first = shape_of(a, transpose_first(call));
     let operation = call.operation;
-    match operation {
-        Operation::Mxm(_, _) => true,
-        Operation::EwiseMult(_) => true,
-        Operation::EwiseAdd(_) => true,
-        Operation::Apply(_) => true,
-        Operation::Extract => lists_valid(first, is, js),
+    if !has_lists(operation) {
+        return true;
     }
+    lists_valid(shape_of(a, transpose_first(call)), is, js)
 }
 
 fn lists_valid(first: Shape, is: &[u32], js: &[u32]) -> bool

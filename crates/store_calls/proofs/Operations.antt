@@ -18,6 +18,7 @@ use Rattle.encoding.specs.Encode.{gridSize}
 use Rattle.encoding.proofs.Canonical.{encode-length}
 use Rattle.operations.specs.declared.Call.{Call}
 use Rattle.operations.specs.Calls.{callFinal}
+use Rattle.call_codes.specs.Decoding.{decoded}
 use Rattle.requests.specs.Cases.{firstApplying}
 use Rattle.slots.specs.Sections.{writing, endFrom, slotsOf, slotAt, countAt}
 use Rattle.slots.specs.Valid.{storeValid}
@@ -162,19 +163,16 @@ module _ (s : List ℕ) (o : Operate) where
                 let p = operated-refused insufficientSpace (sym r) (eqb-false insufficientSpace 0 refl) in
                 record { answer-is = q ∙ p .answer-is; words-are = v ∙ p .words-are }
 
--- ---- the six calls
+-- ---- the call
 
--- a call is run with its numbers and its roles decoded
-pub performed-run : (s : List ℕ) (x : OperationCall) (call : Call) (roles : Roles) (a b m c : ℕ) (answer : Answer)
-    (s′ : List ℕ) → call ≡ operateOf x .call → roles ≡ rolesOf call a b m c
-    → rolesOf (operateOf x .call) a b m c ≡ operateOf x .roles
-    → Operated s (asked call roles (operateOf x .is) (operateOf x .js) (operateOf x .work)) answer s′
-    → Performed s (operation x) (wrote answer) s′
-performed-run s x call roles a b m c answer s′ e f g o =
-    performed-operation s x answer s′ (subst (λ (y : Operate). Operated s y answer s′) decoded o)
+-- it is attempted with its numbers and its roles decoded
+pub performed-run : (s : List ℕ) (x : OperationCall) (call : Call) (roles : Roles) (answer : Answer) (s′ : List ℕ)
+    → call ≡ decoded (x .options) (x .verb) → roles ≡ rolesOf call (x .named)
+    → Operated s (asked call roles (x .is) (x .js) (x .work)) answer s′ → Performed s (operation x) (wrote answer) s′
+performed-run s x call roles answer s′ e f o =
+    performed-operation s x answer s′ (subst (λ (y : Operate). Operated s y answer s′) both o)
   where
-    decoded : asked call roles (operateOf x .is) (operateOf x .js) (operateOf x .work) ≡ operateOf x
-    decoded =
-        ap (λ (r : Roles). asked call r (operateOf x .is) (operateOf x .js) (operateOf x .work))
-        (f ∙ ap (λ (y : Call). rolesOf y a b m c) e ∙ g)
-        ∙ ap (λ (y : Call). asked y (operateOf x .roles) (operateOf x .is) (operateOf x .js) (operateOf x .work)) e
+    both : asked call roles (x .is) (x .js) (x .work) ≡ operateOf x
+    both =
+        ap (λ (r : Roles). asked call r (x .is) (x .js) (x .work)) f
+        ∙ ap (λ (y : Call). asked y (rolesOf y (x .named)) (x .is) (x .js) (x .work)) e

@@ -26,10 +26,10 @@ use Rattle.store_calls.specs.Attempts.{InStore, Holding}
 -- ---- the roles
 
 -- the four slots, with the two that a call may lack chosen
-pub roles-made : (call : Call) (a b m c second mask : ℕ) (there : Bool) → there ≡ hasSecond (call .operation)
-    → second ≡ cond there b a → mask ≡ cond (call .«has_mask») m c
-    → record { first = a; second = second; mask = mask; output = c } ≡ rolesOf call a b m c
-roles-made call a b m c second mask there t e f = rw (e, t, f)
+pub roles-made : (call : Call) (named : Roles) (second mask : ℕ) (there : Bool) → there ≡ hasSecond (call .operation)
+    → second ≡ cond there (named .second) (named .first) → mask ≡ cond (call .«has_mask») (named .mask) (named .output)
+    → record { first = named .first; second = second; mask = mask; output = named .output } ≡ rolesOf call named
+roles-made call named second mask there t e f = rw (e, t, f)
 
 -- ---- one test of all four roles, with one number
 

@@ -1,4 +1,4 @@
-// The six operations on the slots of a store. Any words and any numbers may be lent; one slot may have several roles,
+// The operations on the slots of a store. Any words and any numbers may be lent; one slot may have several roles,
 // and all are read before C is written. A refused call changes no word of the store, and every call leaves the
 // workspace all zeros.
 use answers::Answer;
@@ -7,6 +7,7 @@ use answers::INSUFFICIENT_SPACE;
 use answers::INVALID_STORE;
 use answers::TOO_MANY_ENTRIES;
 use call_codes::Options;
+use call_codes::Verb;
 use compute::Outcome;
 use limits::SLOTS;
 use matrix::layout::FIXED_WORDS;
@@ -18,145 +19,45 @@ ghost use lib.ListN.{length, replicate};
 ghost use Rattle.answers.specs.Refusals as answers;
 ghost use Rattle.requests.specs.Cases.{firstApplying, firstOf};
 ghost use Rattle.slots.specs.Facts.{Store};
-ghost use Rattle.model.specs.Calls.{rolesOf, mxm, vxm, ewiseMult, ewiseAdd, apply, extract, operation, wrote};
+ghost use Rattle.model.specs.Calls.{rolesOf, operate, wrote};
 ghost use Rattle.model.specs.Steps.{noSlot, noGrid, roleCases};
 ghost use Rattle.model.specs.Stores.{modelOf, Performed};
 ghost use Rattle.model.specs.Placing.{Operated};
 ghost use Rattle.store_calls.specs.Attempts.{asked, rolesRefusal, InStore, Holding, Evaluation, ToCommit, Committed};
 
-// "Product".
-pub fn mxm(
+// Any operation, by its verb and the slots that it names: its numbers and its roles are decoded, it is attempted, and the
+// workspace is cleared. Where it has no second input, no mask or no index lists, any slot and any words may stand for
+// them: they are not looked at.
+pub fn operate(
     store: &mut [u32],
     options: Options,
-    monoid: u32,
-    op: u32,
-    a: usize,
-    b: usize,
-    mask: usize,
-    c: usize,
-    work: &mut [u32],
-) -> Answer
-    ensures { λ r. ⌜ Performed (now (store .entry)) (operation
-        (mxm options monoid op a b mask c (length (now (work .entry))))) (wrote r) (now (store .exit)) ⌝
-        ∗ ⌜ now (work .exit) ≡ replicate (length (now (work .entry))) 0 ⌝ }
-{
-    let call = call_codes::mxm_call(options, monoid, op);
-    let roles = roles_of(call, a, b, mask, c);
-    run(store, call, roles, &[], &[], work)
-}
-
-// "Strip times sheet".
-pub fn vxm(
-    store: &mut [u32],
-    options: Options,
-    monoid: u32,
-    op: u32,
-    u: usize,
-    a: usize,
-    mask: usize,
-    c: usize,
-    work: &mut [u32],
-) -> Answer
-    ensures { λ r. ⌜ Performed (now (store .entry)) (operation
-        (vxm options monoid op u a mask c (length (now (work .entry))))) (wrote r) (now (store .exit)) ⌝
-        ∗ ⌜ now (work .exit) ≡ replicate (length (now (work .entry))) 0 ⌝ }
-{
-    let call = call_codes::vxm_call(options, monoid, op);
-    let roles = roles_of(call, u, a, mask, c);
-    run(store, call, roles, &[], &[], work)
-}
-
-// "Intersection".
-pub fn ewise_mult(
-    store: &mut [u32],
-    options: Options,
-    op: u32,
-    a: usize,
-    b: usize,
-    mask: usize,
-    c: usize,
-    work: &mut [u32],
-) -> Answer
-    ensures { λ r. ⌜ Performed (now (store .entry)) (operation
-        (ewiseMult options op a b mask c (length (now (work .entry))))) (wrote r) (now (store .exit)) ⌝
-        ∗ ⌜ now (work .exit) ≡ replicate (length (now (work .entry))) 0 ⌝ }
-{
-    let call = call_codes::ewise_mult_call(options, op);
-    let roles = roles_of(call, a, b, mask, c);
-    run(store, call, roles, &[], &[], work)
-}
-
-// "Union".
-pub fn ewise_add(
-    store: &mut [u32],
-    options: Options,
-    op: u32,
-    a: usize,
-    b: usize,
-    mask: usize,
-    c: usize,
-    work: &mut [u32],
-) -> Answer
-    ensures { λ r. ⌜ Performed (now (store .entry)) (operation
-        (ewiseAdd options op a b mask c (length (now (work .entry))))) (wrote r) (now (store .exit)) ⌝
-        ∗ ⌜ now (work .exit) ≡ replicate (length (now (work .entry))) 0 ⌝ }
-{
-    let call = call_codes::ewise_add_call(options, op);
-    let roles = roles_of(call, a, b, mask, c);
-    run(store, call, roles, &[], &[], work)
-}
-
-// "Apply": a kind, an operator of that kind and a scalar.
-pub fn apply(
-    store: &mut [u32],
-    options: Options,
-    kind: u32,
-    op: u32,
-    scalar: u32,
-    a: usize,
-    mask: usize,
-    c: usize,
-    work: &mut [u32],
-) -> Answer
-    ensures { λ r. ⌜ Performed (now (store .entry)) (operation
-        (apply options kind op scalar a mask c (length (now (work .entry))))) (wrote r) (now (store .exit)) ⌝
-        ∗ ⌜ now (work .exit) ≡ replicate (length (now (work .entry))) 0 ⌝ }
-{
-    let call = call_codes::apply_call(options, kind, op, scalar);
-    let roles = roles_of(call, a, a, mask, c);
-    run(store, call, roles, &[], &[], work)
-}
-
-// "Extract": the listed rows and columns of A.
-pub fn extract(
-    store: &mut [u32],
-    options: Options,
-    a: usize,
+    verb: Verb,
+    named: Roles,
     is: &[u32],
     js: &[u32],
-    mask: usize,
-    c: usize,
     work: &mut [u32],
 ) -> Answer
-    ensures { λ r. ⌜ Performed (now (store .entry)) (operation
-        (extract options a (now (is .entry)) (now (js .entry)) mask c (length (now (work .entry))))) (wrote r)
-        (now (store .exit)) ⌝ ∗ ⌜ now (work .exit) ≡ replicate (length (now (work .entry))) 0 ⌝ }
+    ensures { λ r. ⌜ Performed (now (store .entry)) (operate options verb named (now (is .entry)) (now (js .entry))
+        (length (now (work .entry)))) (wrote r) (now (store .exit)) ⌝
+        ∗ ⌜ now (work .exit) ≡ replicate (length (now (work .entry))) 0 ⌝ }
 {
-    let call = call_codes::extract_call(options);
-    let roles = roles_of(call, a, a, mask, c);
-    run(store, call, roles, is, js, work)
+    let call = call_codes::decode(options, verb);
+    let roles = roles_of(call, named);
+    let answer = attempt(store, call, roles, is, js, work);
+    words::clear(work);
+    answer
 }
 
-fn roles_of(call: Call, a: usize, b: usize, mask: usize, c: usize) -> Roles
-    ensures { λ r. ⌜ r ≡ rolesOf call a b mask c ⌝ }
+fn roles_of(call: Call, named: Roles) -> Roles
+    ensures { λ r. ⌜ r ≡ rolesOf call named ⌝ }
 {
     let operation = call.operation;
     let has_mask = call.has_mask;
     Roles {
-        first: a,
-        second: choose(requests::has_second(operation), b, a),
-        mask: choose(has_mask, mask, c),
-        output: c,
+        first: named.first,
+        second: choose(requests::has_second(operation), named.second, named.first),
+        mask: choose(has_mask, named.mask, named.output),
+        output: named.output,
     }
 }
 
@@ -164,24 +65,6 @@ fn choose(there: bool, x: usize, y: usize) -> usize
     ensures { λ r. ⌜ r ≡ cond there x y ⌝ }
 {
     if there { x } else { y }
-}
-
-// Any of the six: the attempt, and then the workspace is cleared.
-fn run(
-    store: &mut [u32],
-    call: Call,
-    roles: Roles,
-    is: &[u32],
-    js: &[u32],
-    work: &mut [u32],
-) -> Answer
-    ensures { λ r. ⌜ Operated (now (store .entry)) (asked call roles (now (is .entry)) (now (js .entry))
-        (length (now (work .entry)))) r (now (store .exit)) ⌝
-        ∗ ⌜ now (work .exit) ≡ replicate (length (now (work .entry))) 0 ⌝ }
-{
-    let answer = attempt(store, call, roles, is, js, work);
-    words::clear(work);
-    answer
 }
 
 // The refusals in their order, and the final C put into its slot where none applies.

@@ -1,6 +1,8 @@
 // Runs the calls on a store: lists of calls that churn its room, one slot in every role, the limits on both sides, damage.
 // For each call: the answer, and after an operation whether the workspace is clear; then the words of a small store.
 use call_codes::Options;
+use call_codes::Verb;
+use model::Roles;
 
 // What an operation needs.
 type Workspace = [u32; 13845];
@@ -34,6 +36,16 @@ fn masked(flags: u32) -> Options {
         has_mask: true,
         has_accumulator: false,
         accumulator: 9,
+    }
+}
+
+// The slots for A, B, the mask and C. A slot for what a call does not have is not looked at.
+fn roles(a: usize, b: usize, mask: usize, c: usize) -> Roles {
+    Roles {
+        first: a,
+        second: b,
+        mask: mask,
+        output: c,
     }
 }
 
@@ -83,7 +95,8 @@ fn product(
     c: usize,
     work: &mut [u32],
 ) {
-    let r = store_calls::mxm(store, options, 3, 5, a, b, mask, c, work);
+    let named = roles(a, b, mask, c);
+    let r = store_calls::operate(store, options, Verb::Mxm(3, 5), named, &[], &[], work);
     done(b"mxm", r.code, r.entries, &store[..], &work[..]);
 }
 
@@ -96,7 +109,8 @@ fn union(
     c: usize,
     work: &mut [u32],
 ) {
-    let r = store_calls::ewise_add(store, options, op, a, b, 9, c, work);
+    let named = roles(a, b, 9, c);
+    let r = store_calls::operate(store, options, Verb::EwiseAdd(op), named, &[], &[], work);
     done(b"ewise_add", r.code, r.entries, &store[..], &work[..]);
 }
 
@@ -109,7 +123,8 @@ fn intersection(
     c: usize,
     work: &mut [u32],
 ) {
-    let r = store_calls::ewise_mult(store, options, op, a, b, 9, c, work);
+    let named = roles(a, b, 9, c);
+    let r = store_calls::operate(store, options, Verb::EwiseMult(op), named, &[], &[], work);
     done(b"ewise_mult", r.code, r.entries, &store[..], &work[..]);
 }
 
@@ -121,7 +136,8 @@ fn vector_product(
     c: usize,
     work: &mut [u32],
 ) {
-    let r = store_calls::vxm(store, options, 3, 5, u, a, 9, c, work);
+    let named = roles(u, a, 9, c);
+    let r = store_calls::operate(store, options, Verb::Vxm(3, 5), named, &[], &[], work);
     done(b"vxm", r.code, r.entries, &store[..], &work[..]);
 }
 
@@ -135,12 +151,22 @@ fn apply(
     c: usize,
     work: &mut [u32],
 ) {
-    let r = store_calls::apply(store, options, kind, op, scalar, a, 9, c, work);
+    let named = roles(a, 9, 9, c);
+    let r = store_calls::operate(
+        store,
+        options,
+        Verb::Apply(kind, op, scalar),
+        named,
+        &[],
+        &[],
+        work,
+    );
     done(b"apply", r.code, r.entries, &store[..], &work[..]);
 }
 
 fn extract(store: &mut [u32], a: usize, is: &[u32], js: &[u32], c: usize, work: &mut [u32]) {
-    let r = store_calls::extract(store, plain(0), a, is, js, 9, c, work);
+    let named = roles(a, 9, 9, c);
+    let r = store_calls::operate(store, plain(0), Verb::Extract, named, is, js, work);
     done(b"extract", r.code, r.entries, &store[..], &work[..]);
 }
 

@@ -18,7 +18,7 @@ returns c =
     let q = c .before in
     let p = q .before in
     let x = p .before .args in
-    roles-made (x .call) (x .a) (x .b) (x .mask) (x .c) _ _ _
+    roles-made (x .call) (x .named) _ _ _
     (p .has-second .ensures) (q .choose .ensures) (c .choose2 .ensures)
 
 pub roles-of-spec : {M : Type 1} → statement M
