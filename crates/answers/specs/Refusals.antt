@@ -54,6 +54,10 @@ invalidStore = 12
 abbrev pub emptySlot : ℕ
 emptySlot = 13
 
+-- every code is below it
+abbrev pub codeLimit : ℕ
+codeLimit = 256
+
 -- "An accepted writing or checking call returns 0 and the N of its sheet"
 abbrev pub accepted : ℕ → Answer
 accepted n = record { code = 0; entries = n }

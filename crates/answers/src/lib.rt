@@ -1,5 +1,5 @@
 // What a call answers: the refusal codes of document 01's table ("When the clerk turns a call away"), each under
-// one name, and the answer of a call that writes or checks.
+// one name, and the answers of a call that writes or checks and of a read.
 
 pub const FLAGS_OUT_OF_RANGE: u32 = 1;
 
@@ -31,4 +31,11 @@ pub const EMPTY_SLOT: u32 = 13;
 pub struct Answer {
     pub code: u32,
     pub entries: u32,
+}
+
+// 0 and whether the cell is present, with its value; or a refusal code. The value is 0 where there is none.
+pub struct CellAnswer {
+    pub code: u32,
+    pub present: bool,
+    pub value: u32,
 }

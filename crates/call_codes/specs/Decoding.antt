@@ -2,7 +2,7 @@
 -- that stands for an unknown number is never used.
 use Prim.Native.Nat.{ℕ}
 use mathlib.Core.Bool.{Bool, true, false, cond}
-use Rattle.words.specs.Tests.{_and_}
+use Rattle.conditions.specs.Tests.{_and_}
 use Rattle.operators.specs.declared.ApplyOp.{ApplyOp}
 use Rattle.operators.specs.declared.ApplyOp.the-variants.{Unary}
 use Rattle.operators.specs.declared.BinaryOp.{BinaryOp}

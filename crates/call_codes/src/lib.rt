@@ -11,7 +11,7 @@ use operators::BinaryOp;
 use operators::Monoid;
 use operators::UnaryOp;
 ghost use mathlib.Core.Path.{_≡_};
-ghost use Rattle.words.specs.Tests.{_and_};
+ghost use Rattle.conditions.specs.Tests.{_and_};
 ghost use Rattle.operator_codes.specs.Codes.{binaryNumbered, monoidNumbered, applyNumbered};
 ghost use Rattle.call_codes.specs.Decoding.{binaryKnown, binaryOf, monoidKnown, monoidOf, applyKnown, applyOf};
 ghost use Rattle.call_codes.specs.Decoding.{accumulatorKnown, accumulatorOf, callOf, productCall};

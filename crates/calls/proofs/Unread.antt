@@ -8,12 +8,14 @@ use lib.ListN.{length}
 use lib.Dec.{eqb}
 use Rattle.answers.specs.declared.Answer.{Answer}
 use Rattle.answers.specs.Refusals.{unlessRefused}
-use Rattle.words.specs.Tests.{_and_}
+use Rattle.conditions.specs.Tests.{_and_}
 use Rattle.grid.specs.Grid.{Grid}
 use Rattle.matrix.specs.Layout.{gridOf}
 use Rattle.encoding.specs.Encode.{writtenOver}
 use Rattle.operations.specs.declared.Call.{Call}
-use Rattle.operations.specs.GridOperations.{oriented}
+use Rattle.operations.specs.declared.Needs.{Needs}
+use Rattle.operations.specs.declared.Shapes.{Shapes}
+use Rattle.operations.specs.GridOperations.{oriented, needsOf, shapeOf}
 use Rattle.operations.specs.WriteBacks.{finalGrid}
 use Rattle.operations.specs.Calls.{
   transposeFirst,
@@ -21,15 +23,14 @@ use Rattle.operations.specs.Calls.{
   writeBackOf,
   hasSecond,
   hasLists,
-  callResult,
+  callShapes,
   callFinal,
   indexesValid,
-  inputsAgree,
-  sameShape,
+  shapesMeet,
   shapesAgree,
 }
-use Rattle.operations.proofs.Results.{second-unread, lists-unread, agree-unread}
-use Rattle.requests.specs.Cases.{firstOf, answerFor}
+use Rattle.operations.proofs.Results.{shapes-unread, second-unread, needs-unread, lists-unread}
+use Rattle.refusals.specs.Cases.{firstOf, answerFor}
 use Rattle.requests.specs.Refusal.{inputRefusal, outputRefusal, lentRefusal, lentFinal}
 use Rattle.calls.specs.Completion.{Completed}
 
@@ -54,14 +55,6 @@ made-same call a b b′ m c is is′ js js′ w e f answer c′ w′ h = record 
 }
 
 module _ (call : Call) (a b b′ m c : Grid) (is is′ js js′ : List ℕ) where
-  -- the test of shapes, by the test of the inputs and T
-  abbrev shapesBy : Bool → Grid → Bool
-  shapesBy inputs t =
-      cond (call .«vector_first») (eqb (a .rows) 1) true
-      and inputs
-      and sameShape t c
-      and cond (call .«has_mask») (sameShape m c) true
-
   abbrev A : Grid
   A = oriented (transposeFirst call) a
 
@@ -72,34 +65,40 @@ module _ (call : Call) (a b b′ m c : Grid) (is is′ js js′ : List ℕ) wher
   B′ = oriented (transposeSecond call) b′
 
   module _ (h : hasLists (call .operation) ≡ false) where
-    indexes-lists : indexesValid call a is js ≡ indexesValid call a is′ js′
+    indexes-lists : indexesValid call a b c is js ≡ indexesValid call a b c is′ js′
     unfolding indexesValid
     indexes-lists = rw h
 
-    result-lists : callResult call a b is js ≡ callResult call a b is′ js′
-    result-lists = lists-unread (transposeFirst call) A B B is is′ js js′ (call .operation) h
-
     shapes-lists : shapesAgree call a b m c is js ≡ shapesAgree call a b m c is′ js′
     unfolding shapesAgree
-    shapes-lists = ap (shapesBy (inputsAgree (call .operation) A B)) result-lists
+    shapes-lists =
+        ap (λ (n : Needs). shapesMeet call (callShapes call a b c is js) n (shapeOf m))
+        (needs-unread A B c is is′ js js′ (call .operation) h)
 
     final-lists : callFinal call a b m c is js ≡ callFinal call a b m c is′ js′
     unfolding callFinal
-    final-lists = ap (finalGrid (writeBackOf call) m c) result-lists
+    final-lists =
+        ap (finalGrid (writeBackOf call) m c)
+        (lists-unread A B c is is′ js js′ (call .operation) h (transposeFirst call))
 
   module _ (h : hasSecond (call .operation) ≡ false) where
-    result-second : callResult call a b is js ≡ callResult call a b′ is js
-    result-second = second-unread (transposeFirst call) A B B′ is is js js (call .operation) h
+    shapes-are : callShapes call a b c is js ≡ callShapes call a b′ c is js
+    shapes-are = shapes-unread A B B′ c is js (call .operation) h
+
+    indexes-second : indexesValid call a b c is js ≡ indexesValid call a b′ c is js
+    unfolding indexesValid
+    indexes-second = rw shapes-are
 
     shapes-second : shapesAgree call a b m c is js ≡ shapesAgree call a b′ m c is js
     unfolding shapesAgree
     shapes-second =
-        ap (λ (x : Bool). shapesBy x (callResult call a b is js)) (agree-unread A B B′ (call .operation) h)
-        ∙ ap (shapesBy (inputsAgree (call .operation) A B′)) result-second
+        ap (λ (s : Shapes). shapesMeet call s (needsOf (call .operation) s) (shapeOf m)) shapes-are
 
     final-second : callFinal call a b m c is js ≡ callFinal call a b′ m c is js
     unfolding callFinal
-    final-second = ap (finalGrid (writeBackOf call) m c) result-second
+    final-second =
+        ap (finalGrid (writeBackOf call) m c)
+        (second-unread A B B′ c is js (call .operation) h (transposeFirst call))
 
 module _ (call : Call) (a b b′ m c is is′ js js′ w : List ℕ) (answer : Answer) (c′ w′ : List ℕ) where
   pub completed-lists : hasLists (call .operation) ≡ false → Completed call a b m c is js w answer c′ w′
@@ -124,5 +123,6 @@ module _ (call : Call) (a b b′ m c is is′ js js′ w : List ℕ) (answer : A
     where
       refusal : inputRefusal call a b m c is js (length w) ≡ inputRefusal call a b′ m c is js (length w)
       refusal =
+          let i = indexes-second call (gridOf a) (gridOf b) (gridOf b′) (gridOf m) (gridOf c) is is js js h in
           let s = shapes-second call (gridOf a) (gridOf b) (gridOf b′) (gridOf m) (gridOf c) is is js js h in
-          rw (h, s)
+          rw (h, i, s)

@@ -11,7 +11,7 @@ use Rattle.words.specs.Words.{overwrite}
 use Rattle.matrix.specs.Layout.{rows, sizeOf}
 use Rattle.encoding.specs.Encode.{writtenOver}
 use Rattle.operations.specs.declared.Call.{Call}
-use Rattle.requests.specs.Cases.{answerFor}
+use Rattle.refusals.specs.Cases.{answerFor}
 use Rattle.requests.specs.Refusal.{lentRefusal, lentFinal}
 
 -- the answer: 0 and the entries of the final C, or the lowest refusal and 0

@@ -5,10 +5,11 @@ use mathlib.Core.List.{List}
 use mathlib.Core.Bool.{true, false}
 use borrow.Author.Tests.{lt-ltb, le-ltb}
 use Rattle.answers.specs.Refusals.{invalidFirst, indexOutOfBounds}
-use Rattle.words.specs.Tests.{_and_}
+use Rattle.conditions.specs.Tests.{_and_}
 use Rattle.matrix.specs.Layout.{rows, cols, cellOf}
 use Rattle.matrix.specs.Valid.{valid}
-use Rattle.cells.specs.Read.{foundAnswer, refusedRead, readAnswer}
+use Rattle.answers.specs.Reads.{foundAnswer, refusedRead}
+use Rattle.cells.specs.Read.{readAnswer}
 
 module _ (s : List ℕ) (i j : ℕ) where
   pub read-invalid : valid s ≡ false → refusedRead invalidFirst ≡ readAnswer s i j

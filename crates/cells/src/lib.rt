@@ -1,4 +1,5 @@
 // Reading one cell of a matrix (document 01: "read one cell").
+use answers::CellAnswer;
 use answers::INDEX_OUT_OF_BOUNDS;
 use answers::INVALID_FIRST;
 use grid::Cell;
@@ -8,14 +9,8 @@ ghost use mathlib.Core.Path.{_≡_};
 ghost use Rattle.matrix.specs.Layout.{cellOf, rowColumns};
 ghost use Rattle.matrix.specs.Facts.{Header, RowSpan};
 ghost use Rattle.rows.specs.Row.{Rises};
-ghost use Rattle.cells.specs.Read.{readAnswer, foundAnswer, refusedRead};
-
-// 0 and whether the cell is present, with its value; or a refusal code. The value is 0 where there is none.
-pub struct CellAnswer {
-    pub code: u32,
-    pub present: bool,
-    pub value: u32,
-}
+ghost use Rattle.answers.specs.Reads.{foundAnswer, refusedRead};
+ghost use Rattle.cells.specs.Read.{readAnswer};
 
 // The cell at row i and column j. INVALID_FIRST where the words are no valid matrix, INDEX_OUT_OF_BOUNDS where the row
 // or the column is past it.

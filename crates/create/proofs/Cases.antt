@@ -7,13 +7,13 @@ use lib.ListN.{length, drop}
 use borrow.Author.Tests.{le-leb, lt-leb}
 use Rattle.limits.specs.Limits.{maxRows, maxCols}
 use Rattle.answers.specs.Refusals.{accepted, refused, invalidShape, insufficientSpace}
-use Rattle.words.specs.Tests.{_and_}
+use Rattle.conditions.specs.Tests.{_and_}
 use Rattle.grid.specs.Grid.{emptyGrid}
 use Rattle.matrix.specs.Layout.{sizeOf}
 use Rattle.matrix.specs.Valid.{inRange}
 use Rattle.encoding.specs.Encode.{encode}
 use Rattle.create.specs.Create.{createAnswer, createWords, Created}
-use Rattle.create.proofs.Empty.{empty-count}
+use Rattle.grid.proofs.Counts.{empty-count}
 
 module _ (w : List ℕ) (r c : ℕ) where
   pub rows-refused : inRange maxRows r ≡ false → Created w r c (refused invalidShape) w

@@ -1,51 +1,46 @@
--- The words of the empty grid: its shape, its count of starts, and zeros.
-use Prim.Native.Nat.{ℕ, zero, suc, _+_}
+-- The words of the empty grid: zeros, and its header.
+use Prim.Native.Nat.{ℕ, _+_, _<_}
 use native.Mathlib.Omega.{arith}
-use mathlib.Core.Path.{_≡_, refl, ap, _∙_}
-use mathlib.Core.List.{List, [], _∷_, _++_}
-use lib.ListN.{length, set, replicate, length-replicate, replicate-append-replicate}
-use Rattle.grid.specs.declared.Cell.{Cell}
-use Rattle.grid.specs.declared.Cell.the-variants.{Absent}
-use Rattle.grid.specs.Grid.{Grid, emptyGrid}
-use Rattle.grid.specs.Entries.{column, value, one, gather, flatten, entryCount}
-use Rattle.encoding.specs.Encode.{entriesBefore, tabulate, gridStarts, encode}
+use mathlib.Core.Path.{_≡_, sym, ap, _∙_}
+use mathlib.Core.List.{List, [], _++_}
+use lib.ListN.{length, replicate, length-replicate, getD-replicate, length-append, List·getD-append}
+use lib.Seq.{drop-at}
+use Rattle.words.specs.Words.{at, part}
+use Rattle.words.proofs.Parts.{part-empty}
+use Rattle.grid.specs.Grid.{emptyGrid}
+use Rattle.grid.specs.Entries.{column, value}
+use Rattle.grid.proofs.Counts.{flatten-absent, empty-count}
+use Rattle.matrix.specs.Layout.{startsAt, columnsAt, countAgainAt, valuesAt, sizeOf}
+use Rattle.matrix.specs.HeaderWords.{headed}
+use Rattle.encoding.specs.Encode.{encode}
+use Rattle.encoding.proofs.Assembled.{InPlace, headed-written}
 
--- nothing is gathered where every cell is absent
-gather-absent : (emit : ℕ → ℕ → ℕ) (n : ℕ) → gather emit n (λ j. Absent) ≡ []
-unfolding gather one
-gather-absent emit zero = refl
-gather-absent emit (suc n) = rw (gather-absent emit n)
+-- a part that ends where it begins
+part-none : (a e : ℕ) (s : List ℕ) → e ≡ a → part a e s ≡ []
+part-none a e s q = rw q (part-empty a s)
 
-flatten-absent : (emit : ℕ → ℕ → ℕ) (n r : ℕ) → flatten emit n (λ i j. Absent) r ≡ []
-unfolding flatten
-flatten-absent emit n zero = refl
-flatten-absent emit n (suc r) = rw (flatten-absent emit n r, gather-absent emit n)
+-- as many zeros as the empty grid has words, and then the words t
+module _ (r c : ℕ) (t : List ℕ) where
+  abbrev zeros : List ℕ
+  zeros = replicate (sizeOf r 0) 0 ++ t
 
--- a table of zeros
-tabulate-zeros : (f : ℕ → ℕ) → ((k : ℕ) → f k ≡ 0) → (n : ℕ) → tabulate f n ≡ replicate n 0
-unfolding tabulate
-tabulate-zeros f z zero = refl
-tabulate-zeros f z (suc n) =
-    let q : n + 1 ≡ suc n = omega arith in
-    rw (tabulate-zeros f z n, z n) (replicate-append-replicate n 1 0 ∙ ap (λ (k : ℕ). replicate k 0) q)
+  zeros-at : (k : ℕ) → k < sizeOf r 0 → at zeros k ≡ 0
+  zeros-at k l =
+      List·getD-append (replicate (sizeOf r 0) 0) t 0 k (simp length-replicate l) ∙ getD-replicate (sizeOf r 0) k 0 0 l
 
--- the empty grid has no entries
-pub empty-count : (r c : ℕ) → entryCount (emptyGrid r c) ≡ 0
-empty-count r c = ap length (flatten-absent column c r)
+  -- the sections of the empty grid stand there: its row starts are 0, and it has no columns and no values
+  zeros-in-place : InPlace (emptyGrid r c) zeros
+  zeros-in-place =
+      let n = empty-count r c in
+      record {
+        fits = rw n (simp (length-append, length-replicate) (omega arith));
+        starts = λ i l. zeros-at (i + startsAt) (omega arith) ∙ sym (ap length (flatten-absent column c i));
+        columns = rw (n, flatten-absent column c r) (part-none (columnsAt r) (countAgainAt r 0) zeros (omega arith));
+        values = rw (n, flatten-absent value c r) (part-none (valuesAt r 0) (sizeOf r 0) zeros (omega arith));
+      }
 
-starts-zeros : (r c : ℕ) → gridStarts (emptyGrid r c) ≡ replicate (r + 1) 0
-starts-zeros r c = tabulate-zeros (entriesBefore (emptyGrid r c)) (λ k. ap length (flatten-absent column c k)) (r + 1)
-
-pub empty-words : (r c : ℕ) → encode (emptyGrid r c) ≡ 2 ∷ r ∷ c ∷ (r + 1) ∷ replicate (r + 3) 0
-unfolding encode
-empty-words r c =
-    let q : r + 1 + 2 ≡ r + 3 = omega arith in
-    rw (starts-zeros r c, flatten-absent column c r, flatten-absent value c r, length-replicate)
-    (ap (λ (l : List ℕ). 2 ∷ r ∷ c ∷ (r + 1) ∷ l) (replicate-append-replicate (r + 1) 2 0 ∙ ap (λ (k : ℕ). replicate k 0) q))
-
--- four stores at the front of zeros
-pub empty-stored : (r c : ℕ) (t : List ℕ)
-    → set (set (set (set (replicate (r + 7) 0 ++ t) 0 2) 1 r) 2 c) 3 (r + 1) ≡ encode (emptyGrid r c) ++ t
-empty-stored r c t =
-    let q : r + 7 ≡ suc (suc (suc (suc (r + 3)))) = omega arith in
-    rw (q, empty-words r c)
+  -- with its header they are its writing
+  pub empty-written : headed r c 0 zeros ≡ encode (emptyGrid r c) ++ t
+  empty-written =
+      let behind = drop-at (replicate (sizeOf r 0) 0) t (sizeOf r 0) (length-replicate (sizeOf r 0) 0) in
+      rw (empty-count r c) at (headed-written zeros-in-place) ∙ ap (λ (l : List ℕ). encode (emptyGrid r c) ++ l) behind

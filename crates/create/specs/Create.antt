@@ -9,7 +9,7 @@ use lib.Dec.{leb}
 use Rattle.limits.specs.Limits.{maxRows, maxCols}
 use Rattle.answers.specs.declared.Answer.{Answer}
 use Rattle.answers.specs.Refusals.{accepted, refused, unlessRefused, invalidShape, insufficientSpace}
-use Rattle.words.specs.Tests.{_and_}
+use Rattle.conditions.specs.Tests.{_and_}
 use Rattle.grid.specs.Grid.{emptyGrid}
 use Rattle.grid.specs.Entries.{entryCount}
 use Rattle.matrix.specs.Valid.{inRange}

@@ -5,11 +5,7 @@ use answers::INSUFFICIENT_SPACE;
 use answers::INVALID_SHAPE;
 use limits::MAX_COLS;
 use limits::MAX_ROWS;
-use matrix::layout::COLS_AT;
 use matrix::layout::FIXED_WORDS;
-use matrix::layout::ROWS_AT;
-use matrix::layout::SHAPE_COUNT_AT;
-use matrix::layout::START_COUNT_AT;
 ghost use mathlib.Core.Path.{_≡_};
 ghost use Prim.Native.Nat.{_+_, _≤_};
 ghost use lib.ListN.{length, drop};
@@ -57,8 +53,5 @@ pub fn write_empty(buffer: &mut [u32], rows: u32, cols: u32)
 {
     let size = rows as usize + FIXED_WORDS;
     words::clear(&mut buffer[..size]);
-    buffer[SHAPE_COUNT_AT] = 2;
-    buffer[ROWS_AT] = rows;
-    buffer[COLS_AT] = cols;
-    buffer[START_COUNT_AT] = rows + 1;
+    matrix::write_header(buffer, rows, cols, 0);
 }

@@ -14,10 +14,6 @@ use Rattle.grid.specs.Entries.{column, value, one, gather, flatten, entryCount}
 use Rattle.grid.specs.Update.{withCell}
 use Rattle.grid.proofs.Gather.{gather-length, flatten-length, flatten-same}
 use Rattle.matrix.specs.Layout.{
-  shapeCountAt,
-  rowsAt,
-  colsAt,
-  startCountAt,
   startsAt,
   countAt,
   columnsAt,
@@ -32,6 +28,7 @@ use Rattle.matrix.specs.Layout.{
   cellOf,
   gridOf,
 }
+use Rattle.matrix.proofs.HeaderWords.{header-own, header-recounted}
 use Rattle.encoding.specs.Encode.{entriesBefore, gridSize, encode, writtenOver}
 use Rattle.encoding.proofs.Decoded.{valid-columns, valid-values}
 use Rattle.encoding.proofs.Canonical.{valid-before, valid-entries}
@@ -218,21 +215,17 @@ module _ {s : List ℕ} {i j p : ℕ} {c : Cell} (m : InMatrix s i j) (e : cellO
     -- every word of the writing of the changed grid
     changed-assembled : Assembled g′ t
     changed-assembled =
-        let z = m .matrix .header in
         let n = count-is in
         record {
-          fits = omega (arith, h .fits, h .same);
-          two = h .head shapeCountAt (omega arith) ∙ z .two;
-          row-count = h .head rowsAt (omega arith);
-          col-count = h .head colsAt (omega arith);
-          start-count = h .head startCountAt (omega arith) ∙ z .starts;
-          starts = starts;
-          count = h .count ∙ sym n;
-          columns = located-part new-columns (countAgainAt (rows s) (entryCount g′)) (omega arith);
-          again = rw n (h .again);
-          values =
-              located-part (rw n new-values) (gridSize g′)
-              (omega (arith, flatten-length value column (cols s) (g′ .cell) (rows s)));
+          sections = record {
+            fits = omega (arith, h .fits, h .same);
+            starts = starts;
+            columns = located-part new-columns (countAgainAt (rows s) (entryCount g′)) (omega arith);
+            values =
+                located-part (rw n new-values) (gridSize g′)
+                (omega (arith, flatten-length value column (cols s) (g′ .cell) (rows s)));
+          };
+          header = rw n (header-recounted (header-own (m .matrix .header)) (h .head) (h .count) (h .again));
         }
 
     -- the spare words are as they were

@@ -1,19 +1,14 @@
--- Where an entry stands among all entries of a grid, "row by row and from left to right". Grids know no row starts and
--- no search: the entries before it are counted.
-use Prim.Native.Nat.{ℕ, _+_}
+-- An entry of a grid with its position, or the position where it would be put.
+use Prim.Native.Nat.{ℕ}
 use mathlib.Core.Path.{_≡_, refl}
-use lib.ListN.{length}
 use Rattle.grid.specs.declared.Cell.{Cell}
 use Rattle.grid.specs.declared.Cell.the-variants.{Absent, Present}
 use Rattle.grid.specs.Grid.{Grid, emptyGrid}
-use Rattle.grid.specs.Entries.{column, one, gather, flatten}
+use Rattle.grid.specs.Entries.{one, gather, flatten}
+pub use Rattle.grid.specs.Position.{entryPosition}
 use Rattle.grid.specs.Update.{withCell}
 use Rattle.edits.specs.declared.EntryAt.{EntryAt}
 use Rattle.edits.specs.declared.EntryAt.the-variants as entry
-
--- how many entries come before row i and column j: those of the rows before, and those of row i in columns before j
-abbrev pub entryPosition : Grid → ℕ → ℕ → ℕ
-entryPosition g i j = length (flatten column (g .cols) (g .cell) i) + length (gather column j (g .cell i))
 
 -- present or absent with a position
 abbrev pub entryOf : Cell → ℕ → EntryAt

@@ -1,11 +1,12 @@
--- Words that were put together section by section are the writing of a grid. Cited by what writes a matrix.
-use Prim.Native.Nat.{ℕ, _+_, _≤_}
+-- Words that were put together section by section are the writing of a grid. Cited by what writes a matrix: it needs no
+-- word of the header, which is written by `matrix::write_header`.
+use Prim.Native.Nat.{ℕ, _≤_}
 use native.Mathlib.Omega.{arith}
 use native.Mathlib.Nat.{add-comm}
 use mathlib.Core.Path.{_≡_, refl, sym, ap, _∙_}
 use mathlib.Core.List.{List, [], _∷_, _++_}
 use lib.ListN.{length, drop}
-use Rattle.words.specs.Words.{at, part}
+use Rattle.words.specs.Words.{part}
 use Rattle.words.proofs.Parts.{length-part, part-cons, part-at}
 use Rattle.grid.specs.Grid.{Grid}
 use Rattle.grid.specs.Entries.{gridColumns, gridValues, entryCount}
@@ -18,29 +19,35 @@ use Rattle.matrix.specs.Layout.{
   columnsAt,
   countAgainAt,
   valuesAt,
-  shapeCount,
   rows,
   cols,
-  startCount,
   start,
 }
-use Rattle.encoding.specs.Encode.{entriesBefore, counted, gridStarts, encode, gridSize, writtenOver}
+use Rattle.matrix.specs.HeaderWords.{headed, HeaderOf}
+use Rattle.matrix.proofs.HeaderWords.{
+  headed-length,
+  headed-start,
+  headed-columns,
+  headed-values,
+  headed-spare,
+  headed-words,
+}
+use Rattle.encoding.specs.Encode.{entriesBefore, gridStarts, encode, gridSize, writtenOver}
 use Rattle.encoding.proofs.Sections.{section-made}
 use Rattle.encoding.proofs.GridSections.{starts-are}
 use Rattle.encoding.proofs.Encoded.{encode-sections}
 
--- every word of the writing of g stands in s
+-- the row starts, the column numbers and the values of g stand in their places
+pub record InPlace (g : Grid) (w : List ℕ) : Type 0 where
+  pub fits : gridSize g ≤ length w
+  pub starts : (i : ℕ) → i ≤ g .rows → start w i ≡ entriesBefore g i
+  pub columns : part (columnsAt (g .rows)) (countAgainAt (g .rows) (entryCount g)) w ≡ gridColumns g
+  pub values : part (valuesAt (g .rows) (entryCount g)) (gridSize g) w ≡ gridValues g
+
+-- and the header too: every word of the writing of g stands in s
 pub record Assembled (g : Grid) (s : List ℕ) : Type 0 where
-  pub fits : gridSize g ≤ length s
-  pub two : shapeCount s ≡ 2
-  pub row-count : rows s ≡ g .rows
-  pub col-count : cols s ≡ g .cols
-  pub start-count : startCount s ≡ g .rows + 1
-  pub starts : (i : ℕ) → i ≤ g .rows → start s i ≡ entriesBefore g i
-  pub count : at s (countAt (g .rows)) ≡ entryCount g
-  pub columns : part (columnsAt (g .rows)) (countAgainAt (g .rows) (entryCount g)) s ≡ gridColumns g
-  pub again : at s (countAgainAt (g .rows) (entryCount g)) ≡ entryCount g
-  pub values : part (valuesAt (g .rows) (entryCount g)) (gridSize g) s ≡ gridValues g
+  pub sections : InPlace g s
+  pub header : HeaderOf (g .rows) (g .cols) (entryCount g) s
 
 module _ (g : Grid) (s : List ℕ) (h : Assembled g s) where
   -- the shape's section
@@ -48,7 +55,7 @@ module _ (g : Grid) (s : List ℕ) (h : Assembled g s) where
   shape =
       part-cons rowsAt startCountAt s (omega arith) (omega arith)
       ∙ ap (λ (l : List ℕ). rows s ∷ l) (part-cons colsAt startCountAt s (omega arith) (omega arith))
-      ∙ rw (h .row-count, h .col-count)
+      ∙ rw (h .header .row-count, h .header .col-count)
 
   -- the row starts' section
   starts-section : part startsAt (countAt (g .rows)) s ≡ gridStarts g
@@ -56,7 +63,7 @@ module _ (g : Grid) (s : List ℕ) (h : Assembled g s) where
       let e = countAt (g .rows) in
       starts-are g (part startsAt e s)
       (length-part startsAt e s (omega arith) ∙ omega arith)
-      (λ i l. part-at startsAt e i s (omega arith) ∙ rw (add-comm startsAt i) (h .starts i l))
+      (λ i l. part-at startsAt e i s (omega arith) ∙ rw (add-comm startsAt i) (h .sections .starts i l))
 
   -- the sections one after the other are the writing
   pub assembled : s ≡ writtenOver g s
@@ -70,7 +77,34 @@ module _ (g : Grid) (s : List ℕ) (h : Assembled g s) where
         section-made (countAgainAt r n) (valuesAt r n) (gridSize g) s (omega arith) (omega arith) (omega arith) .here,
         shape,
         starts-section,
-        h .columns,
-        h .values,
+        h .sections .columns,
+        h .sections .values,
       )
       (sym (encode-sections g (drop (gridSize g) s)))
+
+-- sections in their places, with the header written
+module _ {g : Grid} {w : List ℕ} (h : InPlace g w) where
+  -- the words of them all
+  abbrev whole : List ℕ
+  whole = headed (g .rows) (g .cols) (entryCount g) w
+
+  pub headed-assembled : Assembled g whole
+  headed-assembled =
+      let r = g .rows in
+      let c = g .cols in
+      let n = entryCount g in
+      record {
+        sections = record {
+          fits = omega (arith, headed-length r c n w);
+          starts = λ i l. headed-start r c n w i l ∙ h .starts i l;
+          columns = headed-columns r c n w (h .fits) ∙ h .columns;
+          values = headed-values r c n w (h .fits) ∙ h .values;
+        };
+        header = headed-words r c n w (h .fits);
+      }
+
+  -- are the writing of the grid, and then what lay behind them
+  pub headed-written : whole ≡ writtenOver g w
+  headed-written =
+      assembled g whole headed-assembled
+      ∙ ap (λ (l : List ℕ). encode g ++ l) (headed-spare (g .rows) (g .cols) (entryCount g) w (h .fits))

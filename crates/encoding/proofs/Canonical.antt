@@ -1,8 +1,7 @@
--- The one writing of a grid, both ways. Demand 2: "Every valid sheet has one writing in words, and reading it gives the
--- sheet back." An operation that leaves a valid matrix with the right cells finishes by `canonical`.
+-- The one writing of a grid, both ways: what OneWriting puts together, and what is cited of it elsewhere.
 use Prim.Native.Nat.{ℕ}
 use native.Mathlib.Omega.{arith}
-use mathlib.Core.Path.{_≡_, sym, ap, _∙_}
+use mathlib.Core.Path.{_≡_, ap, _∙_}
 use mathlib.Core.List.{List, _++_}
 use mathlib.Core.Bool.{true}
 use lib.ListN.{length, drop}
@@ -12,17 +11,12 @@ use Rattle.rows.proofs.Lookup.{lookup-gather}
 use Rattle.matrix.specs.Layout.{rows, sizeOf, size, cellOf, gridOf}
 use Rattle.matrix.specs.Valid.{valid}
 use Rattle.matrix.proofs.Facts.{matrix-facts, matrix-made}
+use Rattle.grid.proofs.Same.{same-entries}
 use Rattle.encoding.specs.Encode.{encode, Within}
-use Rattle.encoding.proofs.GridSections.{same-entries, same-starts}
-use Rattle.encoding.proofs.Encoded.{
-  encode-sections,
-  encode-rows,
-  encode-cols,
-  encode-row-columns,
-  encode-row-values,
-  encode-matrix,
-}
-use Rattle.encoding.proofs.Decoded.{valid-starts, valid-columns, valid-values, valid-sections}
+use Rattle.encoding.proofs.GridSections.{same-starts}
+use Rattle.encoding.proofs.Encoded.{encode-rows, encode-cols, encode-row-columns, encode-row-values, encode-matrix}
+use Rattle.encoding.proofs.Assembled.{assembled}
+use Rattle.encoding.proofs.Decoded.{valid-assembled}
 -- the size of a writing and its N; the rows and the N of valid words
 pub use Rattle.encoding.proofs.Encoded.{encode-length, encode-entries}
 pub use Rattle.encoding.proofs.Decoded.{valid-row, valid-row-columns, valid-row-values, valid-before, valid-entries}
@@ -55,18 +49,8 @@ valid-within s v =
 
 -- "every valid sheet has one writing": valid words are the writing of their grid, and then the spare words
 pub valid-encoded : (s : List ℕ) → valid s ≡ true → s ≡ encode (gridOf s) ++ drop (size s) s
-valid-encoded s v =
-    valid-sections s v
-    ∙ sym (encode-sections (gridOf s) (drop (size s) s) ∙ rw (valid-starts s v, valid-columns s v, valid-values s v))
+valid-encoded s v = rw (valid-entries s v) at (assembled (gridOf s) s (valid-assembled s v))
 
 -- the length of that writing is the size of the matrix
 pub valid-size : (s : List ℕ) → valid s ≡ true → length (encode (gridOf s)) ≡ size s
 valid-size s v = encode-length (gridOf s) ∙ ap (sizeOf (rows s)) (valid-entries s v)
-
--- valid words with a grid's cells are the writing of that grid, and then the spare words
-pub canonical : (s : List ℕ) (g : Grid) → valid s ≡ true → Same (gridOf s) g
-    → s ≡ encode g ++ drop (length (encode g)) s
-canonical s g v h =
-    let e = encode-ext (gridOf s) g h in
-    let n = sym (ap length e) ∙ valid-size s v in
-    valid-encoded s v ∙ rw (e, n)

@@ -1,23 +1,18 @@
 -- The words of a valid matrix are those of its grid: row by row, and section by section.
 use Prim.Native.Nat.{ℕ, zero, suc, _+_, _-_, _≤_, _<_}
 use native.Mathlib.Omega.{arith}
-use native.Mathlib.Nat.{add-zero, add-comm, le-refl}
+use native.Mathlib.Nat.{add-zero, le-refl}
 use native.Mathlib.Numerals.{add-one}
-use mathlib.Core.Path.{_≡_, refl, sym, ap, _∙_}
-use mathlib.Core.List.{List, [], _∷_, _++_}
+use mathlib.Core.Path.{_≡_, sym, ap, _∙_}
+use mathlib.Core.List.{List}
 use mathlib.Core.Bool.{true}
-use lib.ListN.{length, drop}
+use lib.ListN.{length}
 use Rattle.words.specs.Words.{part}
-use Rattle.words.proofs.Parts.{part-empty, length-part, part-cons, part-append, part-at}
+use Rattle.words.proofs.Parts.{part-empty, length-part, part-append}
 use Rattle.grid.specs.Entries.{column, value, gather, flatten, gridColumns, gridValues, entryCount}
 use Rattle.rows.specs.Row.{Row}
 use Rattle.rows.proofs.Lookup.{rising-row, gather-lookup-columns, gather-lookup-values}
 use Rattle.matrix.specs.Layout.{
-  rowsAt,
-  colsAt,
-  startCountAt,
-  startsAt,
-  countAt,
   columnsAt,
   countAgainAt,
   valuesAt,
@@ -34,9 +29,9 @@ use Rattle.matrix.specs.Layout.{
 use Rattle.matrix.specs.Valid.{valid}
 use Rattle.matrix.specs.Facts.{Matrix, RowSpan}
 use Rattle.matrix.proofs.Facts.{matrix-facts, row-span}
-use Rattle.encoding.specs.Encode.{entriesBefore, counted, gridStarts}
-use Rattle.encoding.proofs.Sections.{section-made}
-use Rattle.encoding.proofs.GridSections.{starts-are}
+use Rattle.matrix.proofs.HeaderWords.{header-own}
+use Rattle.encoding.specs.Encode.{entriesBefore}
+use Rattle.encoding.proofs.Assembled.{Assembled}
 
 module _ (s : List ℕ) (v : valid s ≡ true) where
   -- what validity says: all of it, of the entries of row i, and that the matrix fits
@@ -99,15 +94,7 @@ module _ (s : List ℕ) (v : valid s ≡ true) where
   pub valid-entries : entryCount (gridOf s) ≡ entries s
   valid-entries = valid-before (rows s) (le-refl (rows s)) ∙ facts .starts .last
 
-  -- the row starts of the grid's writing are those of the words
-  pub valid-starts : gridStarts (gridOf s) ≡ part startsAt (countAt (rows s)) s
-  valid-starts =
-      let e = countAt (rows s) in
-      sym (starts-are (gridOf s) (part startsAt e s)
-      (length-part startsAt e s (omega (arith, fits)) ∙ omega arith)
-      (λ i l. part-at startsAt e i s (omega arith) ∙ rw (add-comm startsAt i) (sym (valid-before i l))))
-
-  -- and so are the column numbers
+  -- the column numbers of the grid's writing are those of the words
   pub valid-columns : gridColumns (gridOf s) ≡ part (columnsAt (rows s)) (countAgainAt (rows s) (entries s)) s
   valid-columns =
       let b = columnsAt (rows s) in
@@ -121,22 +108,16 @@ module _ (s : List ℕ) (v : valid s ≡ true) where
       flatten-part value b valid-row-values (rows s) (le-refl (rows s))
       ∙ ap (λ (e : ℕ). part b e s) (omega (arith, facts .starts .last))
 
-  -- the words, taken apart into the sections
-  pub valid-sections : s ≡ counted (rows s ∷ cols s ∷ [])
-      ++ (counted (part startsAt (countAt (rows s)) s)
-      ++ (counted (part (columnsAt (rows s)) (countAgainAt (rows s) (entries s)) s)
-      ++ (counted (part (valuesAt (rows s) (entries s)) (size s) s) ++ drop (size s) s)))
-  valid-sections =
-      let h = facts .header in
-      let r = rows s in
-      let n = entries s in
-      let shape : part rowsAt startCountAt s ≡ rows s ∷ cols s ∷ [] =
-      part-cons rowsAt startCountAt s (omega arith) (omega arith)
-      ∙ ap (λ (l : List ℕ). rows s ∷ l) (part-cons colsAt startCountAt s (omega arith) (omega arith)) in
-      section-made 0 rowsAt startCountAt s refl (omega arith) (omega arith) .here
-      ∙ rw (
-        shape,
-        section-made startCountAt startsAt (countAt r) s refl (omega arith) (omega arith) .here,
-        section-made (countAt r) (columnsAt r) (countAgainAt r n) s (omega arith) (omega arith) (omega arith) .here,
-        section-made (countAgainAt r n) (valuesAt r n) (size s) s (omega arith) (omega arith) (omega arith) .here,
-      )
+  -- every section of the grid's writing stands in the words, and its header too
+  pub valid-assembled : Assembled (gridOf s) s
+  valid-assembled =
+      let n = valid-entries in
+      record {
+        sections = record {
+          fits = omega (arith, fits);
+          starts = λ i l. sym (valid-before i l);
+          columns = rw n (sym valid-columns);
+          values = rw n (sym valid-values);
+        };
+        header = rw n (header-own (facts .header));
+      }

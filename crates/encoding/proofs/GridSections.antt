@@ -2,7 +2,6 @@
 -- depend only on the cells within the shape.
 use Prim.Native.Nat.{ℕ, zero, suc, _+_, _≤_, _<_}
 use native.Mathlib.Omega.{arith}
-use native.Mathlib.Nat.{le-refl}
 use native.Mathlib.Decide.{decLt}
 use mathlib.Core.Path.{_≡_, refl, sym, ap, _∙_}
 use mathlib.Core.List.{List, [], _∷_, _++_, append-assoc}
@@ -77,12 +76,7 @@ module _ (g h : Grid) (same : Same g h) where
   same-before emit k l =
       rw (same .cols) (flatten-same emit (h .cols) (g .cell) (h .cell) k (λ i j m n. same .cell i j (omega arith) n))
 
-  -- the same columns or values
-  pub same-entries : (emit : ℕ → ℕ → ℕ)
-      → flatten emit (g .cols) (g .cell) (g .rows) ≡ flatten emit (h .cols) (h .cell) (h .rows)
-  same-entries emit = rw (same .rows) (same-before emit (h .rows) (le-refl (h .rows)))
-
-  -- and the same row starts
+  -- and so the same row starts
   pub same-starts : gridStarts g ≡ gridStarts h
   same-starts = starts-are h (gridStarts g) (starts-length g ∙ omega arith)
       (λ i l. starts-at g i (omega arith) ∙ ap length (same-before column i l))

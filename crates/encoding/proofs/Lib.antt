@@ -4,3 +4,4 @@ pub mod Encoded
 pub mod Decoded
 pub mod Canonical
 pub mod Assembled
+pub mod OneWriting

@@ -1,6 +1,4 @@
--- What a caller takes out of an answer is what was packed: the code is the remainder by 256, the entries or the value
--- are the upper word, and bit 8 says whether a cell is present; of a place the lowest bit says which matrix, the three
--- bytes above the lowest how many words, and the upper word from where on. One theorem for each kind of exported call.
+-- What a caller takes out of an answer is what was packed: one theorem for each kind of exported call.
 use Prim.Native.Nat.{ℕ, _+_, _*_, _<_, _%_, _/_}
 use mathlib.Core.Path.{_≡_, refl, ap}
 use mathlib.Core.Bool.{Bool, true, false, cond}
@@ -9,7 +7,7 @@ use native.Mathlib.Omega.{arith}
 use lib.ListN.{length}
 use Rattle.answers.specs.declared.Answer.{Answer}
 use Rattle.matrix.specs.Valid.{checkAnswer}
-use Rattle.cells.specs.declared.CellAnswer.{CellAnswer}
+use Rattle.answers.specs.declared.CellAnswer.{CellAnswer}
 use Rattle.cells.specs.Read.{readAnswer}
 use Rattle.row_view.specs.declared.Section.{Section}
 use Rattle.row_view.specs.declared.Place.{Place}
@@ -25,7 +23,9 @@ use Rattle.exports.specs.Packing.{
   secondBit,
   packedPlace,
   SmallPlace,
+  countLimit,
 }
+use Rattle.exports.specs.Unpacked.{Unpacked, UnpackedCell, UnpackedPlace}
 use Rattle.exports.specs.Exported.{LentCreated, LentCompleted, StorePerformed, StoreRead}
 use Rattle.exports.proofs.Codes.{
   check-small,
@@ -36,21 +36,6 @@ use Rattle.exports.proofs.Codes.{
   store-small,
   store-read-small,
 }
-
--- r is taken apart into the answer a
-pub record Unpacked (r : ℕ) (a : Answer) : Type 0 where
-  pub code : r % codeLimit ≡ a .code
-  pub entries : r / upperWord ≡ a .entries
-
-pub record UnpackedCell (r : ℕ) (a : CellAnswer) : Type 0 where
-  pub code : r % codeLimit ≡ a .code
-  pub present : r / codeLimit % 2 ≡ cond (a .present) 1 0
-  pub value : r / upperWord ≡ a .value
-
-pub record UnpackedPlace (r : ℕ) (p : Place) : Type 0 where
-  pub in-second : r % 2 ≡ secondBit (p .«in_second»)
-  pub count : r / codeLimit % 16777216 ≡ p .count
-  pub from : r / upperWord ≡ p .from
 
 unpacked : (r : ℕ) (a : Answer) → r ≡ packed a → a .code < codeLimit → Unpacked r a
 unpacked r a e h = record { code = omega arith; entries = omega arith }
@@ -88,7 +73,7 @@ unpacked-place p h = record {
     in-second true = omega arith
     in-second false = omega arith
 
-    count : (b : Bool) → packed-as b / codeLimit % 16777216 ≡ p .count
+    count : (b : Bool) → packed-as b / codeLimit % countLimit ≡ p .count
     count true = omega (arith, h .count)
     count false = omega (arith, h .count)
 

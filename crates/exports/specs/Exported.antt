@@ -5,7 +5,7 @@ use mathlib.Core.Bool.{not, cond}
 use mathlib.Core.List.{List}
 use lib.Dec.{eqb}
 use Rattle.answers.specs.declared.Answer.{Answer}
-use Rattle.cells.specs.declared.CellAnswer.{CellAnswer}
+use Rattle.answers.specs.declared.CellAnswer.{CellAnswer}
 use Rattle.row_view.specs.declared.Section.{Section}
 use Rattle.row_view.specs.declared.Section.the-variants.{Columns, Values}
 use Rattle.create.specs.Create.{Created}
@@ -13,8 +13,9 @@ use Rattle.operations.specs.declared.Call.{Call}
 use Rattle.call_codes.specs.declared.Options.{Options}
 use Rattle.calls.specs.Completion.{Completed}
 use Rattle.model.specs.declared.Roles.{Roles}
-use Rattle.model.specs.Calls.{StoreCall, wrote, found}
-use Rattle.model.specs.Stores.{replyOn, Performed}
+use Rattle.model.specs.Effects.{wrote, found}
+use Rattle.model.specs.Calls.{StoreCall}
+use Rattle.store_encoding.specs.Stores.{replyOn, Performed}
 use Rattle.exports.specs.Packing.{packed, packedCell}
 
 -- the flags, whether there is a mask, whether there is an accumulator and its number; 0 is no, any other number is yes

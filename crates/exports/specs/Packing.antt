@@ -4,15 +4,12 @@ use mathlib.Core.Path.{_≡_, refl}
 use mathlib.Core.Bool.{Bool, true, false, cond}
 use Rattle.answers.specs.declared.Answer.{Answer}
 use Rattle.answers.specs.Refusals.{accepted, refused}
+pub use Rattle.answers.specs.Refusals.{codeLimit}
 use Rattle.grid.specs.declared.Cell.the-variants.{Absent, Present}
-use Rattle.cells.specs.declared.CellAnswer.{CellAnswer}
-use Rattle.cells.specs.Read.{foundAnswer, refusedRead}
+use Rattle.answers.specs.declared.CellAnswer.{CellAnswer}
+use Rattle.answers.specs.Reads.{foundAnswer, refusedRead}
 use Rattle.row_view.specs.declared.Place.{Place}
 use Rattle.row_view.specs.View.{first, second, placeOf}
-
--- every code is below it; in the answer of a read it stands for a cell that is present
-abbrev pub codeLimit : ℕ
-codeLimit = 256
 
 abbrev pub upperWord : ℕ
 upperWord = 4294967296
@@ -21,6 +18,7 @@ upperWord = 4294967296
 abbrev pub packed : Answer → ℕ
 packed a = a .code + a .entries * upperWord
 
+-- a cell that is present: the first bit past the codes
 abbrev pub presentBit : Bool → ℕ
 presentBit present = cond present codeLimit 0
 
@@ -34,6 +32,13 @@ secondBit inSecond = cond inSecond 1 0
 
 abbrev pub packedPlace : Place → ℕ
 packedPlace p = secondBit (p .«in_second») + p .count * codeLimit + p .from * upperWord
+
+-- what three bytes hold: the lower word without its lowest byte
+abbrev pub countLimit : ℕ
+countLimit = 16777216
+
+three-bytes : countLimit * codeLimit ≡ upperWord
+three-bytes = refl
 
 -- a place that fits: the count in three bytes, the beginning in a word
 pub record SmallPlace (p : Place) : Type 0 where

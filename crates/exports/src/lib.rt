@@ -4,9 +4,9 @@
 // yes. Any numbers and any buffers may be passed. Each call answers in one number: the code in the lower word, the
 // entries of what was written or checked, or the value of the cell that was read, in the upper.
 use answers::Answer;
+use answers::CellAnswer;
 use call_codes::Options;
 use call_codes::Verb;
-use cells::CellAnswer;
 use model::Roles;
 use row_view::Place;
 use row_view::Section;

@@ -1,3 +1,5 @@
 pub mod Grid
 pub mod Entries
 pub mod Update
+pub mod Size
+pub mod Position

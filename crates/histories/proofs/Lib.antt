@@ -1,9 +1,5 @@
-pub mod Alike
-pub mod Steps
-pub mod Bounds
+pub mod Functions
+pub mod Hosts
 pub mod Stored
-pub mod Told
-pub mod Kept
-pub mod Possible
 pub mod Claim
 pub mod Promise

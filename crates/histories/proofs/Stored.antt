@@ -15,7 +15,7 @@ use Rattle.matrix.specs.Layout.{gridOf, entries, size, sizeOf}
 use Rattle.matrix.specs.Valid.{valid}
 use Rattle.matrix.proofs.Facts.{matrix-facts, matrix-made}
 use Rattle.encoding.specs.Encode.{encode, Within}
-use Rattle.encoding.proofs.Canonical.{encode-length, encode-entries, encode-valid, encode-same, valid-within}
+use Rattle.encoding.proofs.Canonical.{encode-length, encode-entries, encode-valid, encode-same, encode-ext, valid-within}
 use Rattle.encoding.proofs.Encoded.{encode-rows}
 use Rattle.slots.specs.Sections.{Slots, total, written, writing, slotsOf}
 use Rattle.slots.specs.Valid.{contentsValid, storeValid}
@@ -25,11 +25,12 @@ use Rattle.slots.proofs.Sections.{slot-count, rewritten}
 use Rattle.slots.proofs.Written.{written-length}
 use Rattle.slots.proofs.ReadBack.{writing-slots, writing-length, writing-valid}
 use Rattle.slots.proofs.Stored.{fresh-writing}
-use Rattle.model.specs.Model.{Slot, vacant, holding, Model, fresh, slotOf, contents, allContents, modelWriting, wordsNeeded}
-use Rattle.model.specs.Stores.{slotHeld, modelOf}
-use Rattle.model.proofs.Held.{sizes-total, model-contents}
-use Rattle.histories.proofs.Alike.{Alike, AlikeSlots}
-use Rattle.histories.proofs.Bounds.{WithinSlot, Fitting}
+use Rattle.model.specs.Model.{Slot, vacant, holding, Model, fresh, slotOf, wordsNeeded}
+use Rattle.model.proofs.Alike.{Alike, AlikeSlots}
+use Rattle.model.proofs.Fitting.{WithinSlot, Fitting}
+use Rattle.store_encoding.specs.Writing.{contents, allContents, modelWriting}
+use Rattle.store_encoding.specs.Stores.{slotHeld, modelOf}
+use Rattle.store_encoding.proofs.Held.{sizes-total, model-contents}
 
 -- the size of a writing, as its words say it
 encode-size : (g : Grid) → size (encode g) ≡ length (encode g)
@@ -135,3 +136,21 @@ held-fits s h =
       within = all-within (slotsOf s) (λ k l. h .contents k (omega arith));
       room = held-room s h;
     }
+
+-- models that agree have one writing
+alike-contents : (m m′ : Model) → Alike m m′ → allContents m ≡ allContents m′
+alike-contents [] [] a = refl
+alike-contents [] (y ∷ m′) a = absurd a
+alike-contents (x ∷ m) [] a = absurd a
+alike-contents (x ∷ m) (y ∷ m′) a =
+    let e = one x y (a .0) in let f = alike-contents m m′ (a .1) in rw (e, f)
+  where
+    one : (x y : Slot) → AlikeSlots x y → contents x ≡ contents y
+    one vacant vacant s = refl
+    one vacant (holding h) s = absurd s
+    one (holding g) vacant s = absurd s
+    one (holding g) (holding h) s = encode-ext g h s
+
+pub alike-written : (n : ℕ) (m m′ : Model) → Alike m m′ → modelWriting n m ≡ modelWriting n m′
+unfolding modelWriting
+alike-written n m m′ a = ap (writing n) (alike-contents m m′ a)

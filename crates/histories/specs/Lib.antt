@@ -1,2 +1,4 @@
+pub mod Functions
+pub mod Hosts
 pub mod Lists
 pub mod Promise

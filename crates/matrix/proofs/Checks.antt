@@ -4,7 +4,7 @@ use mathlib.Core.List.{List}
 use mathlib.Core.Bool.{true, false}
 use Prim.Native.Nat.{ℕ}
 use Rattle.answers.specs.Refusals.{accepted, refused, invalidFirst}
-use Rattle.words.specs.Tests.{_and_}
+use Rattle.conditions.specs.Tests.{_and_}
 use Rattle.matrix.specs.Layout.{entries}
 use Rattle.matrix.specs.Valid.{headerValid, startsValid, rowsValid, valid, checkAnswer}
 

@@ -7,12 +7,13 @@ use mathlib.Core.List.{List}
 use mathlib.Core.Bool.{Bool, true}
 use lib.Dec.{leb}
 use borrow.Author.Tests.{le-leb, eq-eqb, leb-true, eqb-true}
-use Rattle.words.specs.Tests.{all}
-use Rattle.words.proofs.Tests.{and-left, and-right, and-both, all-at, all-made}
+use Rattle.conditions.specs.Tests.{all}
+use Rattle.conditions.proofs.Tests.{and-left, and-right, and-both, all-at, all-made}
+pub use Rattle.limits.proofs.Ranges.{range-made, range-facts}
 use Rattle.rows.specs.Row.{rising}
 use Rattle.matrix.specs.Layout.{rows, cols, start, entries, rowColumns}
-use Rattle.matrix.specs.Valid.{inRange, headerValid, startsValid, rowsValid, valid}
-use Rattle.matrix.specs.Facts.{InRange, Header, Starts, RowSpan, Matrix}
+use Rattle.matrix.specs.Valid.{headerValid, startsValid, rowsValid, valid}
+use Rattle.matrix.specs.Facts.{Header, Starts, RowSpan, Matrix}
 
 -- a test by which the starts never fall
 abbrev pub climbs : List ℕ → ℕ → Bool
@@ -21,14 +22,6 @@ climbs s i = leb (start s i) (start s (i + 1))
 -- a test by which the column numbers of a row rise
 abbrev pub rowRises : List ℕ → ℕ → Bool
 rowRises s i = rising (cols s) 0 (rowColumns s i)
-
-pub range-made : {limit x : ℕ} → InRange limit x → inRange limit x ≡ true
-unfolding inRange
-range-made h = and-both (le-leb _ _ (h .least)) (le-leb _ _ (h .most))
-
-pub range-facts : (limit x : ℕ) → inRange limit x ≡ true → InRange limit x
-unfolding inRange
-range-facts limit x h = record { least = leb-true _ _ (and-left _ _ h); most = leb-true _ _ (and-right _ _ h) }
 
 pub header-made : (s : List ℕ) → Header s → headerValid s ≡ true
 unfolding headerValid

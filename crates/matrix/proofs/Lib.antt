@@ -1,3 +1,4 @@
 pub mod Facts
 pub mod Checks
 pub mod Rows
+pub mod HeaderWords

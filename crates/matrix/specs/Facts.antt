@@ -6,13 +6,9 @@ use mathlib.Core.List.{List}
 use mathlib.Core.Bool.{true}
 use lib.ListN.{length}
 use Rattle.limits.specs.Limits.{maxRows, maxCols, maxEntries}
+pub use Rattle.limits.specs.Ranges.{InRange}
 use Rattle.rows.specs.Row.{rising}
 use Rattle.matrix.specs.Layout.{shapeCount, rows, cols, startCount, start, entries, entriesAgain, size, rowColumns}
-
--- a number of rows or columns that is 1 to a limit
-pub record InRange (limit x : ℕ) : Type 0 where
-  pub least : 1 ≤ x
-  pub most : x ≤ limit
 
 pub record Header (s : List ℕ) : Type 0 where
   pub two : shapeCount s ≡ 2

@@ -1,9 +1,9 @@
 -- Where the words of a matrix stand (document 01, "How a sheet is written"): four sections "in fixed order, each after its
 -- count": the shape, the row starts, the column numbers, the values. Each place is given from the one before it.
-use Prim.Native.Nat.{ℕ, _+_, _*_}
+use Prim.Native.Nat.{ℕ, _+_}
 use mathlib.Core.Path.{_≡_, refl}
 use mathlib.Core.List.{List}
-use Rattle.limits.specs.Limits.{maxRows, maxEntries}
+pub use Rattle.limits.specs.Sizes.{sizeOf, maxMatrixWords, workspaceWords}
 use Rattle.words.specs.Words.{at, part}
 use Rattle.grid.specs.declared.Cell.{Cell}
 use Rattle.grid.specs.Grid.{Grid}
@@ -40,22 +40,9 @@ countAgainAt r n = r + n + (startsAt + 2)
 abbrev pub valuesAt : ℕ → ℕ → ℕ
 valuesAt r n = r + n + (startsAt + 3)
 
--- "Its size is R + 2N + 7 words."
-abbrev pub sizeOf : ℕ → ℕ → ℕ
-sizeOf r n = r + n + n + (startsAt + 3)
-
--- "the largest sheet is 4,615 words", and the work buffer is three of them: 13,845 words
-abbrev pub maxMatrixWords : ℕ
-maxMatrixWords = sizeOf maxRows maxEntries
-
-abbrev pub workspaceWords : ℕ
-workspaceWords = 3 * maxMatrixWords
-
-largest-matrix : maxMatrixWords ≡ 4615
-largest-matrix = refl
-
-three-largest : workspaceWords ≡ 13845
-three-largest = refl
+-- the values end where the size says, as with 3 rows and 2 entries
+values-end : valuesAt 3 2 + 2 ≡ sizeOf 3 2
+values-end = refl
 
 -- the count of the shape, rows R, columns C, the count of the row starts
 abbrev pub shapeCount : List ℕ → ℕ

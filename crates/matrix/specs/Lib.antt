@@ -1,3 +1,4 @@
 pub mod Layout
 pub mod Valid
 pub mod Facts
+pub mod HeaderWords

@@ -6,15 +6,12 @@ use mathlib.Core.Bool.{Bool, cond}
 use lib.ListN.{length}
 use lib.Dec.{leb, eqb}
 use Rattle.limits.specs.Limits.{maxRows, maxCols, maxEntries}
+unfoldable pub use Rattle.limits.specs.Ranges.{inRange}
 use Rattle.answers.specs.declared.Answer.{Answer}
 use Rattle.answers.specs.Refusals.{accepted, refused, invalidFirst}
-use Rattle.words.specs.Tests.{_and_, all}
+use Rattle.conditions.specs.Tests.{_and_, all}
 use Rattle.rows.specs.Row.{rising}
 use Rattle.matrix.specs.Layout.{shapeCount, rows, cols, startCount, start, entries, entriesAgain, size, rowColumns}
-
--- "1 to" a limit
-unfoldable pub inRange : ℕ → ℕ → Bool
-inRange limit x = leb 1 x and leb x limit
 
 -- the counts of the sections, "R and C are 1 to 512, N is 0 to 2,048", and the size within the buffer
 unfoldable pub headerValid : List ℕ → Bool

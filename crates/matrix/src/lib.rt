@@ -1,5 +1,6 @@
-// Matrices in words: what is valid, and where the parts of a valid one are. Any words may be lent to `check` and
-// `is_valid`; the functions that take a part out of a matrix want the facts of a valid one.
+// Matrices in words: what is valid, where the parts of a valid one are, and the header of one that is being written.
+// Any words may be lent to `check` and `is_valid`; the functions that take a part out of a matrix want the facts of a
+// valid one.
 use answers::Answer;
 use answers::INVALID_FIRST;
 use layout::COLS_AT;
@@ -24,6 +25,7 @@ ghost use Rattle.words.specs.Lent.{PartOf};
 ghost use Rattle.matrix.specs.Layout.{rows, cols, entries, columnsFrom, valuesFrom};
 ghost use Rattle.matrix.specs.Valid.{inRange, headerValid, startsValid, rowsValid, valid, checkAnswer};
 ghost use Rattle.matrix.specs.Facts.{Header, Starts, RowSpan};
+ghost use Rattle.matrix.specs.HeaderWords.{HeaderBounds, headed};
 
 // 0 and N where the words begin with a valid matrix, else INVALID_FIRST.
 pub fn check(words: &[u32]) -> Answer
@@ -102,6 +104,22 @@ pub fn row_values(words: &[u32], i: usize) -> &[u32]
     let from = r + n + VALUES_PAST + words[i + STARTS_AT] as usize;
     let to = r + n + VALUES_PAST + words[i + 1 + STARTS_AT] as usize;
     &words[from..to]
+}
+
+// The header of a matrix of the given rows, columns and entries: the shape and the count of each section. The row
+// starts, the column numbers and the values are written apart from it.
+pub fn write_header(words: &mut [u32], rows: u32, cols: u32, count: u32)
+    requires { ⌜ HeaderBounds rows count (now words) ⌝ }
+    ensures { λ _. ⌜ now (words .exit) ≡ headed rows cols count (now (words .entry)) ⌝ }
+{
+    let count_at = rows as usize + COUNT_PAST;
+    let count_again_at = rows as usize + count as usize + COUNT_AGAIN_PAST;
+    words[SHAPE_COUNT_AT] = 2;
+    words[ROWS_AT] = rows;
+    words[COLS_AT] = cols;
+    words[START_COUNT_AT] = rows + 1;
+    words[count_at] = count;
+    words[count_again_at] = count;
 }
 
 // Whether a number of rows or columns is 1 to the limit.

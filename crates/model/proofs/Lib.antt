@@ -1,2 +1,4 @@
-pub mod Held
-pub mod Performed
+pub mod Alike
+pub mod Fitting
+pub mod Operations
+pub mod Effects

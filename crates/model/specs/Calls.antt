@@ -1,33 +1,35 @@
--- The calls on a store, with all their arguments, "but of a buffer lent to work in only the length".
+-- The calls on a store, with all their arguments, "but of a buffer lent to work in only the length", and the effect of
+-- each (document 01, "The shelf" and "When the clerk turns a call away").
 use Prim.Native.Nat.{ℕ}
-use mathlib.Core.Bool.{cond}
-use mathlib.Core.List.{List}
-use Rattle.answers.specs.declared.Answer.{Answer}
-use Rattle.cells.specs.declared.CellAnswer.{CellAnswer}
+use mathlib.Core.Bool.{cond, not}
+use mathlib.Core.List.{List, [], _∷_, _++_}
+use lib.Dec.{leb, ltb}
+use Rattle.conditions.specs.Tests.{_and_}
+use Rattle.limits.specs.Limits.{slotCount, maxRows, maxCols}
+use Rattle.limits.specs.Ranges.{inRange}
+use Rattle.answers.specs.Refusals.{
+  indexOutOfBounds,
+  invalidShape,
+  insufficientSpace,
+  invalidStore,
+  emptySlot,
+  accepted,
+}
+use Rattle.answers.specs.Reads.{foundAnswer}
+use Rattle.grid.specs.Grid.{Grid, emptyGrid}
+use Rattle.grid.specs.Update.{withCell}
+use Rattle.grid.specs.declared.Cell.the-variants.{Absent, Present}
 use Rattle.operations.specs.declared.Call.{Call}
-use Rattle.operations.specs.Calls.{hasSecond}
+use Rattle.operations.specs.Calls.{hasSecond, callFinal}
 use Rattle.call_codes.specs.declared.Options.{Options}
 use Rattle.call_codes.specs.declared.Verb.{Verb}
 use Rattle.call_codes.specs.Decoding.{decoded}
+use Rattle.refusals.specs.Cases.{Case, given, numberCases, agreementCases, outputCases}
 use Rattle.model.specs.declared.Roles.{Roles}
+use Rattle.model.specs.Model.{vacant, holding, Model, slotOf, put, isVacant, gridAt, wordsNeeded}
+use Rattle.model.specs.Effects.{writing, reading, wrote, found, keeps, puts, Effect, puttingGrid}
 
--- Where an operation has no second input or no mask, the slot of a role that it has stands for it: nothing that is named
--- for a role that the call lacks is looked at.
-abbrev pub rolesOf : Call → Roles → Roles
-rolesOf call named = record {
-  first = named .first;
-  second = cond (hasSecond (call .operation)) (named .second) (named .first);
-  mask = cond (call .«has_mask») (named .mask) (named .output);
-  output = named .output;
-}
-
--- an operation: what is computed, the slots, the index lists and the length of the workspace
-pub record Operate : Type 0 where
-  pub call : Call
-  pub roles : Roles
-  pub is : List ℕ
-  pub js : List ℕ
-  pub work : ℕ
+-- ---- the calls
 
 -- "the six operations naming places for A, B, mask and C", as it is asked for: its numbers and slots as they come
 pub record OperationCall : Type 0 where
@@ -37,16 +39,6 @@ pub record OperationCall : Type 0 where
   pub is : List ℕ
   pub js : List ℕ
   pub work : ℕ
-
--- with its numbers and roles decoded
-abbrev pub operateOf : OperationCall → Operate
-operateOf x = record {
-  call = decoded (x .options) (x .verb);
-  roles = rolesOf (decoded (x .options) (x .verb)) (x .named);
-  is = x .is;
-  js = x .js;
-  work = x .work;
-}
 
 -- "Calls: lay (what was there goes), drop, set a cell, clear a cell, read a cell, and the six operations"
 pub data StoreCall : Type 0 where
@@ -62,7 +54,119 @@ abbrev pub operate : Options → Verb → Roles → List ℕ → List ℕ → �
 operate o verb named is js work =
     operation (record { options = o; verb = verb; named = named; is = is; js = js; work = work })
 
--- an answer: of a call that writes, or of a read
-pub data Reply : Type 0 where
-  wrote : Answer → Reply
-  found : CellAnswer → Reply
+-- ---- the refusals of a slot, a grid and a cell
+
+-- "for it 12 means a place above 7"
+abbrev pub noSlot : ℕ → Case
+noSlot k = given invalidStore (leb slotCount k)
+
+-- 13: "a place that must hold a sheet is empty"
+abbrev pub noGrid : Model → ℕ → Case
+noGrid m k = given emptySlot (isVacant (slotOf m k))
+
+-- 7: "row or column past .. the sheet named"
+abbrev pub noCell : Grid → ℕ → ℕ → Case
+noCell g i j = given indexOutOfBounds (not (ltb i (g .rows) and ltb j (g .cols)))
+
+-- of a call that names a cell
+abbrev pub cellCases : Model → ℕ → ℕ → ℕ → List Case
+cellCases m k i j = noSlot k ∷ noGrid m k ∷ noCell (gridAt m k) i j ∷ []
+
+-- 11: "8 plus the sizes of all grids, as they would be after the call, is more than the shelf's length"
+abbrev pub noRoom : ℕ → Model → ℕ → Grid → Case
+noRoom n m k g = given insufficientSpace (ltb n (wordsNeeded (put m k (holding g))))
+
+-- 10 and 11 of a grid that is put into slot k
+abbrev pub fitCases : ℕ → Model → ℕ → Grid → List Case
+fitCases n m k g = outputCases g (wordsNeeded (put m k (holding g))) n
+
+-- ---- an operation
+
+-- its numbers decoded: what is computed, the slots, the index lists and the length of the workspace
+pub record Operate : Type 0 where
+  pub call : Call
+  pub roles : Roles
+  pub is : List ℕ
+  pub js : List ℕ
+  pub work : ℕ
+
+-- Where an operation has no second input or no mask, the slot of a role that it has stands for it: nothing that is named
+-- for a role that the call lacks is looked at.
+abbrev pub rolesOf : Call → Roles → Roles
+rolesOf call named = record {
+  first = named .first;
+  second = cond (hasSecond (call .operation)) (named .second) (named .first);
+  mask = cond (call .«has_mask») (named .mask) (named .output);
+  output = named .output;
+}
+
+abbrev pub operateOf : OperationCall → Operate
+operateOf x = record {
+  call = decoded (x .options) (x .verb);
+  roles = rolesOf (decoded (x .options) (x .verb)) (x .named);
+  is = x .is;
+  js = x .js;
+  work = x .work;
+}
+
+-- "gives each cell of C what T and the write-back say of the grids before the call"
+abbrev pub operated : Model → Operate → Grid
+operated m o =
+    callFinal (o .call) (gridAt m (o .roles .first)) (gridAt m (o .roles .second)) (gridAt m (o .roles .mask))
+    (gridAt m (o .roles .output)) (o .is) (o .js)
+
+-- a test of the slot in each role
+abbrev pub roleCases : (ℕ → Case) → Roles → List Case
+roleCases test r = test (r .first) ∷ test (r .second) ∷ test (r .mask) ∷ test (r .output) ∷ []
+
+-- 7 to 9
+abbrev pub agreementsOf : Model → Operate → List Case
+agreementsOf m o =
+    agreementCases (o .call) (gridAt m (o .roles .first)) (gridAt m (o .roles .second)) (gridAt m (o .roles .mask))
+    (gridAt m (o .roles .output)) (o .is) (o .js) (o .work)
+
+-- "on the shelf 12 is looked at first and 13 comes between 2 and 7"
+abbrev pub operationCases : ℕ → Model → Operate → List Case
+operationCases n m o =
+    roleCases noSlot (o .roles)
+    ++ (numberCases (o .call)
+    ++ (roleCases (noGrid m) (o .roles)
+    ++ (agreementsOf m o ++ fitCases n m (o .roles .output) (operated m o))))
+
+abbrev pub operationEffect : Operate → Effect
+operationEffect o = puttingGrid (o .roles .output) (λ m. operated m o) (λ n m. operationCases n m o)
+
+-- ---- every call
+
+-- set "puts the value into the named cell", and clear "leaves none there"
+abbrev pub withValue : Model → ℕ → ℕ → ℕ → ℕ → Grid
+withValue m k i j v = withCell (gridAt m k) i j (Present v)
+
+abbrev pub withoutValue : Model → ℕ → ℕ → ℕ → Grid
+withoutValue m k i j = withCell (gridAt m k) i j Absent
+
+-- 8: "rows or columns outside 1 to 512", of an empty matrix for slot k
+abbrev pub shapeCases : ℕ → ℕ → ℕ → List Case
+shapeCases k r c = noSlot k ∷ given invalidShape (not (inRange maxRows r and inRange maxCols c)) ∷ []
+
+unfoldable pub effect : StoreCall → Effect
+-- lay "puts a grid of the given shape without values where it is told, whatever was there"
+effect (newEmpty k r c) = puttingGrid k (λ m. emptyGrid r c) (λ n m. shapeCases k r c ++ (noRoom n m k (emptyGrid r c) ∷ []))
+-- drop "empties the place", and "answers 0 and 0"
+effect (dropSlot k) = record {
+  kind = writing;
+  cases = λ n m. noSlot k ∷ [];
+  change = λ m. puts k vacant;
+  answer = λ m. wrote (accepted 0);
+}
+effect (setCell k i j v) =
+    puttingGrid k (λ m. withValue m k i j v) (λ n m. cellCases m k i j ++ fitCases n m k (withValue m k i j v))
+effect (clearCell k i j) = puttingGrid k (λ m. withoutValue m k i j) (λ n m. cellCases m k i j)
+-- "read changes nothing. .. Read answers present with the value, or absent."
+effect (readCell k i j) = record {
+  kind = reading;
+  cases = λ n m. cellCases m k i j;
+  change = λ m. keeps;
+  answer = λ m. found (foundAnswer (gridAt m k .cell i j));
+}
+effect (operation x) = operationEffect (operateOf x)

@@ -1,15 +1,17 @@
--- A short list of calls on a store of 20 words, computed.
+-- Short lists of calls, computed: what each call answers, and so what it left for the later ones.
+use Prim.Native.Nat.{ℕ, _-_}
 use mathlib.Core.Path.{_≡_, refl}
-use mathlib.Core.Bool.{true, false}
-use mathlib.Core.List.{List, [], _∷_, _++_}
+use mathlib.Core.Bool.{Bool, true, false, cond}
+use mathlib.Core.List.{List, [], _∷_}
 use lib.ListN.{replicate}
-use Prim.Native.Nat.{ℕ}
+use lib.Dec.{ltb}
+use Rattle.conditions.specs.Tests.{_and_, all}
+use Rattle.limits.specs.Sizes.{workspaceWords}
+use Rattle.limits.specs.Ranges.{inRange}
 use Rattle.answers.specs.Refusals.{accepted, refused}
-use Rattle.words.specs.Tests.{_and_, all}
+use Rattle.answers.specs.Reads.{foundAnswer, refusedRead}
+use Rattle.grid.specs.declared.Cell.the-variants.{Absent, Present}
 use Rattle.grid.specs.Entries.{one, gather, flatten}
-use Rattle.matrix.specs.Valid.{inRange}
-use Rattle.cells.specs.Read.{refusedRead}
-use Rattle.encoding.specs.Encode.{tabulate, encode}
 use Rattle.operations.specs.Calls.{callFinal, listValid, indexesValid, shapesAgree}
 use Rattle.operations.specs.WriteBacks.{writeBack}
 use Rattle.operators.specs.Operators.{binaryWord}
@@ -17,8 +19,8 @@ use Rattle.operator_codes.specs.Codes.{binaryNumbered}
 use Rattle.twos_complement.specs.TwosComplement.{signed, word}
 use Rattle.call_codes.specs.declared.Options.{Options}
 use Rattle.call_codes.specs.declared.Verb.the-variants.{EwiseAdd}
-use Rattle.slots.specs.Sections.{writing}
-use Rattle.model.specs.Model.{fresh, modelWriting}
+use Rattle.model.specs.Model.{Model, vacant, holding, fresh}
+use Rattle.model.specs.Effects.{Reply, wrote, found, replyOf, nextOf}
 use Rattle.model.specs.Calls.{
   StoreCall,
   newEmpty,
@@ -27,72 +29,208 @@ use Rattle.model.specs.Calls.{
   clearCell,
   readCell,
   operate,
-  Reply,
-  wrote,
-  found,
-}
-use Rattle.model.specs.Steps.{
-  newEmptyRefusal,
-  dropRefusal,
-  setRefusal,
-  cellRefusal,
-  operationRefusal,
-  reply,
-  next,
+  effect,
 }
 use Rattle.model.specs.Histories.{replies, modelAfter}
 
-abbrev plain : Options
-plain = record { flags = 0; «has_mask» = false; «has_accumulator» = false; accumulator = 9 }
+-- the replies, in short
+abbrev entries : ℕ → Reply
+entries n = wrote (accepted n)
 
--- the union of slot 0 and another into slot 0, with no mask
-abbrev united : ℕ → ℕ → ℕ → StoreCall
-united op b work = operate plain (EwiseAdd op) (record { first = 0; second = b; mask = 9; output = 0 }) [] [] work
+abbrev refusal : ℕ → Reply
+refusal code = wrote (refused code)
 
--- slot 0 gets a 1 by 2 matrix with 7 at column 1; slot 1 has no room; slot 0 is added to itself under PLUS
-abbrev calls : List StoreCall
-calls =
+abbrev value : ℕ → Reply
+value v = found (foundAnswer (Present v))
+
+abbrev absent : Reply
+absent = found (foundAnswer Absent)
+
+abbrev readRefusal : ℕ → Reply
+readRefusal code = found (refusedRead code)
+
+-- ---- room: a store of 16 words has room for one empty vector, which fits exactly
+abbrev roomCalls : List StoreCall
+roomCalls =
     newEmpty 0 1 2
     ∷ setCell 0 0 1 7
-    ∷ readCell 0 0 1
-    ∷ readCell 0 0 0
-    ∷ readCell 1 0 0
-    ∷ readCell 0 1 0
-    ∷ clearCell 0 0 0
     ∷ newEmpty 1 1 1
     ∷ dropSlot 8
-    ∷ united 3 0 13844
-    ∷ united 3 0 13845
-    ∷ united 8 1 13845
-    ∷ united 3 1 13845
+    ∷ dropSlot 0
+    ∷ readCell 0 0 0
+    ∷ dropSlot 0
+    ∷ newEmpty 1 1 3
+    ∷ newEmpty 1 2 3
+    ∷ newEmpty 8 1 1
+    ∷ newEmpty 1 0 1
+    ∷ newEmpty 1 1 0
+    ∷ readCell 1 0 2
     ∷ []
 
-abbrev answers : List Reply
-answers =
-    wrote (accepted 0)
-    ∷ wrote (accepted 1)
-    ∷ found (record { code = 0; present = true; value = 7 })
-    ∷ found (record { code = 0; present = false; value = 0 })
-    ∷ found (refusedRead 13)
-    ∷ found (refusedRead 7)
-    ∷ wrote (accepted 1)
-    ∷ wrote (refused 11)
-    ∷ wrote (refused 12)
-    ∷ wrote (refused 9)
-    ∷ wrote (accepted 1)
-    ∷ wrote (refused 2)
-    ∷ wrote (refused 13)
+-- the set needs two words more than there are, counted after the call; dropped, the room serves the next
+room-answered : replies 16 fresh roomCalls
+    ≡ entries 0
+    ∷ refusal 11
+    ∷ refusal 11
+    ∷ refusal 12
+    ∷ entries 0
+    ∷ readRefusal 13
+    ∷ entries 0
+    ∷ entries 0
+    ∷ refusal 11
+    ∷ refusal 12
+    ∷ refusal 8
+    ∷ refusal 8
+    ∷ absent
+    ∷ []
+unfolding effect replyOf nextOf inRange _and_ flatten gather one
+room-answered = refl
+
+-- ---- cells: 12, 13 and 7 in this order, and a value set, replaced and cleared
+abbrev cellCalls : List StoreCall
+cellCalls =
+    setCell 8 0 0 7
+    ∷ setCell 0 9 9 7
+    ∷ clearCell 0 9 9
+    ∷ readCell 0 9 9
+    ∷ newEmpty 0 2 3
+    ∷ setCell 0 2 0 7
+    ∷ setCell 0 0 3 7
+    ∷ clearCell 0 2 0
+    ∷ readCell 0 0 3
+    ∷ setCell 0 1 2 7
+    ∷ setCell 0 1 2 8
+    ∷ setCell 0 0 2 0
+    ∷ readCell 0 1 2
+    ∷ readCell 0 0 2
+    ∷ readCell 0 2 1
+    ∷ clearCell 0 1 1
+    ∷ clearCell 0 1 2
+    ∷ readCell 0 1 2
+    ∷ readCell 0 0 2
     ∷ []
 
-answered : replies 20 fresh calls ≡ answers
-unfolding reply next newEmptyRefusal dropRefusal setRefusal cellRefusal operationRefusal inRange _and_ all flatten gather one
-    callFinal indexesValid listValid shapesAgree writeBack binaryWord binaryNumbered signed word
-answered = refl
+cells-answered : replies 30 fresh cellCalls
+    ≡ refusal 12
+    ∷ refusal 13
+    ∷ refusal 13
+    ∷ readRefusal 13
+    ∷ entries 0
+    ∷ refusal 7
+    ∷ refusal 7
+    ∷ refusal 7
+    ∷ readRefusal 7
+    ∷ entries 1
+    ∷ entries 1
+    ∷ entries 2
+    ∷ value 8
+    ∷ value 0
+    ∷ readRefusal 7
+    ∷ entries 2
+    ∷ entries 1
+    ∷ absent
+    ∷ value 0
+    ∷ []
+unfolding effect replyOf nextOf inRange _and_ flatten gather one
+cells-answered = refl
 
--- the count, the matrix, and zeros
-written-after : modelWriting 20 (modelAfter 20 fresh calls)
-    ≡ (10 ∷ 2 ∷ 1 ∷ 2 ∷ 2 ∷ 0 ∷ 1 ∷ 1 ∷ 1 ∷ 1 ∷ 14 ∷ []) ++ replicate 9 0
-unfolding reply next newEmptyRefusal dropRefusal setRefusal cellRefusal operationRefusal inRange _and_ all flatten gather one
-    callFinal indexesValid listValid shapesAgree writeBack binaryWord binaryNumbered signed word modelWriting writing encode
-    tabulate
-written-after = refl
+-- ---- 10: a grid of 2,048 entries and one empty column takes no entry more; 10 comes before 11
+abbrev full : Model
+full =
+    holding (record { rows = 64; cols = 33; cell = λ i j. cond (ltb j 32) (Present 1) Absent })
+    ∷ replicate 7 vacant
+
+abbrev fullCalls : List StoreCall
+fullCalls = setCell 0 5 32 7 ∷ setCell 0 5 31 7 ∷ clearCell 0 5 30 ∷ setCell 0 5 32 7 ∷ readCell 0 5 32 ∷ []
+
+full-answered : replies 4200 full fullCalls ≡ refusal 10 ∷ entries 2048 ∷ entries 2047 ∷ entries 2048 ∷ value 7 ∷ []
+unfolding effect replyOf nextOf _and_ flatten gather one
+full-answered = refl
+
+-- ---- an operation: the roles apart. A is slot 0, B slot 1, the mask slot 2, C slot 3
+abbrev laid : List StoreCall
+laid =
+    newEmpty 0 1 4
+    ∷ setCell 0 0 0 5
+    ∷ setCell 0 0 1 7
+    ∷ newEmpty 1 1 4
+    ∷ setCell 1 0 0 2
+    ∷ setCell 1 0 2 9
+    ∷ newEmpty 2 1 4
+    ∷ setCell 2 0 0 1
+    ∷ setCell 2 0 1 0
+    ∷ setCell 2 0 2 4
+    ∷ newEmpty 3 1 4
+    ∷ setCell 3 0 0 100
+    ∷ setCell 3 0 1 200
+    ∷ setCell 3 0 3 300
+    ∷ []
+
+-- the difference of two slots, under a mask or not, with as many words to work in
+abbrev difference : Bool → ℕ → ℕ → ℕ → ℕ → ℕ → StoreCall
+difference masked a b m c work =
+    operate (record { flags = 0; «has_mask» = masked; «has_accumulator» = false; accumulator = 9 }) (EwiseAdd 4)
+    (record { first = a; second = b; mask = m; output = c }) [] [] work
+
+-- each role past the last slot, and each in an empty slot; 13 before 9; an absent mask is not looked at; the row of C
+abbrev roleCalls : List StoreCall
+roleCalls =
+    difference true 8 1 2 3 workspaceWords
+    ∷ difference true 0 8 2 3 workspaceWords
+    ∷ difference true 0 1 8 3 workspaceWords
+    ∷ difference true 0 1 2 8 workspaceWords
+    ∷ difference true 7 1 2 3 workspaceWords
+    ∷ difference true 0 7 2 3 workspaceWords
+    ∷ difference true 0 1 7 3 workspaceWords
+    ∷ difference true 0 1 2 7 (workspaceWords - 1)
+    ∷ difference true 0 1 2 3 (workspaceWords - 1)
+    ∷ difference true 0 1 2 3 workspaceWords
+    ∷ readCell 3 0 0
+    ∷ readCell 3 0 1
+    ∷ readCell 3 0 2
+    ∷ readCell 3 0 3
+    ∷ readCell 0 0 0
+    ∷ readCell 1 0 0
+    ∷ readCell 2 0 0
+    ∷ difference false 0 1 9 3 workspaceWords
+    ∷ readCell 3 0 1
+    ∷ readCell 3 0 3
+    ∷ difference false 3 3 3 3 workspaceWords
+    ∷ readCell 3 0 2
+    ∷ []
+
+roles-answered : replies 200 (modelAfter 200 fresh laid) roleCalls
+    ≡ refusal 12
+    ∷ refusal 12
+    ∷ refusal 12
+    ∷ refusal 12
+    ∷ refusal 13
+    ∷ refusal 13
+    ∷ refusal 13
+    ∷ refusal 13
+    ∷ refusal 9
+    ∷ entries 4
+    ∷ value 3
+    ∷ value 200
+    ∷ value 9
+    ∷ value 300
+    ∷ value 5
+    ∷ value 2
+    ∷ value 1
+    ∷ entries 3
+    ∷ value 7
+    ∷ absent
+    ∷ entries 3
+    ∷ value 0
+    ∷ []
+unfolding effect replyOf nextOf inRange _and_ all flatten gather one callFinal indexesValid listValid shapesAgree writeBack
+    binaryWord binaryNumbered signed word
+roles-answered = refl
+
+-- the final C does not fit: 11 after all others, and C is as it was
+tight-answered : replies 61 (modelAfter 61 fresh laid)
+    (difference true 0 1 2 3 workspaceWords ∷ readCell 3 0 0 ∷ dropSlot 1 ∷ difference true 0 0 2 3 workspaceWords ∷ [])
+    ≡ refusal 11 ∷ value 100 ∷ entries 0 ∷ entries 3 ∷ []
+unfolding effect replyOf nextOf inRange _and_ all flatten gather one callFinal indexesValid listValid shapesAgree writeBack
+    binaryWord binaryNumbered signed word
+tight-answered = refl

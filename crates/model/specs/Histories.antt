@@ -1,9 +1,16 @@
--- The model over a list of calls.
+-- The model over a list of calls, on a store of n words.
 use Prim.Native.Nat.{ℕ}
 use mathlib.Core.List.{List, [], _∷_}
 use Rattle.model.specs.Model.{Model}
-use Rattle.model.specs.Calls.{StoreCall, Reply}
-use Rattle.model.specs.Steps.{reply, next}
+use Rattle.model.specs.Effects.{Reply, replyOf, nextOf}
+use Rattle.model.specs.Calls.{StoreCall, effect}
+
+-- one call: its reply, and the model afterwards
+abbrev pub reply : ℕ → Model → StoreCall → Reply
+reply n m c = replyOf (effect c) n m
+
+abbrev pub next : ℕ → Model → StoreCall → Model
+next n m c = nextOf (effect c) n m
 
 abbrev pub replies : ℕ → Model → List StoreCall → List Reply
 replies n m [] = []

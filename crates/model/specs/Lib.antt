@@ -1,7 +1,5 @@
 pub mod Model
+pub mod Effects
 pub mod Calls
-pub mod Steps
-pub mod Stores
-pub mod Placing
 pub mod Histories
 pub mod Examples

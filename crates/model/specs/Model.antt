@@ -1,13 +1,12 @@
--- The model of a store (document 01, "The shelf": "The wall of eight plain grids"). It knows no words, but for the one
--- writing at the end.
+-- The model of a store (document 01, "The shelf": "The wall of eight plain grids"). It knows no words: of a grid only the
+-- size, and of a store only the length.
 use Prim.Native.Nat.{ℕ, _+_}
 use mathlib.Core.Bool.{Bool, true, false}
-use mathlib.Core.List.{List, [], _∷_, map}
-use lib.ListN.{getD, replicate}
+use mathlib.Core.List.{List, [], _∷_}
+use lib.ListN.{getD, set, replicate}
 use Rattle.limits.specs.Limits.{slotCount}
 use Rattle.grid.specs.Grid.{Grid, emptyGrid}
-use Rattle.encoding.specs.Encode.{encode, gridSize}
-use Rattle.slots.specs.Sections.{Slots, writing}
+use Rattle.grid.specs.Size.{gridSize}
 
 -- "A place is empty or holds one grid"
 pub data Slot : Type 0 where
@@ -24,6 +23,10 @@ fresh = replicate slotCount vacant
 
 abbrev pub slotOf : Model → ℕ → Slot
 slotOf m k = getD m k vacant
+
+-- the one way into a slot: it holds x, whatever was there
+abbrev pub put : Model → ℕ → Slot → Model
+put m k x = set m k x
 
 abbrev pub isVacant : Slot → Bool
 isVacant vacant = true
@@ -49,16 +52,3 @@ sizes (x ∷ m) = slotSize x + sizes m
 -- "room is needed for 8 plus the sizes of all sheets"
 abbrev pub wordsNeeded : Model → ℕ
 wordsNeeded m = slotCount + sizes m
-
--- the words of a slot: its sheet, or none
-abbrev pub contents : Slot → List ℕ
-contents vacant = []
-contents (holding g) = encode g
-
-abbrev pub allContents : Model → Slots
-allContents m = map contents m
-
--- "place by place, 0 for an empty place, or else the grid's size and then its sheet": a count before the words of each slot;
--- and "Zeros fill the rest of the length."
-unfoldable pub modelWriting : ℕ → Model → List ℕ
-modelWriting n m = writing n (allContents m)

@@ -8,8 +8,8 @@ use lib.Dec.{ltb}
 use borrow.Author.Tests.{le-leb, leb-true, ltb-true}
 use Rattle.limits.specs.Limits.{maxList}
 use Rattle.words.specs.Words.{at}
-use Rattle.words.specs.Tests.{_and_, all}
-use Rattle.words.proofs.Tests.{and-left, and-right, and-both, all-at}
+use Rattle.conditions.specs.Tests.{_and_, all}
+use Rattle.conditions.proofs.Tests.{and-left, and-right, and-both, all-at}
 use Rattle.operations.specs.Calls.{listValid}
 use Rattle.operations.specs.Lists.{IndexList}
 

@@ -3,11 +3,11 @@ use Prim.Native.Nat.{ℕ, zero, suc, _<_}
 use native.Mathlib.Omega.{arith}
 use mathlib.Core.Path.{_≡_, refl, sym, ap, _∙_}
 use mathlib.Core.List.{List}
-use mathlib.Core.Bool.{Bool, true, false, false≢true}
+use mathlib.Core.Bool.{Bool, true, false, cond, false≢true}
 use lib.ListN.{length}
 use borrow.Author.Tests.{eqb-true}
 use Rattle.words.specs.Words.{at}
-use Rattle.words.proofs.Tests.{and-left, and-right}
+use Rattle.conditions.proofs.Tests.{and-left, and-right}
 use Rattle.grid.specs.declared.Cell.{Cell}
 use Rattle.grid.specs.Grid.{Grid, Same}
 use Rattle.operators.specs.declared.BinaryOp.{BinaryOp}
@@ -15,7 +15,19 @@ use Rattle.operators.specs.declared.Monoid.{Monoid}
 use Rattle.operations.specs.declared.Operation.{Operation}
 use Rattle.operations.specs.declared.Operation.the-variants.{Mxm, EwiseMult, EwiseAdd, Apply, Extract}
 use Rattle.operations.specs.CellOperations.{dot, intersect, unite, applyCell}
-use Rattle.operations.specs.GridOperations.{resultGrid, storedRow, storedCol}
+use Rattle.operations.specs.declared.Needs.{Needs}
+use Rattle.operations.specs.declared.Shape.{Shape}
+use Rattle.operations.specs.declared.Shapes.{Shapes}
+use Rattle.operations.specs.GridOperations.{
+  needsOf,
+  storedRow,
+  storedCol,
+  resultCell,
+  shapeOf,
+  noShape,
+  shapesOf,
+  resultGrid,
+}
 use Rattle.operations.specs.Calls.{hasSecond, hasLists, inputsAgree, listsValid}
 use Rattle.operations.proofs.Lists.{list-facts}
 
@@ -31,79 +43,103 @@ dot-same monoid op (suc n) f f′ g g′ p q =
       q n (omega arith),
     )
 
--- T does not depend on a second input or on lists that the operation does not have
-module _ (flag : Bool) (a b b′ : Grid) (is is′ js js′ : List ℕ) where
-  pub second-unread : (op : Operation) → hasSecond op ≡ false → resultGrid op flag a b is js ≡ resultGrid op flag a b′ is js
-  second-unread (Mxm monoid op) h = absurd (false≢true (sym h))
-  second-unread (EwiseMult op) h = absurd (false≢true (sym h))
-  second-unread (EwiseAdd op) h = absurd (false≢true (sym h))
-  second-unread (Apply op) h = refl
-  second-unread Extract h = refl
+-- the cells of T do not depend on a second input or on lists that the operation does not have
+module _ (flag : Bool) (a b b′ c : Grid) (is is′ js js′ : List ℕ) where
+  second-cells : (op : Operation) → hasSecond op ≡ false
+      → resultCell op flag a b c is js ≡ resultCell op flag a b′ c is js
+  second-cells (Mxm monoid op) h = absurd (false≢true (sym h))
+  second-cells (EwiseMult op) h = absurd (false≢true (sym h))
+  second-cells (EwiseAdd op) h = absurd (false≢true (sym h))
+  second-cells (Apply op) h = refl
+  second-cells Extract h = refl
 
-  pub lists-unread : (op : Operation) → hasLists op ≡ false → resultGrid op flag a b is js ≡ resultGrid op flag a b is′ js′
-  lists-unread (Mxm monoid op) h = refl
-  lists-unread (EwiseMult op) h = refl
-  lists-unread (EwiseAdd op) h = refl
-  lists-unread (Apply op) h = refl
-  lists-unread Extract h = absurd (false≢true (sym h))
+  lists-cells : (op : Operation) → hasLists op ≡ false
+      → resultCell op flag a b c is js ≡ resultCell op flag a b c is′ js′
+  lists-cells (Mxm monoid op) h = refl
+  lists-cells (EwiseMult op) h = refl
+  lists-cells (EwiseAdd op) h = refl
+  lists-cells (Apply op) h = refl
+  lists-cells Extract h = absurd (false≢true (sym h))
 
--- and neither does the test of the inputs
-pub agree-unread : (a b b′ : Grid) (op : Operation) → hasSecond op ≡ false → inputsAgree op a b ≡ inputsAgree op a b′
-agree-unread a b b′ (Mxm monoid op) h = absurd (false≢true (sym h))
-agree-unread a b b′ (EwiseMult op) h = absurd (false≢true (sym h))
-agree-unread a b b′ (EwiseAdd op) h = absurd (false≢true (sym h))
-agree-unread a b b′ (Apply op) h = refl
-agree-unread a b b′ Extract h = refl
+-- the shapes of a call, one by one
+abbrev shapesFrom : Shape → Shape → Shape → Shape → Shapes
+shapesFrom a b c l = record { first = a; second = b; output = c; lists = l }
 
-module _ (a a′ b b′ : Grid) (is js : List ℕ) (s : Same a a′) where
-  -- the tests of shapes and lists
-  pub agree-same : (op : Operation) → (hasSecond op ≡ true → Same b b′) → inputsAgree op a b ≡ inputsAgree op a′ b′
-  agree-same (Mxm monoid op) t = rw (s .cols, t refl .rows)
-  agree-same (EwiseMult op) t = rw (s .rows, s .cols, t refl .rows, t refl .cols)
-  agree-same (EwiseAdd op) t = rw (s .rows, s .cols, t refl .rows, t refl .cols)
-  agree-same (Apply op) t = refl
-  agree-same Extract t = refl
+-- nor what it asks for on the lengths of lists
+lists-needs : (op : Operation) (s : Shapes) (l : Shape) → hasLists op ≡ false
+    → needsOf op s ≡ needsOf op (shapesFrom (s .first) (s .second) (s .output) l)
+lists-needs (Mxm monoid op) s l h = refl
+lists-needs (EwiseMult op) s l h = refl
+lists-needs (EwiseAdd op) s l h = refl
+lists-needs (Apply op) s l h = refl
+lists-needs Extract s l h = absurd (false≢true (sym h))
 
-  pub lists-same : (op : Operation) → listsValid op a is js ≡ listsValid op a′ is js
-  lists-same op = rw (s .rows, s .cols)
+-- the shapes of grids that agree
+shape-same : (g h : Grid) → Same g h → shapeOf g ≡ shapeOf h
+shape-same g h s = rw (s .rows, s .cols)
 
-  -- the shape of T
-  pub rows-same : (op : Operation) (flag flag′ : Bool)
-      → resultGrid op flag a b is js .rows ≡ resultGrid op flag′ a′ b′ is js .rows
-  rows-same (Mxm monoid op) flag flag′ = s .rows
-  rows-same (EwiseMult op) flag flag′ = s .rows
-  rows-same (EwiseAdd op) flag flag′ = s .rows
-  rows-same (Apply op) flag flag′ = s .rows
-  rows-same Extract flag flag′ = refl
+there-same : (h : Bool) (g g′ : Grid) → (h ≡ true → Same g g′)
+    → cond h (shapeOf g) noShape ≡ cond h (shapeOf g′) noShape
+there-same true g g′ t = shape-same g g′ (t refl)
+there-same false g g′ t = refl
 
-  pub cols-same : (op : Operation) (flag : Bool) → (hasSecond op ≡ true → Same b b′)
-      → resultGrid op flag a b is js .cols ≡ resultGrid op flag a′ b′ is js .cols
-  cols-same (Mxm monoid op) flag t = t refl .cols
-  cols-same (EwiseMult op) flag t = s .cols
-  cols-same (EwiseAdd op) flag t = s .cols
-  cols-same (Apply op) flag t = s .cols
-  cols-same Extract flag t = refl
+shapes-by : {p p′ q q′ r r′ : Shape} → p ≡ p′ → q ≡ q′ → r ≡ r′ → (l : Shape)
+    → shapesFrom p q r l ≡ shapesFrom p′ q′ r′ l
+shapes-by e f g l = rw (e, f, g)
 
-  -- the cells of T
-  pub cell-same : (op : Operation) (flag : Bool) → (hasSecond op ≡ true → Same b b′) → inputsAgree op a′ b′ ≡ true
-      → listsValid op a′ is js ≡ true → (i j : ℕ) → i < resultGrid op flag a′ b′ is js .rows
-      → j < resultGrid op flag a′ b′ is js .cols
-      → resultGrid op flag a b is js .cell i j ≡ resultGrid op flag a′ b′ is js .cell i j
+-- the grid of a T by what the operation asks for and its cells
+abbrev grid : Needs → (ℕ → ℕ → Cell) → Grid
+grid n cell = record { rows = n .result .rows; cols = n .result .cols; cell = cell }
+
+module _ (a a′ b b′ c c′ : Grid) (is js : List ℕ) (s : Same a a′) (u : Same c c′) where
+  -- the cells of T, within its shape
+  pub cell-same : (op : Operation) (flag : Bool) → (hasSecond op ≡ true → Same b b′)
+      → inputsAgree (shapesOf op a′ b′ c′ is js) (needsOf op (shapesOf op a′ b′ c′ is js)) ≡ true
+      → listsValid op (needsOf op (shapesOf op a′ b′ c′ is js) .bounds) is js ≡ true → (i j : ℕ)
+      → i < resultGrid op flag a′ b′ c′ is js .rows → j < resultGrid op flag a′ b′ c′ is js .cols
+      → resultCell op flag a b c is js i j ≡ resultCell op flag a′ b′ c′ is js i j
   cell-same (Mxm monoid op) flag t g v i j l m =
-      let e : a′ .cols ≡ b′ .rows = eqb-true _ _ g in
+      let e : b′ .rows ≡ a′ .cols = eqb-true _ _ (and-left _ _ (and-right _ _ g)) in
       ap (λ (n : ℕ). dot monoid op n (a .cell i) (λ k. b .cell k j)) (s .cols)
       ∙ dot-same monoid op (a′ .cols) _ _ _ _ (λ k q. s .cell i k l q) (λ k q. t refl .cell k j (omega arith) m)
   cell-same (EwiseMult op) flag t g v i j l m =
-      let e : a′ .rows ≡ b′ .rows = eqb-true _ _ (and-left _ _ g) in
-      let f : a′ .cols ≡ b′ .cols = eqb-true _ _ (and-right _ _ g) in
+      let e : b′ .rows ≡ a′ .rows = eqb-true _ _ (and-left _ _ (and-right _ _ g)) in
+      let f : b′ .cols ≡ a′ .cols = eqb-true _ _ (and-right _ _ (and-right _ _ g)) in
       ap (λ (x : Cell). intersect op x (b .cell i j)) (s .cell i j l m)
       ∙ ap (intersect op (a′ .cell i j)) (t refl .cell i j (omega arith) (omega arith))
   cell-same (EwiseAdd op) flag t g v i j l m =
-      let e : a′ .rows ≡ b′ .rows = eqb-true _ _ (and-left _ _ g) in
-      let f : a′ .cols ≡ b′ .cols = eqb-true _ _ (and-right _ _ g) in
+      let e : b′ .rows ≡ a′ .rows = eqb-true _ _ (and-left _ _ (and-right _ _ g)) in
+      let f : b′ .cols ≡ a′ .cols = eqb-true _ _ (and-right _ _ (and-right _ _ g)) in
       ap (λ (x : Cell). unite op x (b .cell i j)) (s .cell i j l m)
       ∙ ap (unite op (a′ .cell i j)) (t refl .cell i j (omega arith) (omega arith))
   cell-same (Apply op) flag t g v i j l m =
       ap (applyCell op (storedRow flag i j) (storedCol flag i j)) (s .cell i j l m)
   cell-same Extract flag t g v i j l m =
       s .cell (at is i) (at js j) (list-facts _ _ (and-left _ _ v) .below i l) (list-facts _ _ (and-right _ _ v) .below j m)
+
+  -- the shapes of a call
+  pub shapes-of-same : (op : Operation) → (hasSecond op ≡ true → Same b b′)
+      → shapesOf op a b c is js ≡ shapesOf op a′ b′ c′ is js
+  shapes-of-same op t =
+      shapes-by (shape-same a a′ s) (there-same (hasSecond op) b b′ t) (shape-same c c′ u)
+      (record { rows = length is; cols = length js })
+
+-- T, and the shapes, without a second input that the operation does not have
+module _ (a b b′ c : Grid) (is js : List ℕ) (op : Operation) (h : hasSecond op ≡ false) where
+  pub shapes-unread : shapesOf op a b c is js ≡ shapesOf op a b′ c is js
+  shapes-unread = rw h
+
+  pub second-unread : (flag : Bool) → resultGrid op flag a b c is js ≡ resultGrid op flag a b′ c is js
+  second-unread flag =
+      ap (λ (s : Shapes). grid (needsOf op s) (resultCell op flag a b c is js)) shapes-unread
+      ∙ ap (grid (needsOf op (shapesOf op a b′ c is js))) (second-cells flag a b b′ c is is js js op h)
+
+-- and without lists that it does not have
+module _ (a b c : Grid) (is is′ js js′ : List ℕ) (op : Operation) (h : hasLists op ≡ false) where
+  pub needs-unread : needsOf op (shapesOf op a b c is js) ≡ needsOf op (shapesOf op a b c is′ js′)
+  needs-unread = lists-needs op (shapesOf op a b c is js) _ h
+
+  pub lists-unread : (flag : Bool) → resultGrid op flag a b c is js ≡ resultGrid op flag a b c is′ js′
+  lists-unread flag =
+      ap (λ (n : Needs). grid n (resultCell op flag a b c is js)) needs-unread
+      ∙ ap (grid (needsOf op (shapesOf op a b c is′ js′))) (lists-cells flag a b b c is is′ js js′ op h)

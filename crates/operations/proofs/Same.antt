@@ -6,43 +6,38 @@ use mathlib.Core.List.{List}
 use mathlib.Core.Bool.{Bool, true, false, cond, not}
 use lib.Dec.{eqb}
 use borrow.Author.Tests.{eqb-true}
-use Rattle.words.specs.Tests.{_and_}
-use Rattle.words.proofs.Tests.{and-left, and-right}
+use Rattle.conditions.specs.Tests.{_and_}
+use Rattle.conditions.proofs.Tests.{and-left, and-right}
 use Rattle.grid.specs.declared.Cell.{Cell}
 use Rattle.grid.specs.declared.Cell.the-variants.{Absent}
 use Rattle.grid.specs.Grid.{Grid, Same}
 use Rattle.operations.specs.declared.Call.{Call}
-use Rattle.operations.specs.GridOperations.{oriented}
+use Rattle.operations.specs.declared.Shapes.{Shapes}
+use Rattle.operations.specs.GridOperations.{oriented, needsOf, shapeOf}
 use Rattle.operations.specs.declared.WriteBack.{WriteBack}
 use Rattle.operations.specs.WriteBacks.{accumulated, maskHolds, writeBack}
 use Rattle.operations.specs.Calls.{
   transposeFirst,
   transposeSecond,
   writeBackOf,
+  callShapes,
+  callNeeds,
   callResult,
   callFinal,
+  listsValid,
   indexesValid,
-  inputsAgree,
   sameShape,
+  inputsAgree,
+  shapesMeet,
   shapesAgree,
 }
-use Rattle.operations.proofs.Results.{agree-same, lists-same, rows-same, cols-same, cell-same}
+use Rattle.operations.proofs.Results.{shapes-of-same, cell-same}
 
 -- transposed alike
 oriented-same : (flag : Bool) (g h : Grid) → Same g h → Same (oriented flag g) (oriented flag h)
 oriented-same true g h s =
     record { rows = s .cols; cols = s .rows; cell = λ i j l m. s .cell j i m l }
 oriented-same false g h s = s
-
--- the test of two shapes
-shape-same : (g g′ h h′ : Grid) → g .rows ≡ g′ .rows → g .cols ≡ g′ .cols → h .rows ≡ h′ .rows → h .cols ≡ h′ .cols
-    → sameShape g h ≡ sameShape g′ h′
-shape-same g g′ h h′ p q r s = rw (p, q, r, s)
-
--- four tests together
-four-same : (p p′ q q′ r r′ s s′ : Bool) → p ≡ p′ → q ≡ q′ → r ≡ r′ → s ≡ s′
-    → (p and q and r and s) ≡ (p′ and q′ and r′ and s′)
-four-same p p′ q q′ r r′ s s′ e f g h = rw (e, f, g, h)
 
 -- what matters only where something is there
 where-there : (there p q : Bool) → (there ≡ true → p ≡ q) → cond there p true ≡ cond there q true
@@ -77,60 +72,51 @@ module _ (call : Call) (a a′ b b′ m m′ c c′ : Grid) (is js : List ℕ) (
   second : Same B B′
   second = oriented-same (transposeSecond call) b b′ sb
 
+  shapes-are : callShapes call a b c is js ≡ callShapes call a′ b′ c′ is js
+  shapes-are = shapes-of-same A A′ B B′ c c′ is js first sc (call .operation) (λ h. second)
+
   -- 7
-  pub indexes-same : indexesValid call a is js ≡ indexesValid call a′ is js
+  pub indexes-same : indexesValid call a b c is js ≡ indexesValid call a′ b′ c′ is js
   unfolding indexesValid
-  indexes-same = lists-same A A′ B B′ is js first (call .operation)
-
-  -- the shape of T
-  result-rows : callResult call a b is js .rows ≡ callResult call a′ b′ is js .rows
-  result-rows = rows-same A A′ B B′ is js first (call .operation) (transposeFirst call) (transposeFirst call)
-
-  result-cols : callResult call a b is js .cols ≡ callResult call a′ b′ is js .cols
-  result-cols = cols-same A A′ B B′ is js first (call .operation) (transposeFirst call) (λ h. second)
+  indexes-same = ap (λ (s : Shapes). listsValid (call .operation) (needsOf (call .operation) s .bounds) is js) shapes-are
 
   -- 8
   pub shapes-same : shapesAgree call a b m c is js ≡ shapesAgree call a′ b′ m′ c′ is js
   unfolding shapesAgree
   shapes-same =
-      four-same _ _ _ _ _ _ _ _
-      (ap (λ (r : ℕ). cond (call .«vector_first») (eqb r 1) true) (sa .rows))
-      (agree-same A A′ B B′ is js first (call .operation) (λ h. second))
-      (shape-same (callResult call a b is js) (callResult call a′ b′ is js) c c′
-      result-rows result-cols (sc .rows) (sc .cols))
-      (ap (λ (t : Bool). cond (call .«has_mask») t true)
-      (shape-same m m′ c c′ (sm .rows) (sm .cols) (sc .rows) (sc .cols)))
+      ap (λ (s : Shapes). shapesMeet call s (needsOf (call .operation) s) (shapeOf m)) shapes-are
+      ∙ ap (shapesMeet call (callShapes call a′ b′ c′ is js) (callNeeds call a′ b′ c′ is js)) (rw (sm .rows, sm .cols))
 
   -- the final C, where the shapes and the indexes are as they have to be
-  pub final-same : indexesValid call a′ is js ≡ true → shapesAgree call a′ b′ m′ c′ is js ≡ true
+  pub final-same : indexesValid call a′ b′ c′ is js ≡ true → shapesAgree call a′ b′ m′ c′ is js ≡ true
       → Same (callFinal call a b m c is js) (callFinal call a′ b′ m′ c′ is js)
   unfolding callFinal indexesValid shapesAgree
   final-same v w = record { rows = sc .rows; cols = sc .cols; cell = cells }
     where
-      agrees : inputsAgree (call .operation) A′ B′ ≡ true
+      agrees : inputsAgree (callShapes call a′ b′ c′ is js) (callNeeds call a′ b′ c′ is js) ≡ true
       agrees = and-left _ _ (and-right _ _ w)
 
-      shape : sameShape (callResult call a′ b′ is js) c′ ≡ true
+      shape : sameShape (callResult call a′ b′ c′ is js) c′ ≡ true
       shape = and-left _ _ (and-right _ _ (and-right _ _ w))
 
       mask : cond (call .«has_mask») (sameShape m′ c′) true ≡ true
       mask = and-right _ _ (and-right _ _ (and-right _ _ w))
 
       cells : (i j : ℕ) → i < c′ .rows → j < c′ .cols
-          → writeBack (writeBackOf call) (m .cell i j) (c .cell i j) (callResult call a b is js .cell i j)
-          ≡ writeBack (writeBackOf call) (m′ .cell i j) (c′ .cell i j) (callResult call a′ b′ is js .cell i j)
+          → writeBack (writeBackOf call) (m .cell i j) (c .cell i j) (callResult call a b c is js .cell i j)
+          ≡ writeBack (writeBackOf call) (m′ .cell i j) (c′ .cell i j) (callResult call a′ b′ c′ is js .cell i j)
       cells i j l n =
-          let e = eqb-true (callResult call a′ b′ is js .rows) (c′ .rows) (and-left _ _ shape) in
-          let f = eqb-true (callResult call a′ b′ is js .cols) (c′ .cols) (and-right _ _ shape) in
+          let e = eqb-true (callResult call a′ b′ c′ is js .rows) (c′ .rows) (and-left _ _ shape) in
+          let f = eqb-true (callResult call a′ b′ c′ is js .cols) (c′ .cols) (and-right _ _ shape) in
           let t =
-          cell-same A A′ B B′ is js first (call .operation) (transposeFirst call) (λ h. second) agrees v i j
+          cell-same A A′ B B′ c c′ is js first sc (call .operation) (transposeFirst call) (λ h. second) agrees v i j
           (omega arith) (omega arith) in
-          mask-same (writeBackOf call) (m .cell i j) (m′ .cell i j) (c .cell i j) (callResult call a b is js .cell i j)
+          mask-same (writeBackOf call) (m .cell i j) (m′ .cell i j) (c .cell i j) (callResult call a b c is js .cell i j)
           (λ h.
           let k = rw h at mask in
           let p = eqb-true (m′ .rows) (c′ .rows) (and-left _ _ k) in
           let q = eqb-true (m′ .cols) (c′ .cols) (and-right _ _ k) in
           sm .cell i j (omega arith) (omega arith))
-          ∙ ap (λ (x : Cell). writeBack (writeBackOf call) (m′ .cell i j) x (callResult call a b is js .cell i j))
+          ∙ ap (λ (x : Cell). writeBack (writeBackOf call) (m′ .cell i j) x (callResult call a b c is js .cell i j))
           (sc .cell i j l n)
           ∙ ap (writeBack (writeBackOf call) (m′ .cell i j) (c′ .cell i j)) t

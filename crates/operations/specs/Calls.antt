@@ -1,20 +1,21 @@
 -- A call of one of the six operations on plain grids: its flags, the shapes and indexes it asks for, and the final C
 -- (document 01, "Operators", "The six operations", "When the clerk turns a call away").
 use Prim.Native.Nat.{ℕ, _/_, _%_}
-use mathlib.Core.Path.{_≡_, refl}
 use mathlib.Core.List.{List}
 use mathlib.Core.Bool.{Bool, true, false, cond}
 use lib.ListN.{length}
 use lib.Dec.{leb, ltb, eqb}
 use Rattle.limits.specs.Limits.{maxList}
 use Rattle.words.specs.Words.{at}
-use Rattle.words.specs.Tests.{_and_, all}
+use Rattle.conditions.specs.Tests.{_and_, all}
 use Rattle.grid.specs.Grid.{Grid}
-use Rattle.operations.specs.GridOperations.{oriented, resultGrid}
+use Rattle.operations.specs.GridOperations.{oriented, inputsOf, needsOf, shapeOf, shapesOf, resultGrid}
 use Rattle.operations.specs.WriteBacks.{finalGrid}
 use Rattle.operations.specs.declared.Call.{Call}
 use Rattle.operations.specs.declared.Operation.{Operation}
-use Rattle.operations.specs.declared.Operation.the-variants.{Mxm, EwiseMult, EwiseAdd, Apply, Extract}
+use Rattle.operations.specs.declared.Needs.{Needs}
+use Rattle.operations.specs.declared.Shape.{Shape}
+use Rattle.operations.specs.declared.Shapes.{Shapes}
 use Rattle.operations.specs.declared.WriteBack.{WriteBack}
 
 -- "Flags add up: 1 replace, 2 complement the mask, 4 structural mask, 8 transpose the first input, 16 transpose the
@@ -38,64 +39,59 @@ writeBackOf call = record {
   accumulator = call .accumulator;
 }
 
--- whether an operation has a second input
+-- whether an operation has a second input, and whether it has index lists
 abbrev pub hasSecond : Operation → Bool
-hasSecond (Mxm monoid op) = true
-hasSecond (EwiseMult op) = true
-hasSecond (EwiseAdd op) = true
-hasSecond (Apply op) = false
-hasSecond Extract = false
+hasSecond op = inputsOf op .second
 
--- whether it has index lists
 abbrev pub hasLists : Operation → Bool
-hasLists (Mxm monoid op) = false
-hasLists (EwiseMult op) = false
-hasLists (EwiseAdd op) = false
-hasLists (Apply op) = false
-hasLists Extract = true
+hasLists op = inputsOf op .lists
 
--- T, of the inputs a and b as stored
-abbrev pub callResult : Call → Grid → Grid → List ℕ → List ℕ → Grid
-callResult call a b is js =
+-- the shapes of a call on the inputs a and b as stored, and what its operation asks of them
+abbrev pub callShapes : Call → Grid → Grid → Grid → List ℕ → List ℕ → Shapes
+callShapes call a b c is js =
+    shapesOf (call .operation) (oriented (transposeFirst call) a) (oriented (transposeSecond call) b) c is js
+
+abbrev pub callNeeds : Call → Grid → Grid → Grid → List ℕ → List ℕ → Needs
+callNeeds call a b c is js = needsOf (call .operation) (callShapes call a b c is js)
+
+-- T, of the inputs a and b as stored and the old C
+abbrev pub callResult : Call → Grid → Grid → Grid → List ℕ → List ℕ → Grid
+callResult call a b c is js =
     resultGrid (call .operation) (transposeFirst call) (oriented (transposeFirst call) a) (oriented (transposeSecond call) b)
-    is js
+    c is js
 
 -- the final C, of the inputs, the mask and the old C
 unfoldable pub callFinal : Call → Grid → Grid → Grid → Grid → List ℕ → List ℕ → Grid
-callFinal call a b m c is js = finalGrid (writeBackOf call) m c (callResult call a b is js)
+callFinal call a b m c is js = finalGrid (writeBackOf call) m c (callResult call a b c is js)
 
 -- not 7: the list has 1 to 512 indexes, each below n
 unfoldable pub listValid : ℕ → List ℕ → Bool
 listValid n l = leb 1 (length l) and leb (length l) maxList and all (length l) (λ k. ltb (at l k) n)
 
--- not 7: "past A (as transposed)", where there are lists
-abbrev pub listsValid : Operation → Grid → List ℕ → List ℕ → Bool
-listsValid op a is js = cond (hasLists op) (listValid (a .rows) is and listValid (a .cols) js) true
+-- not 7, where there are lists: each index stays below its bound
+abbrev pub listsValid : Operation → Shape → List ℕ → List ℕ → Bool
+listsValid op bounds is js = cond (hasLists op) (listValid (bounds .rows) is and listValid (bounds .cols) js) true
 
-unfoldable pub indexesValid : Call → Grid → List ℕ → List ℕ → Bool
-indexesValid call a is js = listsValid (call .operation) (oriented (transposeFirst call) a) is js
+unfoldable pub indexesValid : Call → Grid → Grid → Grid → List ℕ → List ℕ → Bool
+indexesValid call a b c is js = listsValid (call .operation) (callNeeds call a b c is js .bounds) is js
 
--- not 8: "shapes of inputs, mask, C and T disagree; no strip where one is due"
+abbrev pub matches : Shape → Shape → Bool
+matches s t = eqb (s .rows) (t .rows) and eqb (s .cols) (t .cols)
+
 abbrev pub sameShape : Grid → Grid → Bool
-sameShape g h = eqb (g .rows) (h .rows) and eqb (g .cols) (h .cols)
+sameShape g h = matches (shapeOf g) (shapeOf h)
 
-abbrev pub inputsAgree : Operation → Grid → Grid → Bool
-inputsAgree (Mxm monoid op) a b = eqb (a .cols) (b .rows)
-inputsAgree (EwiseMult op) a b = sameShape a b
-inputsAgree (EwiseAdd op) a b = sameShape a b
-inputsAgree (Apply op) a b = true
-inputsAgree Extract a b = true
+-- the inputs have the shapes that the operation asks for
+abbrev pub inputsAgree : Shapes → Needs → Bool
+inputsAgree s n = matches (s .first) (n .first) and matches (s .second) (n .second)
+
+-- not 8: "shapes of inputs, mask, C and T disagree; no strip where one is due", of the shapes and the mask's
+abbrev pub shapesMeet : Call → Shapes → Needs → Shape → Bool
+shapesMeet call s n mask =
+    cond (call .«vector_first») (eqb (s .first .rows) 1) true
+    and inputsAgree s n
+    and matches (n .result) (s .output)
+    and cond (call .«has_mask») (matches mask (s .output)) true
 
 unfoldable pub shapesAgree : Call → Grid → Grid → Grid → Grid → List ℕ → List ℕ → Bool
-shapesAgree call a b m c is js =
-    cond (call .«vector_first») (eqb (a .rows) 1) true
-    and inputsAgree (call .operation) (oriented (transposeFirst call) a) (oriented (transposeSecond call) b)
-    and sameShape (callResult call a b is js) c
-    and cond (call .«has_mask») (sameShape m c) true
-
--- 24 is 8 and 16
-flag-set : flagSet 8 24 ≡ true
-flag-set = refl
-
-flag-not-set : flagSet 4 24 ≡ false
-flag-not-set = refl
+shapesAgree call a b m c is js = shapesMeet call (callShapes call a b c is js) (callNeeds call a b c is js) (shapeOf m)

@@ -1,16 +1,19 @@
--- T for each operation on plain grids (document 01, "The six operations"): "T is worked out first, in every place (i, j)".
+-- What each operation is, on plain grids (document 01, "The six operations"): which inputs it has, the shapes that it asks
+-- for, and T: "T is worked out first, in every place (i, j)". Whatever else depends on the operation follows from these.
 use Prim.Native.Nat.{ℕ}
 use mathlib.Core.List.{List}
-use mathlib.Core.Bool.{Bool, true, false}
+use mathlib.Core.Bool.{Bool, true, false, cond}
 use lib.ListN.{length}
 use Rattle.words.specs.Words.{at}
+use Rattle.grid.specs.declared.Cell.{Cell}
 use Rattle.grid.specs.Grid.{Grid}
-use Rattle.operators.specs.declared.ApplyOp.{ApplyOp}
-use Rattle.operators.specs.declared.BinaryOp.{BinaryOp}
-use Rattle.operators.specs.declared.Monoid.{Monoid}
 use Rattle.operations.specs.CellOperations.{intersect, unite, dot, applyCell}
 use Rattle.operations.specs.declared.Operation.{Operation}
 use Rattle.operations.specs.declared.Operation.the-variants.{Mxm, EwiseMult, EwiseAdd, Apply, Extract}
+use Rattle.operations.specs.declared.Inputs.{Inputs}
+use Rattle.operations.specs.declared.Shape.{Shape}
+use Rattle.operations.specs.declared.Shapes.{Shapes}
+use Rattle.operations.specs.declared.Needs.{Needs}
 
 -- a grid with rows and columns exchanged
 abbrev pub transposed : Grid → Grid
@@ -21,21 +24,35 @@ abbrev pub oriented : Bool → Grid → Grid
 oriented true g = transposed g
 oriented false g = g
 
--- the product, and the strip times a sheet with the strip as first input
-abbrev pub mxmGrid : Monoid → BinaryOp → Grid → Grid → Grid
-mxmGrid monoid op a b = record {
-  rows = a .rows;
-  cols = b .cols;
-  cell = λ i j. dot monoid op (a .cols) (a .cell i) (λ k. b .cell k j);
-}
+infixr 30 _by_
+-- rows by columns
+abbrev pub _by_ : ℕ → ℕ → Shape
+_by_ r c = record { rows = r; cols = c }
 
--- the intersection
-abbrev pub ewiseMultGrid : BinaryOp → Grid → Grid → Grid
-ewiseMultGrid op a b = record { rows = a .rows; cols = a .cols; cell = λ i j. intersect op (a .cell i j) (b .cell i j) }
+-- which inputs an operation has beside the first
+abbrev pub inputsOf : Operation → Inputs
+inputsOf (Mxm monoid op) = record { second = true; lists = false }
+inputsOf (EwiseMult op) = record { second = true; lists = false }
+inputsOf (EwiseAdd op) = record { second = true; lists = false }
+inputsOf (Apply op) = record { second = false; lists = false }
+inputsOf Extract = record { second = false; lists = true }
 
--- the union
-abbrev pub ewiseAddGrid : BinaryOp → Grid → Grid → Grid
-ewiseAddGrid op a b = record { rows = a .rows; cols = a .cols; cell = λ i j. unite op (a .cell i j) (b .cell i j) }
+-- What it asks of the shapes of a call, which are those of the inputs as their flags ask and of the old C, and the lengths
+-- of the lists: the shapes of its inputs (one that may have any shape is asked for its own), the bounds of the indexes
+-- (where there are lists), and T's shape.
+abbrev pub asks : Shape → Shape → Shape → Shape → Needs
+asks first second bounds result = record { first = first; second = second; bounds = bounds; result = result }
+
+abbrev pub needsOf : Operation → Shapes → Needs
+-- "A(i,k) and B(k,j)": A has as many columns as B has rows
+needsOf (Mxm monoid op) s =
+    asks (s .first) (s .first .cols by s .second .cols) (s .first) (s .first .rows by s .second .cols)
+-- "where both are present": one shape
+needsOf (EwiseMult op) s = asks (s .first) (s .first) (s .first) (s .first)
+needsOf (EwiseAdd op) s = asks (s .first) (s .first) (s .first) (s .first)
+needsOf (Apply op) s = asks (s .first) (s .second) (s .first) (s .first)
+-- "T(i,j) = A(I[i], J[j])"; an index "past A (as transposed)" is refused
+needsOf Extract s = asks (s .first) (s .second) (s .first) (s .lists)
 
 -- apply, where a is the input as its flag asks: "Row and column numbers here are those of the sheet as stored, before any
 -- transposing"
@@ -47,21 +64,39 @@ abbrev pub storedCol : Bool → ℕ → ℕ → ℕ
 storedCol true i j = i
 storedCol false i j = j
 
-abbrev pub applyGrid : ApplyOp → Bool → Grid → Grid
-applyGrid op flag a = record {
-  rows = a .rows;
-  cols = a .cols;
-  cell = λ i j. applyCell op (storedRow flag i j) (storedCol flag i j) (a .cell i j);
+-- the cell of T at (i, j): of the transpose flag of the first input, both inputs as their flags ask, the old C, and the
+-- index lists
+abbrev pub resultCell : Operation → Bool → Grid → Grid → Grid → List ℕ → List ℕ → ℕ → ℕ → Cell
+-- the product, and the strip times a sheet with the strip as first input
+resultCell (Mxm monoid op) flag a b c is js i j = dot monoid op (a .cols) (a .cell i) (λ k. b .cell k j)
+-- the intersection
+resultCell (EwiseMult op) flag a b c is js i j = intersect op (a .cell i j) (b .cell i j)
+-- the union
+resultCell (EwiseAdd op) flag a b c is js i j = unite op (a .cell i j) (b .cell i j)
+resultCell (Apply op) flag a b c is js i j = applyCell op (storedRow flag i j) (storedCol flag i j) (a .cell i j)
+-- "T(i,j) = A(I[i], J[j])"
+resultCell Extract flag a b c is js i j = a .cell (at is i) (at js j)
+
+abbrev pub shapeOf : Grid → Shape
+shapeOf g = g .rows by g .cols
+
+-- stands for the shape of a second input where there is none
+abbrev pub noShape : Shape
+noShape = 0 by 0
+
+-- the shapes of an operation on the inputs a and b as their flags ask, with the old C and the lists
+abbrev pub shapesOf : Operation → Grid → Grid → Grid → List ℕ → List ℕ → Shapes
+shapesOf op a b c is js = record {
+  first = shapeOf a;
+  second = cond (inputsOf op .second) (shapeOf b) noShape;
+  output = shapeOf c;
+  lists = length is by length js;
 }
 
--- "T(i,j) = A(I[i], J[j])"
-abbrev pub extractGrid : List ℕ → List ℕ → Grid → Grid
-extractGrid is js a = record { rows = length is; cols = length js; cell = λ i j. a .cell (at is i) (at js j) }
-
--- T of any of them: the transpose flag of the first input, both inputs as their flags ask, and the index lists
-abbrev pub resultGrid : Operation → Bool → Grid → Grid → List ℕ → List ℕ → Grid
-resultGrid (Mxm monoid op) flag a b is js = mxmGrid monoid op a b
-resultGrid (EwiseMult op) flag a b is js = ewiseMultGrid op a b
-resultGrid (EwiseAdd op) flag a b is js = ewiseAddGrid op a b
-resultGrid (Apply op) flag a b is js = applyGrid op flag a
-resultGrid Extract flag a b is js = extractGrid is js a
+-- T
+abbrev pub resultGrid : Operation → Bool → Grid → Grid → Grid → List ℕ → List ℕ → Grid
+resultGrid op flag a b c is js = record {
+  rows = needsOf op (shapesOf op a b c is js) .result .rows;
+  cols = needsOf op (shapesOf op a b c is js) .result .cols;
+  cell = resultCell op flag a b c is js;
+}

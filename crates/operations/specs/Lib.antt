@@ -3,3 +3,4 @@ pub mod GridOperations
 pub mod WriteBacks
 pub mod Calls
 pub mod Lists
+pub mod Examples

@@ -1,7 +1,10 @@
-// The six operations as values: what T is, and how it is written back. Their meaning on plain grids is in specs/.
+// The six operations as values: what each has and asks for, what T is, and how it is written back. Their meaning on plain
+// grids is in specs/.
 use operators::ApplyOp;
 use operators::BinaryOp;
 use operators::Monoid;
+ghost use mathlib.Core.Path.{_≡_};
+ghost use Rattle.operations.specs.GridOperations.{inputsOf, asks, needsOf};
 
 // Document 01's operations that give a T. A vector times a matrix is the product with a first input of one row.
 pub enum Operation {
@@ -37,4 +40,92 @@ pub struct Call {
     pub vector_first: bool,
     pub has_mask: bool,
     pub accumulator: Accumulator,
+}
+
+// The rows and columns of a matrix.
+pub struct Shape {
+    pub rows: usize,
+    pub cols: usize,
+}
+
+// Which inputs an operation has beside the first: a second one, index lists.
+pub struct Inputs {
+    pub second: bool,
+    pub lists: bool,
+}
+
+// The shapes of a call: of the inputs as their flags ask, of the old C, and the lengths of the two index lists.
+pub struct Shapes {
+    pub first: Shape,
+    pub second: Shape,
+    pub output: Shape,
+    pub lists: Shape,
+}
+
+// What an operation asks of them: the shapes that its inputs have to have, the bounds of the indexes, and T's shape.
+pub struct Needs {
+    pub first: Shape,
+    pub second: Shape,
+    pub bounds: Shape,
+    pub result: Shape,
+}
+
+// Which inputs an operation has.
+pub fn inputs_of(operation: Operation) -> Inputs
+    ensures { λ r. ⌜ (r .second ≡ inputsOf operation .second) × (r .lists ≡ inputsOf operation .lists) ⌝ }
+{
+    let alone = Inputs {
+        second: false,
+        lists: false,
+    };
+    let with_second = Inputs {
+        second: true,
+        lists: false,
+    };
+    let with_lists = Inputs {
+        second: false,
+        lists: true,
+    };
+    match operation {
+        Operation::Mxm(_, _) => with_second,
+        Operation::EwiseMult(_) => with_second,
+        Operation::EwiseAdd(_) => with_second,
+        Operation::Apply(_) => alone,
+        Operation::Extract => with_lists,
+    }
+}
+
+// What an operation asks of the shapes of its call. An input that may have any shape is asked for its own.
+pub fn needs_of(operation: Operation, shapes: Shapes) -> Needs
+    ensures { λ r. ⌜ r ≡ needsOf operation shapes ⌝ }
+{
+    let a = shapes.first;
+    let b = shapes.second;
+    let lists = shapes.lists;
+    let inner = Shape {
+        rows: a.cols,
+        cols: b.cols,
+    };
+    let outer = Shape {
+        rows: a.rows,
+        cols: b.cols,
+    };
+    match operation {
+        Operation::Mxm(_, _) => asking(a, inner, a, outer),
+        Operation::EwiseMult(_) => asking(a, a, a, a),
+        Operation::EwiseAdd(_) => asking(a, a, a, a),
+        Operation::Apply(_) => asking(a, b, a, a),
+        Operation::Extract => asking(a, b, a, lists),
+    }
+}
+
+fn asking(first: Shape, second: Shape, bounds: Shape, result: Shape) -> Needs
+    ensures { λ r. ⌜ r ≡ asks first second bounds result ⌝ }
+{
+    Needs {
+        first: first,
+        second: second,
+        bounds: bounds,
+        result: result,
+    }
 }

@@ -13,17 +13,20 @@ use Rattle.answers.specs.Refusals.{
   invalidShape,
   workspaceTooShort,
 }
-use Rattle.words.specs.Tests.{_and_}
+use Rattle.conditions.specs.Tests.{_and_}
 use Rattle.grid.specs.Grid.{Grid}
 use Rattle.operations.specs.declared.Call.{Call}
-use Rattle.operations.specs.Calls.{hasSecond, indexesValid, shapesAgree}
+use Rattle.operations.specs.declared.Needs.{Needs}
+use Rattle.operations.specs.declared.Shapes.{Shapes}
+use Rattle.operations.specs.GridOperations.{needsOf, shapeOf}
+use Rattle.operations.specs.Calls.{hasSecond, callShapes, listsValid, indexesValid, shapesMeet, shapesAgree}
 use Rattle.matrix.specs.Layout.{workspaceWords, gridOf}
 use Rattle.matrix.specs.Valid.{valid}
 use Rattle.matrix.proofs.Facts.{matrix-facts}
-use Rattle.requests.specs.Cases.{Case, numberCases, agreementCases, numbersRefusal, agreementRefusal}
+use Rattle.refusals.specs.Cases.{Case, numberCases, agreementCases, numbersRefusal, agreementRefusal}
 use Rattle.requests.specs.Refusal.{matrixCases, matricesRefusal, inputRefusal}
 use Rattle.requests.specs.Inputs.{Valid, Ready}
-use Rattle.requests.proofs.Cases.{later, applying-first, applying-rest, applying-none, Numbered}
+use Rattle.refusals.proofs.Cases.{later, applying-first, applying-rest, applying-none, Numbered}
 
 -- what is there and not valid, from the test whether it is valid or not there
 absent-or : (there ok : Bool) {v : Bool} → cond there ok true ≡ v → (there and not ok) ≡ not v
@@ -65,14 +68,25 @@ module _ (call : Call) (a b m c : List ℕ) where
         all-valid h₆ =
             rw (h₃, absent-or (hasSecond (call .operation)) (valid b) h₄, absent-or (call .«has_mask») (valid m) h₅, h₆)
 
+-- the tests of lists and of shapes, as the code makes them: of shapes, and of what the operation asks for, in variables
+module _ (call : Call) (a b c : Grid) (is js : List ℕ) (s : Shapes) (n : Needs) (e : s ≡ callShapes call a b c is js)
+    (f : n ≡ needsOf (call .operation) s) where
+  pub lists-tested : {v : Bool} → listsValid (call .operation) (n .bounds) is js ≡ v → indexesValid call a b c is js ≡ v
+  unfolding indexesValid
+  lists-tested h = rw (f, e) at h
+
+  pub shapes-tested : (m : Grid) {v : Bool} → shapesMeet call s n (shapeOf m) ≡ v → shapesAgree call a b m c is js ≡ v
+  unfolding shapesAgree
+  shapes-tested m h = rw (f, e) at h
+
 -- each of 7 to 9
 module _ (call : Call) (a b m c : Grid) (is js : List ℕ) (work : ℕ) where
-  pub index-refused : indexesValid call a is js ≡ false
+  pub index-refused : indexesValid call a b c is js ≡ false
       → indexOutOfBounds ≡ agreementRefusal call a b m c is js work
   unfolding agreementRefusal
   index-refused h₇ = rw h₇
 
-  module _ (h₇ : indexesValid call a is js ≡ true) where
+  module _ (h₇ : indexesValid call a b c is js ≡ true) where
     pub shape-refused : shapesAgree call a b m c is js ≡ false
         → invalidShape ≡ agreementRefusal call a b m c is js work
     unfolding agreementRefusal

@@ -18,5 +18,5 @@ pub record Valid (call : Call) (a b m c : List ℕ) : Type 0 where
 -- and their shapes and the lists agree
 pub record Ready (call : Call) (a b m c is js : List ℕ) : Type 0 where
   pub inputs : Valid call a b m c
-  pub indexes : indexesValid call (gridOf a) is js ≡ true
+  pub indexes : indexesValid call (gridOf a) (gridOf b) (gridOf c) is js ≡ true
   pub shapes : shapesAgree call (gridOf a) (gridOf b) (gridOf m) (gridOf c) is js ≡ true

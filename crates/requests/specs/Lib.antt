@@ -1,4 +1,2 @@
-pub mod Cases
 pub mod Refusal
 pub mod Inputs
-pub mod Shapes

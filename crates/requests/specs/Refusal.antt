@@ -4,14 +4,14 @@ use mathlib.Core.List.{List, [], _∷_, _++_}
 use mathlib.Core.Bool.{not}
 use lib.ListN.{length}
 use Rattle.answers.specs.Refusals.{invalidFirst, invalidSecond, invalidMask, invalidOutput}
-use Rattle.words.specs.Tests.{_and_}
+use Rattle.conditions.specs.Tests.{_and_}
 use Rattle.grid.specs.Grid.{Grid}
 use Rattle.operations.specs.declared.Call.{Call}
 use Rattle.operations.specs.Calls.{hasSecond, callFinal}
 use Rattle.matrix.specs.Layout.{gridOf}
 use Rattle.matrix.specs.Valid.{valid}
 use Rattle.encoding.specs.Encode.{gridSize}
-use Rattle.requests.specs.Cases.{Case, given, firstApplying, numberCases, agreementCases, outputCases, firstOf}
+use Rattle.refusals.specs.Cases.{Case, given, firstApplying, numberCases, agreementCases, outputCases, firstOf}
 
 -- 3 to 6: the words of a, b, mask and old C
 abbrev pub matrixCases : Call → List ℕ → List ℕ → List ℕ → List ℕ → List Case

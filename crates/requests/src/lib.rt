@@ -14,22 +14,24 @@ use matrix::layout::COLS_AT;
 use matrix::layout::ROWS_AT;
 use matrix::layout::WORKSPACE_WORDS;
 use operations::Call;
+use operations::Needs;
 use operations::Operation;
+use operations::Shape;
+use operations::Shapes;
 ghost use mathlib.Core.Path.{_≡_};
 ghost use mathlib.Core.Bool.{true, cond};
 ghost use Prim.Native.Nat.{_<_};
 ghost use lib.Dec.{eqb};
-ghost use Rattle.words.specs.Tests.{_and_};
+ghost use Rattle.conditions.specs.Tests.{_and_};
 ghost use Rattle.matrix.specs.Layout.{gridOf};
 ghost use Rattle.matrix.specs.Valid.{valid};
 ghost use Rattle.matrix.specs.Facts.{Matrix};
-ghost use Rattle.operations.specs.Calls.{flagSet, transposeFirst, transposeSecond, hasSecond, hasLists};
-ghost use Rattle.operations.specs.Calls.{listValid, indexesValid, shapesAgree};
-ghost use Rattle.operations.specs.GridOperations.{oriented};
-ghost use Rattle.requests.specs.Cases.{numbersRefusal, agreementRefusal};
+ghost use Rattle.operations.specs.Calls.{flagSet, transposeFirst, transposeSecond, hasSecond, hasLists, callShapes};
+ghost use Rattle.operations.specs.Calls.{listValid, listsValid, matches, inputsAgree, shapesMeet};
+ghost use Rattle.operations.specs.GridOperations.{oriented, shapeOf, noShape};
+ghost use Rattle.refusals.specs.Cases.{numbersRefusal, agreementRefusal};
 ghost use Rattle.requests.specs.Refusal.{matricesRefusal, inputRefusal};
 ghost use Rattle.requests.specs.Inputs.{Valid};
-ghost use Rattle.requests.specs.Shapes.{shapeOf, productAgrees, allSame, resultAgrees, maskAgrees};
 
 // The lowest of the refusals 1 to 9 that applies, or 0.
 pub fn input_refusal(
@@ -105,10 +107,13 @@ pub fn agreement_refusal(
     ensures { λ r. ⌜ r ≡ agreementRefusal call (gridOf (now (a .entry))) (gridOf (now (b .entry)))
         (gridOf (now (mask .entry))) (gridOf (now (c .entry))) (now (is .entry)) (now (js .entry)) work ⌝ }
 {
-    if !indexes_valid(call, a, is, js) {
+    let operation = call.operation;
+    let shapes = shapes_of(call, a, b, c, is, js);
+    let needs = operations::needs_of(operation, shapes);
+    if !indexes_valid(operation, needs, is, js) {
         return INDEX_OUT_OF_BOUNDS;
     }
-    if !shapes_agree(call, a, b, mask, c, is, js) {
+    if !shapes_agree(call, shapes, needs, mask) {
         return INVALID_SHAPE;
     }
     if work < WORKSPACE_WORDS {
@@ -117,36 +122,20 @@ pub fn agreement_refusal(
     0
 }
 
-// The rows and columns of a matrix, as its transpose flag asks.
-pub struct Shape {
-    pub rows: usize,
-    pub cols: usize,
-}
-
 // Whether an operation has a second input.
 pub fn has_second(operation: Operation) -> bool
     ensures { λ r. ⌜ r ≡ hasSecond operation ⌝ }
 {
-    match operation {
-        Operation::Mxm(_, _) => true,
-        Operation::EwiseMult(_) => true,
-        Operation::EwiseAdd(_) => true,
-        Operation::Apply(_) => false,
-        Operation::Extract => false,
-    }
+    let inputs = operations::inputs_of(operation);
+    inputs.second
 }
 
 // Whether it has index lists.
 fn has_lists(operation: Operation) -> bool
     ensures { λ r. ⌜ r ≡ hasLists operation ⌝ }
 {
-    match operation {
-        Operation::Mxm(_, _) => false,
-        Operation::EwiseMult(_) => false,
-        Operation::EwiseAdd(_) => false,
-        Operation::Apply(_) => false,
-        Operation::Extract => true,
-    }
+    let inputs = operations::inputs_of(operation);
+    inputs.lists
 }
 
 // Whether a flag is set.
@@ -217,25 +206,44 @@ fn list_valid(list: &[u32], n: usize) -> bool
     true
 }
 
-// The index lists, where the operation has them, fit the first input.
-fn indexes_valid(call: Call, a: &[u32], is: &[u32], js: &[u32]) -> bool
-    requires { ⌜ Matrix (now a) ⌝ }
-    ensures { λ r. ⌜ r ≡ indexesValid call (gridOf (now (a .entry))) (now (is .entry)) (now (js .entry)) ⌝ }
+// The index lists, where the operation has them, stay below their bounds.
+fn indexes_valid(operation: Operation, needs: Needs, is: &[u32], js: &[u32]) -> bool
+    ensures { λ r. ⌜ r ≡ listsValid operation (needs .bounds) (now (is .entry)) (now (js .entry)) ⌝ }
 {
-    let operation = call.operation;
     if !has_lists(operation) {
         return true;
     }
-    lists_valid(shape_of(a, transpose_first(call)), is, js)
+    let bounds = needs.bounds;
+    lists_valid(bounds, is, js)
 }
 
-fn lists_valid(first: Shape, is: &[u32], js: &[u32]) -> bool
-    ensures { λ r. ⌜ r ≡ (listValid (first .rows) (now (is .entry)) and listValid (first .cols) (now (js .entry))) ⌝ }
+fn lists_valid(bounds: Shape, is: &[u32], js: &[u32]) -> bool
+    ensures { λ r. ⌜ r ≡ (listValid (bounds .rows) (now (is .entry)) and listValid (bounds .cols) (now (js .entry))) ⌝ }
 {
-    if !list_valid(is, first.rows) {
+    if !list_valid(is, bounds.rows) {
         return false;
     }
-    list_valid(js, first.cols)
+    list_valid(js, bounds.cols)
+}
+
+// The shapes of the call.
+fn shapes_of(call: Call, a: &[u32], b: &[u32], c: &[u32], is: &[u32], js: &[u32]) -> Shapes
+    requires { ⌜ Matrix (now a) ⌝ ∗ ⌜ (hasSecond (call .operation) ≡ true → Matrix (now b)) ⌝ ∗ ⌜ Matrix (now c) ⌝ }
+    ensures { λ r. ⌜ r ≡ callShapes call (gridOf (now (a .entry))) (gridOf (now (b .entry))) (gridOf (now (c .entry)))
+        (now (is .entry)) (now (js .entry)) ⌝ }
+{
+    let first = shape_of(a, transpose_first(call));
+    let second = second_shape(call, b);
+    let output = shape_of(c, false);
+    Shapes {
+        first: first,
+        second: second,
+        output: output,
+        lists: Shape {
+            rows: is.len(),
+            cols: js.len(),
+        },
+    }
 }
 
 // The shape of a valid matrix, or of its transpose.
@@ -258,7 +266,7 @@ fn shape_of(words: &[u32], transposed: bool) -> Shape
 }
 
 fn same_shape(a: Shape, b: Shape) -> bool
-    ensures { λ r. ⌜ r ≡ (eqb (a .rows) (b .rows) and eqb (a .cols) (b .cols)) ⌝ }
+    ensures { λ r. ⌜ r ≡ matches a b ⌝ }
 {
     let rows = a.rows;
     let other = b.rows;
@@ -268,57 +276,11 @@ fn same_shape(a: Shape, b: Shape) -> bool
     a.cols == b.cols
 }
 
-// The shapes of the inputs agree, and T has C's shape.
-fn result_agrees(
-    operation: Operation,
-    first: Shape,
-    second: Shape,
-    is: usize,
-    js: usize,
-    c: Shape,
-) -> bool
-    ensures { λ r. ⌜ r ≡ resultAgrees operation first second is js c ⌝ }
-{
-    match operation {
-        Operation::Mxm(_, _) => product_agrees(first, second, c),
-        Operation::EwiseMult(_) => all_same(first, second, c),
-        Operation::EwiseAdd(_) => all_same(first, second, c),
-        Operation::Apply(_) => same_shape(first, c),
-        Operation::Extract => same_shape(Shape { rows: is, cols: js }, c),
-    }
-}
-
-fn product_agrees(first: Shape, second: Shape, c: Shape) -> bool
-    ensures { λ r. ⌜ r ≡ productAgrees first second c ⌝ }
-{
-    let inner = first.cols;
-    let second_rows = second.rows;
-    if inner != second_rows {
-        return false;
-    }
-    same_shape(
-        Shape {
-            rows: first.rows,
-            cols: second.cols,
-        },
-        c,
-    )
-}
-
-fn all_same(first: Shape, second: Shape, c: Shape) -> bool
-    ensures { λ r. ⌜ r ≡ allSame first second c ⌝ }
-{
-    if !same_shape(first, second) {
-        return false;
-    }
-    same_shape(first, c)
-}
-
-// The shape of the second input as its flag asks; where there is none, any shape.
+// The shape of the second input as its flag asks, where there is one.
 fn second_shape(call: Call, b: &[u32]) -> Shape
     requires { ⌜ (hasSecond (call .operation) ≡ true → Matrix (now b)) ⌝ }
-    ensures { λ r. ⌜ (hasSecond (call .operation) ≡ true → r ≡ shapeOf
-        (oriented (transposeSecond call) (gridOf (now (b .entry))))) ⌝ }
+    ensures { λ r. ⌜ r ≡ cond (hasSecond (call .operation))
+        (shapeOf (oriented (transposeSecond call) (gridOf (now (b .entry))))) noShape ⌝ }
 {
     let operation = call.operation;
     if !has_second(operation) {
@@ -342,7 +304,7 @@ fn vector_agrees(call: Call, first: Shape) -> bool
 // The mask, where there is one, has C's shape.
 fn mask_agrees(call: Call, mask: &[u32], c: Shape) -> bool
     requires { ⌜ (call .«has_mask» ≡ true → Matrix (now mask)) ⌝ }
-    ensures { λ r. ⌜ r ≡ maskAgrees call (gridOf (now (mask .entry))) c ⌝ }
+    ensures { λ r. ⌜ r ≡ cond (call .«has_mask») (matches (shapeOf (gridOf (now (mask .entry)))) c) true ⌝ }
 {
     let has_mask = call.has_mask;
     if !has_mask {
@@ -352,34 +314,35 @@ fn mask_agrees(call: Call, mask: &[u32], c: Shape) -> bool
 }
 
 // The shapes of inputs, mask, C and T agree.
-fn shapes_agree(
-    call: Call,
-    a: &[u32],
-    b: &[u32],
-    mask: &[u32],
-    c: &[u32],
-    is: &[u32],
-    js: &[u32],
-) -> bool
-    requires { ⌜ Valid call (now a) (now b) (now mask) (now c) ⌝ }
-    ensures { λ r. ⌜ r ≡ shapesAgree call (gridOf (now (a .entry))) (gridOf (now (b .entry)))
-        (gridOf (now (mask .entry))) (gridOf (now (c .entry))) (now (is .entry)) (now (js .entry)) ⌝ }
+fn shapes_agree(call: Call, shapes: Shapes, needs: Needs, mask: &[u32]) -> bool
+    requires { ⌜ (call .«has_mask» ≡ true → Matrix (now mask)) ⌝ }
+    ensures { λ r. ⌜ r ≡ shapesMeet call shapes needs (shapeOf (gridOf (now (mask .entry)))) ⌝ }
 {
-    let first = shape_of(a, transpose_first(call));
+    let first = shapes.first;
     if !vector_agrees(call, first) {
         return false;
     }
-    let output = shape_of(c, false);
-    let operation = call.operation;
-    if !result_agrees(
-        operation,
-        first,
-        second_shape(call, b),
-        is.len(),
-        js.len(),
-        output,
-    ) {
+    if !inputs_agree(shapes, needs) {
+        return false;
+    }
+    let output = shapes.output;
+    let result = needs.result;
+    if !same_shape(result, output) {
         return false;
     }
     mask_agrees(call, mask, output)
+}
+
+// The inputs have the shapes that the operation asks for.
+fn inputs_agree(shapes: Shapes, needs: Needs) -> bool
+    ensures { λ r. ⌜ r ≡ inputsAgree shapes needs ⌝ }
+{
+    let first = shapes.first;
+    let first_needed = needs.first;
+    if !same_shape(first, first_needed) {
+        return false;
+    }
+    let second = shapes.second;
+    let second_needed = needs.second;
+    same_shape(second, second_needed)
 }

@@ -1,14 +1,14 @@
 -- What each operation's row needs, from what is known of the call's inputs.
 use Prim.Native.Nat.{ℕ, _≤_, _<_}
 use native.Mathlib.Omega.{arith}
-use mathlib.Core.Path.{_≡_, refl, fun-ext}
+use mathlib.Core.Path.{_≡_, refl, sym, fun-ext}
 use mathlib.Core.List.{List, []}
 use mathlib.Core.Bool.{true}
 use lib.ListN.{length}
 use borrow.Author.Tests.{eqb-true}
 use Rattle.limits.specs.Limits.{maxCols}
 use Rattle.words.specs.Words.{at}
-use Rattle.words.proofs.Tests.{and-left, and-right}
+use Rattle.conditions.proofs.Tests.{and-left, and-right}
 use Rattle.grid.specs.Grid.{Grid}
 use Rattle.rows.specs.Row.{Row, lookup}
 use Rattle.matrix.specs.Layout.{rows, cols, rowColumns, rowValues, cellOf}
@@ -48,34 +48,34 @@ empty-row n = record {
 pub wider-row : {n m : ℕ} {cs vs : List ℕ} → n ≤ m → Row n cs vs → Row m cs vs
 wider-row h r = record { even = r .even; rises = r .rises; small = λ a l. let s = r .small a l in omega arith }
 
-module _ (a b is js : List ℕ) (i : ℕ) where
-  pub product-inputs : (monoid : Monoid) (op : BinaryOp) → RowInputs (Mxm monoid op) a b is js i → ProductInputs a b i
+module _ (a b c is js : List ℕ) (i : ℕ) where
+  pub product-inputs : (monoid : Monoid) (op : BinaryOp) → RowInputs (Mxm monoid op) a b c is js i → ProductInputs a b i
   product-inputs monoid op h = record {
     first = h .first;
     second = h .second refl;
-    inner = eqb-true _ _ (h .agree);
+    inner = sym (eqb-true _ _ (and-left _ _ (and-right _ _ (h .agree))));
     row = h .row;
   }
 
-  pub mult-inputs : (op : BinaryOp) → RowInputs (EwiseMult op) a b is js i → PairInputs a b i
+  pub mult-inputs : (op : BinaryOp) → RowInputs (EwiseMult op) a b c is js i → PairInputs a b i
   mult-inputs op h = record {
     first = h .first;
     second = h .second refl;
-    same-rows = eqb-true _ _ (and-left _ _ (h .agree));
-    same-cols = eqb-true _ _ (and-right _ _ (h .agree));
+    same-rows = sym (eqb-true _ _ (and-left _ _ (and-right _ _ (h .agree))));
+    same-cols = sym (eqb-true _ _ (and-right _ _ (and-right _ _ (h .agree))));
     row = h .row;
   }
 
-  pub add-inputs : (op : BinaryOp) → RowInputs (EwiseAdd op) a b is js i → PairInputs a b i
+  pub add-inputs : (op : BinaryOp) → RowInputs (EwiseAdd op) a b c is js i → PairInputs a b i
   add-inputs op h = record {
     first = h .first;
     second = h .second refl;
-    same-rows = eqb-true _ _ (and-left _ _ (h .agree));
-    same-cols = eqb-true _ _ (and-right _ _ (h .agree));
+    same-rows = sym (eqb-true _ _ (and-left _ _ (and-right _ _ (h .agree))));
+    same-cols = sym (eqb-true _ _ (and-right _ _ (and-right _ _ (h .agree))));
     row = h .row;
   }
 
-  pub list-inputs : RowInputs Extract a b is js i → ListInputs a is js i
+  pub list-inputs : RowInputs Extract a b c is js i → ListInputs a is js i
   list-inputs h =
       let r = list-facts _ _ (and-left _ _ (h .lists)) in
       let c = list-facts _ _ (and-right _ _ (h .lists)) in

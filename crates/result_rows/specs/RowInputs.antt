@@ -2,7 +2,7 @@
 use Prim.Native.Nat.{ℕ, _≤_, _<_}
 use mathlib.Core.Path.{_≡_}
 use mathlib.Core.List.{List}
-use mathlib.Core.Bool.{true, false}
+use mathlib.Core.Bool.{true}
 use lib.ListN.{length}
 use Rattle.limits.specs.Limits.{maxList}
 use Rattle.words.specs.Words.{at}
@@ -10,18 +10,28 @@ use Rattle.grid.specs.declared.Cell.{Cell}
 use Rattle.grid.specs.declared.Cell.the-variants.{Absent}
 use Rattle.grid.specs.Grid.{Grid}
 use Rattle.operations.specs.declared.Operation.{Operation}
-use Rattle.operations.specs.GridOperations.{resultGrid}
+use Rattle.operations.specs.declared.Needs.{Needs}
+use Rattle.operations.specs.declared.Shapes.{Shapes}
+use Rattle.operations.specs.GridOperations.{needsOf, shapesOf}
 use Rattle.operations.specs.Calls.{hasSecond, inputsAgree, listsValid}
 use Rattle.matrix.specs.Layout.{rows, cols, gridOf}
 use Rattle.matrix.specs.Facts.{Matrix}
 
+-- the shapes of matrices in words, and what the operation asks of them
+abbrev pub rowShapes : Operation → List ℕ → List ℕ → List ℕ → List ℕ → List ℕ → Shapes
+rowShapes op a b c is js = shapesOf op (gridOf a) (gridOf b) (gridOf c) is js
+
+abbrev pub rowNeeds : Operation → List ℕ → List ℕ → List ℕ → List ℕ → List ℕ → Needs
+rowNeeds op a b c is js = needsOf op (rowShapes op a b c is js)
+
 -- the matrices that the operation has are valid, their shapes and the lists agree, and T has row i
-pub record RowInputs (op : Operation) (a b is js : List ℕ) (i : ℕ) : Type 0 where
+pub record RowInputs (op : Operation) (a b c is js : List ℕ) (i : ℕ) : Type 0 where
   pub first : Matrix a
   pub second : hasSecond op ≡ true → Matrix b
-  pub agree : inputsAgree op (gridOf a) (gridOf b) ≡ true
-  pub lists : listsValid op (gridOf a) is js ≡ true
-  pub row : i < resultGrid op false (gridOf a) (gridOf b) is js .rows
+  pub output : Matrix c
+  pub agree : inputsAgree (rowShapes op a b c is js) (rowNeeds op a b c is js) ≡ true
+  pub lists : listsValid op (rowNeeds op a b c is js .bounds) is js ≡ true
+  pub row : i < rowNeeds op a b c is js .result .rows
 
 -- two buffers that can hold a row of g
 pub record Buffers (g : Grid) (oc ov : List ℕ) : Type 0 where

@@ -1,4 +1,4 @@
-// A row of T for any of the operations. The inputs are valid matrices, as their transpose flags ask.
+// A row of T for any of the operations. The inputs are valid matrices, as their transpose flags ask; so is the old C.
 use merge::Combine;
 use operations::Operation;
 use operators::ApplyOp;
@@ -22,19 +22,20 @@ pub fn result_row(
     flag: bool,
     a: &[u32],
     b: &[u32],
+    c: &[u32],
     is: &[u32],
     js: &[u32],
     i: usize,
     oc: &mut [u32],
     ov: &mut [u32],
 ) -> usize
-    requires { ⌜ RowInputs operation (now a) (now b) (now is) (now js) i ⌝ }
-    requires { ⌜ Buffers (resultGrid operation flag (gridOf (now a)) (gridOf (now b)) (now is) (now js)) (now oc)
-        (now ov) ⌝ }
+    requires { ⌜ RowInputs operation (now a) (now b) (now c) (now is) (now js) i ⌝ }
+    requires { ⌜ Buffers (resultGrid operation flag (gridOf (now a)) (gridOf (now b)) (gridOf (now c)) (now is) (now js))
+        (now oc) (now ov) ⌝ }
     ensures { λ r. ⌜ Holds (resultGrid operation flag (gridOf (now (a .entry))) (gridOf (now (b .entry)))
-        (now (is .entry)) (now (js .entry)) .cols)
+        (gridOf (now (c .entry))) (now (is .entry)) (now (js .entry)) .cols)
         (resultGrid operation flag (gridOf (now (a .entry))) (gridOf (now (b .entry)))
-        (now (is .entry)) (now (js .entry)) .cell i)
+        (gridOf (now (c .entry))) (now (is .entry)) (now (js .entry)) .cell i)
         r (now (oc .exit)) (now (ov .exit)) ⌝ }
 {
     match operation {

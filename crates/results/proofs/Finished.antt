@@ -2,53 +2,21 @@
 use Prim.Native.Nat.{ℕ, _+_, _≤_, _<_}
 use native.Mathlib.Omega.{arith}
 use native.Mathlib.Decide.{decLt}
-use mathlib.Core.Path.{_≡_, refl, sym, ap, _∙_}
-use mathlib.Core.List.{List, [], _∷_}
+use mathlib.Core.Path.{_≡_, sym, ap, _∙_}
+use mathlib.Core.List.{List}
 use lib.ListN.{length, set, length-set}
 use lib.Seq.{getD-set-same, getD-set-other}
-use Rattle.words.specs.Words.{at, part, overwrite}
+use Rattle.words.specs.Words.{part, overwrite}
 use Rattle.words.proofs.Parts.{length-part}
-use Rattle.words.proofs.Overwrite.{part-same, overwrite-length, overwrite-before, overwrite-here}
+use Rattle.words.proofs.Overwrite.{overwrite-length, overwrite-before, overwrite-part-before, overwrite-here}
 use Rattle.grid.specs.Grid.{Grid}
 use Rattle.grid.specs.Entries.{entryCount, gridColumns, gridValues}
-use Rattle.matrix.specs.Layout.{
-  shapeCountAt,
-  rowsAt,
-  colsAt,
-  startCountAt,
-  startsAt,
-  countAt,
-  columnsAt,
-  countAgainAt,
-  valuesAt,
-  start,
-}
-use Rattle.encoding.specs.Encode.{entriesBefore, gridSize, writtenOver}
-use Rattle.encoding.proofs.Assembled.{Assembled, assembled}
-use Rattle.results.specs.Staging.{stagedAt, ResultBounds, headed, finished, Staged}
-
--- the words of the head
-record Head (r c : ℕ) (s : List ℕ) : Type 0 where
-  two : at s shapeCountAt ≡ 2
-  rows : at s rowsAt ≡ r
-  cols : at s colsAt ≡ c
-  starts : at s startCountAt ≡ r + 1
-
-head-words : (r c : ℕ) (s : List ℕ) → 4 ≤ length s → Head r c (headed r c s)
-head-words r c [] l = absurd (omega arith)
-head-words r c (x ∷ []) l = absurd (omega arith)
-head-words r c (x ∷ y ∷ []) l = absurd (omega arith)
-head-words r c (x ∷ y ∷ z ∷ []) l = absurd (omega arith)
-head-words r c (x ∷ y ∷ z ∷ v ∷ s) l = record { two = refl; rows = refl; cols = refl; starts = refl }
-
--- the head changes no word behind it
-head-above : (r c : ℕ) (s : List ℕ) (k : ℕ) → startsAt ≤ k → at (headed r c s) k ≡ at s k
-head-above r c s k h =
-    let s₁ = set s shapeCountAt 2 in
-    let s₂ = set s₁ rowsAt r in
-    let s₃ = set s₂ colsAt c in
-    getD-set-other s₃ startCountAt k (r + 1) 0 (λ e. omega arith) ∙ getD-set-other s₂ colsAt k c 0 (λ e. omega arith)
-    ∙ getD-set-other s₁ rowsAt k r 0 (λ e. omega arith) ∙ getD-set-other s shapeCountAt k 2 0 (λ e. omega arith)
+use Rattle.matrix.specs.Layout.{startsAt, columnsAt, countAgainAt, valuesAt, sizeOf, start}
+use Rattle.matrix.specs.HeaderWords.{headed}
+use Rattle.encoding.specs.Encode.{entriesBefore, writtenOver}
+use Rattle.encoding.proofs.Assembled.{InPlace, assembled, headed-assembled}
+use Rattle.results.specs.Staging.{stagedAt, ResultBounds, finished, Staged}
+use Rattle.results.proofs.Staged.{part-set-other}
 
 module _ (g : Grid) (n : ℕ) (w : List ℕ) (b : ResultBounds (g .rows) (g .cols) n w) (s : Staged g (g .rows) n w) where
   abbrev r : ℕ
@@ -58,18 +26,9 @@ module _ (g : Grid) (n : ℕ) (w : List ℕ) (b : ResultBounds (g .rows) (g .col
   abbrev moved : List ℕ
   moved = overwrite (valuesAt r n) (part stagedAt (stagedAt + n) w) w
 
-  -- the counts and the last start
-  abbrev counted₁ : List ℕ
-  counted₁ = set moved (countAgainAt r n) n
-
-  abbrev counted₂ : List ℕ
-  counted₂ = set counted₁ (countAt r) n
-
-  abbrev counted : List ℕ
-  counted = set counted₂ (r + startsAt) n
-
-  abbrev result : List ℕ
-  result = finished r (g .cols) n w
+  -- and the last start
+  abbrev ended : List ℕ
+  ended = set moved (r + startsAt) n
 
   staged-length : length (part stagedAt (stagedAt + n) w) ≡ n
   staged-length = length-part stagedAt (stagedAt + n) w (omega arith) ∙ omega arith
@@ -80,85 +39,54 @@ module _ (g : Grid) (n : ℕ) (w : List ℕ) (b : ResultBounds (g .rows) (g .col
   moved-length : length moved ≡ length w
   moved-length = overwrite-length (valuesAt r n) (part stagedAt (stagedAt + n) w) w room
 
-  counted-length : length counted ≡ length w
-  counted-length = simp length-set moved-length
-
-  result-length : length result ≡ length w
-  result-length = simp length-set moved-length
-
-  -- a word that is none of the counts and no head
-  kept : (k : ℕ) → startsAt ≤ k → (k ≡ r + startsAt → ⊥) → (k ≡ countAt r → ⊥) → (k ≡ countAgainAt r n → ⊥)
-      → at result k ≡ at moved k
-  kept k h f₁ f₂ f₃ =
-      head-above r (g .cols) counted k h
-      ∙ getD-set-other counted₂ (r + startsAt) k n 0 f₁ ∙ getD-set-other counted₁ (countAt r) k n 0 f₂
-      ∙ getD-set-other moved (countAgainAt r n) k n 0 f₃
-
-  -- the counts
-  last-start : at result (r + startsAt) ≡ n
-  last-start =
-      head-above r (g .cols) counted (r + startsAt) (omega arith)
-      ∙ getD-set-same counted₂ (r + startsAt) n 0 (simp length-set (omega (arith, moved-length)))
-
-  count : at result (countAt r) ≡ n
-  count =
-      head-above r (g .cols) counted (countAt r) (omega arith)
-      ∙ getD-set-other counted₂ (r + startsAt) (countAt r) n 0 (λ e. omega arith)
-      ∙ getD-set-same counted₁ (countAt r) n 0 (simp length-set (omega (arith, moved-length)))
-
-  again : at result (countAgainAt r n) ≡ n
-  again =
-      head-above r (g .cols) counted (countAgainAt r n) (omega arith)
-      ∙ getD-set-other counted₂ (r + startsAt) (countAgainAt r n) n 0 (λ e. omega arith)
-      ∙ getD-set-other counted₁ (countAt r) (countAgainAt r n) n 0 (λ e. omega arith)
-      ∙ getD-set-same moved (countAgainAt r n) n 0 (omega (arith, moved-length))
+  ended-length : length ended ≡ length w
+  ended-length = simp length-set moved-length
 
   -- the starts
-  starts : (i : ℕ) → i ≤ r → start result i ≡ entriesBefore g i
+  starts : (i : ℕ) → i ≤ r → start ended i ≡ entriesBefore g i
   starts i l = go (decLt i r)
     where
-      go : Dec (i < r) → start result i ≡ entriesBefore g i
+      go : Dec (i < r) → start ended i ≡ entriesBefore g i
       go (yes d) =
-          kept (i + startsAt) (omega arith) (λ e. omega arith) (λ e. omega arith) (λ e. omega arith)
+          getD-set-other moved (r + startsAt) (i + startsAt) n 0 (λ e. omega arith)
           ∙ overwrite-before (valuesAt r n) (part stagedAt (stagedAt + n) w) w room (i + startsAt) (omega arith)
           ∙ s .starts i d
-      go (no d) = let e : i ≡ r = omega arith in rw e (last-start ∙ s .count)
+      go (no d) =
+          let e : i ≡ r = omega arith in
+          rw e (getD-set-same moved (r + startsAt) n 0 (omega (arith, moved-length)) ∙ s .count)
 
   -- the columns
-  columns : part (columnsAt r) (countAgainAt r n) result ≡ gridColumns g
+  columns : part (columnsAt r) (countAgainAt r n) ended ≡ gridColumns g
   columns =
       let e : countAgainAt r n ≡ columnsAt r + n = omega arith in
-      part-same (columnsAt r) (countAgainAt r n) result w (omega (arith, result-length)) (omega arith)
-      (λ k p q. kept k (omega arith) (λ e. omega arith) (λ e. omega arith) (λ e. omega arith)
-      ∙ overwrite-before (valuesAt r n) (part stagedAt (stagedAt + n) w) w room k (omega arith))
+      part-set-other (columnsAt r) (countAgainAt r n) (r + startsAt) n moved (omega (arith, moved-length))
+      (λ k p q e. omega arith)
+      ∙ overwrite-part-before (valuesAt r n) (part stagedAt (stagedAt + n) w) w room (columnsAt r) (countAgainAt r n)
+      (omega arith)
       ∙ rw e (s .columns)
 
   -- the values
-  values : part (valuesAt r n) (valuesAt r n + n) result ≡ gridValues g
+  values : part (valuesAt r n) (sizeOf r n) ended ≡ gridValues g
   values =
-      part-same (valuesAt r n) (valuesAt r n + n) result moved (omega (arith, result-length)) (omega (arith, moved-length))
-      (λ k p q. kept k (omega arith) (λ e. omega arith) (λ e. omega arith) (λ e. omega arith))
-      ∙ ap (λ (m : ℕ). part (valuesAt r n) (valuesAt r n + m) moved) (sym staged-length)
-      ∙ overwrite-here (valuesAt r n) (part stagedAt (stagedAt + n) w) w room ∙ s .values
+      let e : sizeOf r n ≡ valuesAt r n + length (part stagedAt (stagedAt + n) w) = omega (arith, staged-length) in
+      part-set-other (valuesAt r n) (sizeOf r n) (r + startsAt) n moved (omega (arith, moved-length))
+      (λ k p q e. omega arith)
+      ∙ rw e (overwrite-here (valuesAt r n) (part stagedAt (stagedAt + n) w) w room) ∙ s .values
 
-  -- every word of the writing
-  pub finished-assembled : Assembled g result
-  finished-assembled =
+  -- every section
+  finished-in-place : InPlace g ended
+  finished-in-place =
       let q : n ≡ entryCount g = s .count in
-      let h = head-words r (g .cols) counted (omega (arith, counted-length)) in
-      let e : gridSize g ≡ valuesAt r n + n = omega arith in
       record {
-        fits = omega (arith, result-length);
-        two = h .two;
-        row-count = h .rows;
-        col-count = h .cols;
-        start-count = h .starts;
+        fits = omega (arith, ended-length);
         starts = starts;
-        count = rw (← q) count;
         columns = rw (← q) columns;
-        again = rw (← q) again;
-        values = rw (e, ← q) values;
+        values = rw (← q) values;
       }
 
-  pub finished-written : result ≡ writtenOver g result
-  finished-written = assembled g result finished-assembled
+  -- and the header, so every word of the writing
+  pub finished-written : finished r (g .cols) n w ≡ writtenOver g (finished r (g .cols) n w)
+  finished-written =
+      let whole = headed r (g .cols) (entryCount g) ended in
+      let e : finished r (g .cols) n w ≡ whole = ap (λ (x : ℕ). headed r (g .cols) x ended) (s .count) in
+      e ∙ assembled g whole (headed-assembled finished-in-place) ∙ ap (writtenOver g) (sym e)

@@ -9,19 +9,8 @@ use Rattle.words.specs.Words.{part, overwrite}
 use Rattle.grid.specs.Grid.{Grid}
 use Rattle.grid.specs.Entries.{column, value, flatten}
 use Rattle.encoding.specs.Encode.{entriesBefore}
-use Rattle.matrix.specs.Layout.{
-  start,
-  shapeCountAt,
-  rowsAt,
-  colsAt,
-  startCountAt,
-  startsAt,
-  countAt,
-  columnsAt,
-  countAgainAt,
-  valuesAt,
-  maxMatrixWords,
-}
+use Rattle.matrix.specs.Layout.{start, startsAt, columnsAt, valuesAt, maxMatrixWords}
+use Rattle.matrix.specs.HeaderWords.{headed}
 
 abbrev pub stagedAt : ℕ
 stagedAt = maxMatrixWords - maxEntries
@@ -53,13 +42,6 @@ pub record ResultBounds (r c n : ℕ) (w : List ℕ) : Type 0 where
   pub few : n ≤ maxEntries
   pub space : maxMatrixWords ≤ length w
 
--- the shape and the count of the starts
-abbrev pub headed : ℕ → ℕ → List ℕ → List ℕ
-headed r c w = set (set (set (set w shapeCountAt 2) rowsAt r) colsAt c) startCountAt (r + 1)
-
--- the values in their place, the counts, the last start, and the head
+-- the values in their place, the last start, and the header
 abbrev pub finished : ℕ → ℕ → ℕ → List ℕ → List ℕ
-finished r c n w =
-    headed r c
-    (set (set (set (overwrite (valuesAt r n) (part stagedAt (stagedAt + n) w) w) (countAgainAt r n) n) (countAt r) n)
-    (r + startsAt) n)
+finished r c n w = headed r c n (set (overwrite (valuesAt r n) (part stagedAt (stagedAt + n) w) w) (r + startsAt) n)

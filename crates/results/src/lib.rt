@@ -1,14 +1,8 @@
 // The result of an operation, put together in the workspace: row by row its columns and values are staged, and at the
 // end the words of the matrix stand at the front.
 use limits::MAX_ENTRIES;
-use matrix::layout::COLS_AT;
 use matrix::layout::COLUMNS_PAST;
-use matrix::layout::COUNT_AGAIN_PAST;
-use matrix::layout::COUNT_PAST;
 use matrix::layout::MAX_MATRIX_WORDS;
-use matrix::layout::ROWS_AT;
-use matrix::layout::SHAPE_COUNT_AT;
-use matrix::layout::START_COUNT_AT;
 use matrix::layout::STARTS_AT;
 use matrix::layout::VALUES_PAST;
 ghost use mathlib.Core.Path.{_≡_};
@@ -28,19 +22,13 @@ pub fn stage_row(work: &mut [u32], rows: usize, i: usize, n: usize, columns: &[u
     words::copy_into(work, STAGED_VALUES_AT + n, values);
 }
 
-// The words of a result whose rows are all staged: the values are moved to their place, and the counts and the shape
-// are written.
+// The words of a result whose rows are all staged: the values are moved to their place, and the last start and the
+// header are written.
 pub fn finish(work: &mut [u32], rows: usize, cols: usize, n: usize)
     requires { ⌜ ResultBounds rows cols n (now work) ⌝ }
     ensures { λ _. ⌜ now (work .exit) ≡ finished rows cols n (now (work .entry)) ⌝ }
 {
     words::move_down(work, STAGED_VALUES_AT, rows + n + VALUES_PAST, n);
-    let count = n as u32;
-    work[rows + n + COUNT_AGAIN_PAST] = count;
-    work[rows + COUNT_PAST] = count;
-    work[rows + STARTS_AT] = count;
-    work[SHAPE_COUNT_AT] = 2;
-    work[ROWS_AT] = rows as u32;
-    work[COLS_AT] = cols as u32;
-    work[START_COUNT_AT] = rows as u32 + 1;
+    work[rows + STARTS_AT] = n as u32;
+    matrix::write_header(work, rows as u32, cols as u32, n as u32);
 }

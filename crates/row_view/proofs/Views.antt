@@ -8,9 +8,9 @@ use denote.Ref.{RefT, now}
 use lib.ListN.{length}
 use lib.Dec.{ltb}
 use borrow.Author.Tests.{eq-eqb, ne-eqb, eqb-true, ltb-true}
-use Rattle.words.specs.Tests.{_and_}
+use Rattle.conditions.specs.Tests.{_and_}
 use Rattle.words.specs.Lent.{PartOf}
-use Rattle.words.proofs.Tests.{and-left, and-right}
+use Rattle.conditions.proofs.Tests.{and-left, and-right}
 use Rattle.matrix.specs.Layout.{rows, cols, start, rowColumns}
 use Rattle.matrix.specs.Valid.{valid}
 use Rattle.matrix.specs.Facts.{Header, RowSpan}

@@ -4,7 +4,7 @@ use mathlib.Core.List.{List}
 use mathlib.Core.Bool.{Bool, true, false, cond}
 use denote.Ref.{RefT}
 use lib.Dec.{ltb, eqb}
-use Rattle.words.specs.Tests.{_and_}
+use Rattle.conditions.specs.Tests.{_and_}
 use Rattle.words.specs.Lent.{PartOf}
 use Rattle.matrix.specs.Layout.{rows, cols, start, columnsFrom, valuesFrom}
 use Rattle.matrix.specs.Valid.{valid}

@@ -9,8 +9,8 @@ use lib.ListN.{length, drop, drop-of-length-le}
 use lib.Seq.{drop-cons}
 use borrow.Author.Tests.{le-leb, lt-leb, lt-ltb, le-ltb, leb-true, ltb-true}
 use Rattle.words.specs.Words.{at}
-use Rattle.words.specs.Tests.{_and_}
-use Rattle.words.proofs.Tests.{and-left, and-right, and-both}
+use Rattle.conditions.specs.Tests.{_and_}
+use Rattle.conditions.proofs.Tests.{and-left, and-right, and-both}
 use Rattle.rows.specs.Row.{rising, Rises}
 
 -- the turns of a loop that stands at index k, with the lowest column number still allowed

@@ -11,8 +11,8 @@ use lib.Dec.{eqb}
 use borrow.Author.Tests.{le-leb, lt-leb, ne-eqb, leb-true}
 use Rattle.limits.specs.Limits.{slotCount, maxStoreWords}
 use Rattle.words.specs.Words.{at, part}
-use Rattle.words.specs.Tests.{_and_, all}
-use Rattle.words.proofs.Tests.{refuted, and-left, and-right, and-both, all-none, all-more, all-at}
+use Rattle.conditions.specs.Tests.{_and_, all}
+use Rattle.conditions.proofs.Tests.{refuted, and-left, and-right, and-both, all-none, all-more, all-at}
 use Rattle.matrix.specs.Layout.{size}
 use Rattle.matrix.specs.Valid.{valid}
 use Rattle.slots.specs.Sections.{endFrom, allZero, sectioned}

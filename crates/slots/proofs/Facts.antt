@@ -10,8 +10,8 @@ use lib.Dec.{eqb}
 use borrow.Author.Tests.{le-leb, eq-eqb, ne-eqb, leb-true, eqb-true}
 use Rattle.limits.specs.Limits.{slotCount}
 use Rattle.words.specs.Words.{at}
-use Rattle.words.specs.Tests.{_and_}
-use Rattle.words.proofs.Tests.{and-left, and-right, and-both, all-at, all-made}
+use Rattle.conditions.specs.Tests.{_and_}
+use Rattle.conditions.proofs.Tests.{and-left, and-right, and-both, all-at, all-made}
 use Rattle.matrix.specs.Layout.{size}
 use Rattle.matrix.specs.Valid.{valid}
 use Rattle.matrix.proofs.Facts.{matrix-facts, matrix-made}

@@ -8,3 +8,4 @@ pub mod RoomMade
 pub mod Resized
 pub mod Placed
 pub mod Stored
+pub mod Filled

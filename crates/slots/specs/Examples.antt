@@ -5,7 +5,7 @@ use mathlib.Core.Bool.{true}
 use Prim.Native.Nat.{ℕ, _+_, _-_}
 use lib.ListN.{replicate}
 use Rattle.limits.specs.Limits.{slotCount}
-use Rattle.words.specs.Tests.{_and_, all}
+use Rattle.conditions.specs.Tests.{_and_, all}
 use Rattle.matrix.specs.Valid.{inRange, headerValid, startsValid, rowsValid, valid}
 use Rattle.slots.specs.Sections.{Slots, writing, endFrom, slotsFrom, allZero, sectioned, slotsOf}
 use Rattle.slots.specs.Valid.{contentsValid, allContentsValid, storeValid}

@@ -7,7 +7,7 @@ use lib.ListN.{length, getD, drop, replicate}
 use lib.Dec.{leb, eqb}
 use Rattle.limits.specs.Limits.{slotCount}
 use Rattle.words.specs.Words.{at, part}
-use Rattle.words.specs.Tests.{_and_, all}
+use Rattle.conditions.specs.Tests.{_and_, all}
 
 -- the contents of the slots in order; an empty slot has no words
 abbrev pub Slots : Type 0

@@ -6,7 +6,7 @@ use lib.ListN.{length}
 use lib.Dec.{leb, eqb}
 use Rattle.limits.specs.Limits.{slotCount, maxStoreWords}
 use Rattle.words.specs.Words.{at, part}
-use Rattle.words.specs.Tests.{_and_, all}
+use Rattle.conditions.specs.Tests.{_and_, all}
 use Rattle.matrix.specs.Layout.{size}
 use Rattle.matrix.specs.Valid.{valid}
 use Rattle.slots.specs.Sections.{endFrom, sectioned, slotAt}

@@ -16,7 +16,7 @@ ghost use Rattle.slots.specs.Sections.{endFrom, allZero, countAt};
 ghost use Rattle.slots.specs.Valid.{contentsValid, sectionValid, sectionsValid, storeValid};
 ghost use Rattle.slots.specs.Facts.{Sections, Fits};
 ghost use Rattle.slots.specs.Lent.{SlotPart};
-ghost use Rattle.slots.specs.Room.{resized, Room, roomMade};
+ghost use Rattle.slots.specs.Room.{Filled, resized, Room, roomMade};
 
 // Where the sections end; 0 if the words are no store.
 pub fn check(store: &[u32]) -> usize
@@ -73,6 +73,24 @@ pub fn fits(store: &[u32], slot: usize, end: usize, size: usize) -> bool
     let at = find(store, slot);
     let old = store[at] as usize;
     end - old + size <= store.len()
+}
+
+// The one way into a slot: it gets these words, whatever it held, and the later sections are moved to where they go
+// then. False, and nothing changes, where there is no room for them.
+pub fn put(store: &mut [u32], slot: usize, end: usize, held: &[u32]) -> bool
+    requires { ⌜ Sections slotCount (now store) ⌝ ∗ ⌜ slot < slotCount ⌝ }
+    requires { ⌜ end ≡ endFrom slotCount (now store) ⌝ ∗ ⌜ length (now store) ≤ maxStoreWords ⌝
+        ∗ ⌜ length (now held) ≤ maxMatrixWords + 2 ⌝ }
+    ensures { λ r. ⌜ Filled (now (store .entry)) slot (now (held .entry)) r (now (store .exit)) ⌝ }
+{
+    let size = held.len();
+    if !fits(&store[..], slot, end, size) {
+        return false;
+    }
+    let from = find(&store[..], slot) + 1;
+    resize(store, slot, end, size);
+    words::copy_into(store, from, held);
+    true
 }
 
 // A slot gets the count `size`, and the later sections are moved to where they go then; nothing is moved where that is

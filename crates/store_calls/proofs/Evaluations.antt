@@ -14,18 +14,17 @@ use Rattle.matrix.specs.Facts.{Matrix}
 use Rattle.encoding.specs.Encode.{encode, gridSize}
 use Rattle.operations.specs.declared.Call.{Call}
 use Rattle.operations.specs.Calls.{callFinal}
-use Rattle.requests.specs.Cases.{firstApplying, agreementCases, agreementRefusal}
+use Rattle.refusals.specs.Cases.{firstApplying, agreementCases, agreementRefusal}
 use Rattle.requests.specs.Refusal.{lentFinal}
 use Rattle.requests.specs.Inputs.{Valid}
 use Rattle.slots.specs.Sections.{slotAt}
 use Rattle.slots.specs.Facts.{Held}
 use Rattle.model.specs.declared.Roles.{Roles}
 use Rattle.model.specs.Model.{gridAt}
-use Rattle.model.specs.Calls.{Operate}
-use Rattle.model.specs.Steps.{operated}
-use Rattle.model.specs.Stores.{modelOf}
-use Rattle.model.proofs.Held.{grid-model}
-use Rattle.store_calls.specs.Attempts.{Holding, agreementsOf, RefusedBy, DoneBy}
+use Rattle.model.specs.Calls.{Operate, operated, agreementsOf}
+use Rattle.store_encoding.specs.Stores.{modelOf}
+use Rattle.store_encoding.proofs.Held.{grid-model}
+use Rattle.store_calls.specs.Attempts.{Holding, RefusedBy, DoneBy}
 use Rattle.store_calls.proofs.Refusals.{agreement-first, agreement-passed}
 
 -- a matrix has words

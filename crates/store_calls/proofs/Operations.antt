@@ -5,12 +5,12 @@ use native.Mathlib.Decide.{decLe}
 use mathlib.Core.Path.{_≡_, refl, sym, ap, subst, _∙_}
 use mathlib.Core.Bool.{Bool, true, false, cond}
 use mathlib.Core.List.{List}
-use lib.ListN.{length, take, set, length-take}
+use lib.ListN.{length, take, length-take}
 use borrow.Author.Tests.{eqb-false, ne-eqb, le-leb, lt-leb, lt-ltb, le-ltb}
 use Rattle.limits.specs.Limits.{slotCount, maxEntries}
 use Rattle.answers.specs.declared.Answer.{Answer}
 use Rattle.answers.specs.Refusals.{accepted, refused, insufficientSpace, invalidStore}
-use Rattle.words.proofs.Tests.{refuted}
+use Rattle.conditions.proofs.Tests.{refuted}
 use Rattle.grid.specs.Grid.{Grid}
 use Rattle.grid.specs.Entries.{entryCount}
 use Rattle.matrix.specs.Layout.{rows, sizeOf}
@@ -19,21 +19,32 @@ use Rattle.encoding.proofs.Canonical.{encode-length}
 use Rattle.operations.specs.declared.Call.{Call}
 use Rattle.operations.specs.Calls.{callFinal}
 use Rattle.call_codes.specs.Decoding.{decoded}
-use Rattle.requests.specs.Cases.{firstApplying}
-use Rattle.slots.specs.Sections.{writing, endFrom, slotsOf, slotAt, countAt}
+use Rattle.refusals.specs.Cases.{firstApplying}
+use Rattle.slots.specs.Sections.{endFrom, slotAt}
 use Rattle.slots.specs.Valid.{storeValid}
 use Rattle.slots.specs.Facts.{Store}
+use Rattle.slots.specs.Room.{slotPut, wordsWith}
 use Rattle.slots.proofs.Facts.{store-facts}
 use Rattle.slots.proofs.Sections.{end-least}
-use Rattle.model.specs.Model.{Model, holding, gridAt, wordsNeeded, modelWriting}
 use Rattle.model.specs.declared.Roles.{Roles}
-use Rattle.model.specs.Calls.{rolesOf, Operate, OperationCall, operateOf, operation, wrote}
-use Rattle.model.specs.Steps.{operated, afterOperation, operationRefusal}
-use Rattle.model.specs.Stores.{modelOf, Performed}
-use Rattle.model.specs.Placing.{Operated}
-use Rattle.model.proofs.Held.{model-written, slot-written, grid-model, needed-model}
-use Rattle.model.proofs.Performed.{performed-operation}
-use Rattle.store_calls.specs.Attempts.{asked, rolesRefusal, Holding, outputsOf, RefusedBy, DoneBy, Committed}
+use Rattle.model.specs.Model.{Model, holding, put, gridAt, wordsNeeded}
+use Rattle.model.specs.Effects.{wrote}
+use Rattle.model.specs.Calls.{rolesOf, Operate, OperationCall, operateOf, operation, operated, operationEffect, effect}
+use Rattle.store_encoding.specs.Writing.{modelWriting}
+use Rattle.store_encoding.specs.Stores.{modelOf, Performed}
+use Rattle.store_encoding.proofs.Held.{slot-written, grid-model, needed-model}
+use Rattle.store_encoding.proofs.Performed.{performed-no-store, performed-refused, performed-done}
+use Rattle.store_calls.specs.Attempts.{
+  asked,
+  Operated,
+  operationRefusal,
+  rolesRefusal,
+  Holding,
+  outputsOf,
+  RefusedBy,
+  DoneBy,
+  Committed,
+}
 use Rattle.store_calls.proofs.Refusals.{roles-passed, agreement-passed}
 use Rattle.store_calls.proofs.Evaluations.{not-empty}
 
@@ -76,25 +87,25 @@ module _ (s : List ℕ) (o : Operate) where
 
   -- the same answer by another name
   pub operated-by : (answer a : Answer) (s′ : List ℕ) → answer ≡ a → Operated s o a s′ → Operated s o answer s′
-  operated-by answer a s′ e r = record { answer-is = e ∙ r .answer-is; words-are = r .words-are }
+  operated-by answer a s′ e r = record { answer-is = ap wrote e ∙ r .answer-is; words-are = r .words-are }
 
   -- the words are no store
   pub operated-no-store : storeValid s ≡ false → Operated s o (refused invalidStore) s
-  operated-no-store h = record { answer-is = rw h; words-are = rw h }
+  operated-no-store h = performed-no-store s (operationEffect o) h
 
   module _ (h : storeValid s ≡ true) where
     -- refused
     pub operated-refused : (code : ℕ) → code ≡ operationRefusal (length s) m o → (code ≡ 0 → ⊥)
         → Operated s o (refused code) s
-    operated-refused code e n =
-        let f = ne-eqb code 0 n in
-        let w = sym (model-written s (store-facts s h)) in
-        record { answer-is = rw (h, ← e, f); words-are = w ∙ rw (h, ← e, f) }
+    unfolding operationRefusal
+    operated-refused code e n = performed-refused s (operationEffect o) h code e n
 
     -- the final C is in its slot
     operated-accepted : (n : ℕ) (s′ : List ℕ) → operationRefusal (length s) m o ≡ 0 → n ≡ entryCount g
-        → s′ ≡ modelWriting (length s) (afterOperation m o) → Operated s o (accepted n) s′
-    operated-accepted n s′ z e w = record { answer-is = ap accepted e ∙ rw (h, z); words-are = w ∙ rw (h, z) }
+        → s′ ≡ modelWriting (length s) (put m k (holding g)) → Operated s o (accepted n) s′
+    unfolding operationRefusal
+    operated-accepted n s′ z e w =
+        performed-done s (operationEffect o) h z (wrote (accepted n)) s′ (ap (λ (c : ℕ). wrote (accepted c)) e) w
 
     module _ (z : rolesRefusal m (o .call) (o .roles) ≡ 0) where
       -- refused by what is found when the final C is worked out
@@ -108,7 +119,7 @@ module _ (s : List ℕ) (o : Operate) where
         size = sizeOf (rows (slotAt s k)) n
 
         abbrev taken : ℕ
-        taken = endFrom slotCount s - countAt s k + size
+        taken = wordsWith s k size
 
         -- the rows of the final C are those of old C, so its size is known from its entries
         size-of : size ≡ gridSize g
@@ -125,10 +136,10 @@ module _ (s : List ℕ) (o : Operate) where
             let i = size-of in omega arith
 
         -- the room that the model asks for
-        needed : wordsNeeded (afterOperation m o) ≡ taken
+        needed : wordsNeeded (put m k (holding g)) ≡ taken
         needed =
             needed-model s k (holding g) (store-facts s h) (x .slots .output)
-            ∙ ap (λ (i : ℕ). endFrom slotCount s - countAt s k + i) (encode-length g ∙ sym size-of)
+            ∙ ap (wordsWith s k) (encode-length g ∙ sym size-of)
 
         -- 7 to 10 do not apply, so 11 decides
         few : entryCount g ≤ maxEntries
@@ -138,10 +149,9 @@ module _ (s : List ℕ) (o : Operate) where
         output-is = roles-passed m o (length s) z ∙ agreement-passed m o (length s) (d .agrees)
 
         -- what is copied is the writing of the final C
-        copied : writing (length s) (set (slotsOf s) k (take size w)) ≡ modelWriting (length s) (afterOperation m o)
+        copied : slotPut s k (take size w) ≡ modelWriting (length s) (put m k (holding g))
         copied =
-            ap (λ (i : ℕ). writing (length s) (set (slotsOf s) k (take i w))) size-of
-            ∙ ap (λ (y : List ℕ). writing (length s) (set (slotsOf s) k y)) (d .written)
+            ap (λ (i : ℕ). slotPut s k (take i w)) size-of ∙ ap (slotPut s k) (d .written)
             ∙ slot-written s k (holding g) (store-facts s h)
 
         -- the final C is committed
@@ -151,7 +161,7 @@ module _ (s : List ℕ) (o : Operate) where
             go : Dec (taken ≤ length s) → Operated s o answer s′
             go (yes f) =
                 let q : answer ≡ accepted n = c .answer-is ∙ rw (le-leb _ _ f) in
-                let v : s′ ≡ writing (length s) (set (slotsOf s) k (take size w)) = c .words-are ∙ rw q in
+                let v : s′ ≡ slotPut s k (take size w) = c .words-are ∙ rw q in
                 let r : operationRefusal (length s) m o ≡ 0 = output-is ∙ rw (le-ltb _ _ few, needed, le-ltb _ _ f) in
                 operated-by answer _ s′ q (operated-accepted n s′ r (d .count) (v ∙ copied))
             go (no f) =
@@ -161,7 +171,7 @@ module _ (s : List ℕ) (o : Operate) where
                 let r : operationRefusal (length s) m o ≡ insufficientSpace =
                 output-is ∙ rw (le-ltb _ _ few, needed, lt-ltb _ _ i) in
                 let p = operated-refused insufficientSpace (sym r) (eqb-false insufficientSpace 0 refl) in
-                record { answer-is = q ∙ p .answer-is; words-are = v ∙ p .words-are }
+                record { answer-is = ap wrote q ∙ p .answer-is; words-are = v ∙ p .words-are }
 
 -- ---- the call
 
@@ -169,8 +179,8 @@ module _ (s : List ℕ) (o : Operate) where
 pub performed-run : (s : List ℕ) (x : OperationCall) (call : Call) (roles : Roles) (answer : Answer) (s′ : List ℕ)
     → call ≡ decoded (x .options) (x .verb) → roles ≡ rolesOf call (x .named)
     → Operated s (asked call roles (x .is) (x .js) (x .work)) answer s′ → Performed s (operation x) (wrote answer) s′
-performed-run s x call roles answer s′ e f o =
-    performed-operation s x answer s′ (subst (λ (y : Operate). Operated s y answer s′) both o)
+unfolding effect
+performed-run s x call roles answer s′ e f o = subst (λ (y : Operate). Operated s y answer s′) both o
   where
     both : asked call roles (x .is) (x .js) (x .work) ≡ operateOf x
     both =

@@ -6,15 +6,14 @@ use mathlib.Core.Bool.{Bool, cond}
 use mathlib.Core.List.{List, _++_}
 use borrow.Author.Tests.{eq-eqb, ne-eqb}
 use Rattle.operations.specs.declared.Call.{Call}
-use Rattle.requests.specs.Cases.{Case, firstApplying, numberCases, numbersRefusal, firstOf}
-use Rattle.requests.proofs.Cases.{Numbered, applying-first, applying-rest, applying-none}
+use Rattle.refusals.specs.Cases.{Case, firstApplying, numberCases, numbersRefusal, firstOf}
+use Rattle.refusals.proofs.Cases.{Numbered, applying-first, applying-rest, applying-none}
 use Rattle.slots.specs.Facts.{Store}
 use Rattle.model.specs.declared.Roles.{Roles}
 use Rattle.model.specs.Model.{Model}
-use Rattle.model.specs.Calls.{Operate}
-use Rattle.model.specs.Steps.{noSlot, noGrid, roleCases, operationRefusal}
-use Rattle.model.specs.Stores.{modelOf}
-use Rattle.store_calls.specs.Attempts.{rolesRefusal, Holding, agreementsOf, outputsOf}
+use Rattle.model.specs.Calls.{Operate, noSlot, noGrid, roleCases, agreementsOf}
+use Rattle.store_encoding.specs.Stores.{modelOf}
+use Rattle.store_calls.specs.Attempts.{operationRefusal, rolesRefusal, Holding, outputsOf}
 use Rattle.store_calls.proofs.Roles.{in-store, holding-roles}
 
 -- some cases and then others, as two numbers

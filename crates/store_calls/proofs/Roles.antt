@@ -10,17 +10,16 @@ use Rattle.limits.specs.Limits.{slotCount}
 use Rattle.answers.specs.Refusals.{invalidStore, emptySlot}
 use Rattle.operations.specs.declared.Call.{Call}
 use Rattle.operations.specs.Calls.{hasSecond}
-use Rattle.requests.specs.Cases.{Case, given, firstApplying}
-use Rattle.requests.proofs.Cases.{later}
+use Rattle.refusals.specs.Cases.{Case, given, firstApplying}
+use Rattle.refusals.proofs.Cases.{later}
 use Rattle.slots.specs.Sections.{slotAt}
 use Rattle.slots.specs.Facts.{Held, Store}
 use Rattle.slots.proofs.Facts.{held-facts}
 use Rattle.model.specs.declared.Roles.{Roles}
 use Rattle.model.specs.Model.{slotOf, isVacant}
-use Rattle.model.specs.Calls.{rolesOf}
-use Rattle.model.specs.Steps.{noSlot, noGrid, roleCases}
-use Rattle.model.specs.Stores.{modelOf}
-use Rattle.model.proofs.Held.{vacant-model, holding-model}
+use Rattle.model.specs.Calls.{rolesOf, noSlot, noGrid, roleCases}
+use Rattle.store_encoding.specs.Stores.{modelOf}
+use Rattle.store_encoding.proofs.Held.{vacant-model, holding-model}
 use Rattle.store_calls.specs.Attempts.{InStore, Holding}
 
 -- ---- the roles

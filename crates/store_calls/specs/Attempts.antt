@@ -1,9 +1,9 @@
 -- The parts of an operation on a store: what each function requires and leaves.
-use Prim.Native.Nat.{ℕ, _+_, _-_, _≤_, _<_}
+use Prim.Native.Nat.{ℕ, _≤_, _<_}
 use mathlib.Core.Path.{_≡_}
 use mathlib.Core.Bool.{cond}
 use mathlib.Core.List.{List, _++_}
-use lib.ListN.{length, take, set}
+use lib.ListN.{length, take}
 use lib.Dec.{leb}
 use Rattle.limits.specs.Limits.{slotCount, maxEntries}
 use Rattle.answers.specs.declared.Answer.{Answer}
@@ -12,19 +12,38 @@ use Rattle.grid.specs.Entries.{entryCount}
 use Rattle.matrix.specs.Layout.{rows, sizeOf}
 use Rattle.encoding.specs.Encode.{encode, gridSize}
 use Rattle.operations.specs.declared.Call.{Call}
-use Rattle.requests.specs.Cases.{Case, firstApplying, numberCases, agreementCases, outputCases}
-use Rattle.slots.specs.Sections.{writing, endFrom, slotsOf, slotAt, countAt}
+use Rattle.refusals.specs.Cases.{Case, firstApplying, numberCases}
+use Rattle.slots.specs.Sections.{endFrom, slotAt}
 use Rattle.slots.specs.Facts.{Held, Store}
+use Rattle.slots.specs.Room.{slotPut, wordsWith}
 use Rattle.model.specs.declared.Roles.{Roles}
-use Rattle.model.specs.Model.{Model, gridAt, wordsNeeded}
-use Rattle.model.specs.Calls.{Operate}
-use Rattle.model.specs.Steps.{noSlot, noGrid, roleCases, operated, afterOperation}
+use Rattle.model.specs.Model.{Model}
+use Rattle.model.specs.Effects.{wrote}
+use Rattle.model.specs.Calls.{
+  Operate,
+  noSlot,
+  noGrid,
+  fitCases,
+  operated,
+  roleCases,
+  agreementsOf,
+  operationCases,
+  operationEffect,
+}
+use Rattle.store_encoding.specs.Stores.{Effected}
 use Rattle.store_calls.specs.declared.Evaluated.{Evaluated}
 use Rattle.store_calls.specs.declared.Evaluated.the-variants as evaluated
 
 -- an operation, its numbers and slots decoded
 abbrev pub asked : Call → Roles → List ℕ → List ℕ → ℕ → Operate
 asked call roles is js work = record { call = call; roles = roles; is = is; js = js; work = work }
+
+-- an operation on any words
+abbrev pub Operated : List ℕ → Operate → Answer → List ℕ → Type 0
+Operated s o answer s′ = Effected s (operationEffect o) (wrote answer) s′
+
+unfoldable pub operationRefusal : ℕ → Model → Operate → ℕ
+operationRefusal n m o = firstApplying (operationCases n m o)
 
 -- 12 for slots past the last, 1 and 2, 13
 unfoldable pub rolesRefusal : Model → Call → Roles → ℕ
@@ -45,14 +64,9 @@ pub record Holding (s : List ℕ) (r : Roles) : Type 0 where
   pub mask : Held (slotAt s (r .mask))
   pub output : Held (slotAt s (r .output))
 
--- 7 to 9 of an operation, and 10 and 11 on a store of n words
-abbrev pub agreementsOf : Model → Operate → List Case
-agreementsOf m o =
-    agreementCases (o .call) (gridAt m (o .roles .first)) (gridAt m (o .roles .second)) (gridAt m (o .roles .mask))
-    (gridAt m (o .roles .output)) (o .is) (o .js) (o .work)
-
+-- 10 and 11 of an operation, on a store of n words
 abbrev pub outputsOf : Model → Operate → ℕ → List Case
-outputsOf m o n = outputCases (operated m o) (wordsNeeded (afterOperation m o)) n
+outputsOf m o n = fitCases n m (o .roles .output) (operated m o)
 
 -- a refusal by 7 to 9, or by 10: the store's length does not matter
 pub record RefusedBy (code : ℕ) (m : Model) (o : Operate) : Type 0 where
@@ -82,10 +96,8 @@ pub record ToCommit (s : List ℕ) (k end : ℕ) (w : List ℕ) (n : ℕ) : Type
 -- n entries from the front of w put into slot k, if there is room
 abbrev pub commitAnswer : List ℕ → ℕ → ℕ → Answer
 commitAnswer s k n =
-    cond (leb (endFrom slotCount s - countAt s k + sizeOf (rows (slotAt s k)) n) (length s)) (accepted n)
-    (refused insufficientSpace)
+    cond (leb (wordsWith s k (sizeOf (rows (slotAt s k)) n)) (length s)) (accepted n) (refused insufficientSpace)
 
 pub record Committed (s : List ℕ) (k : ℕ) (w : List ℕ) (n : ℕ) (answer : Answer) (s′ : List ℕ) : Type 0 where
   pub answer-is : answer ≡ commitAnswer s k n
-  pub words-are : s′ ≡ unlessRefused answer s
-      (writing (length s) (set (slotsOf s) k (take (sizeOf (rows (slotAt s k)) n) w)))
+  pub words-are : s′ ≡ unlessRefused answer s (slotPut s k (take (sizeOf (rows (slotAt s k)) n) w))

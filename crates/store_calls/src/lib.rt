@@ -17,13 +17,12 @@ ghost use mathlib.Core.Path.{_≡_};
 ghost use mathlib.Core.Bool.{cond};
 ghost use lib.ListN.{length, replicate};
 ghost use Rattle.answers.specs.Refusals as answers;
-ghost use Rattle.requests.specs.Cases.{firstApplying, firstOf};
+ghost use Rattle.refusals.specs.Cases.{firstApplying, firstOf};
 ghost use Rattle.slots.specs.Facts.{Store};
-ghost use Rattle.model.specs.Calls.{rolesOf, operate, wrote};
-ghost use Rattle.model.specs.Steps.{noSlot, noGrid, roleCases};
-ghost use Rattle.model.specs.Stores.{modelOf, Performed};
-ghost use Rattle.model.specs.Placing.{Operated};
-ghost use Rattle.store_calls.specs.Attempts.{asked, rolesRefusal, InStore, Holding, Evaluation, ToCommit, Committed};
+ghost use Rattle.model.specs.Effects.{wrote};
+ghost use Rattle.model.specs.Calls.{rolesOf, operate, noSlot, noGrid, roleCases};
+ghost use Rattle.store_encoding.specs.Stores.{modelOf, Performed};
+ghost use Rattle.store_calls.specs.Attempts.{asked, Operated, rolesRefusal, InStore, Holding, Evaluation, ToCommit, Committed};
 
 // Any operation, by its verb and the slots that it names: its numbers and its roles are decoded, it is attempted, and the
 // workspace is cleared. Where it has no second input, no mask or no index lists, any slot and any words may stand for
@@ -201,12 +200,9 @@ fn commit(store: &mut [u32], slot: usize, end: usize, work: &[u32], n: usize) ->
 {
     let rows = matrix::row_count(slots::contents(&store[..], slot)) as usize;
     let size = rows + n + n + FIXED_WORDS;
-    if !slots::fits(&store[..], slot, end, size) {
+    if !slots::put(store, slot, end, &work[..size]) {
         return refused(INSUFFICIENT_SPACE);
     }
-    let from = slots::find(&store[..], slot) + 1;
-    slots::resize(store, slot, end, size);
-    words::copy_into(store, from, &work[..size]);
     Answer {
         code: 0,
         entries: n as u32,

@@ -8,7 +8,7 @@ use lib.ListN.{length}
 use lib.Dec.{leb}
 use borrow.Author.Tests.{leb-true, leb-false}
 use Rattle.limits.specs.Limits.{slotCount}
-use Rattle.words.proofs.Tests.{said-no, said-yes}
+use Rattle.conditions.proofs.Tests.{said-no, said-yes}
 use Rattle.slots.specs.Sections.{endFrom, countAt}
 use Rattle.slots.specs.Valid.{storeValid}
 use Rattle.slots.specs.Facts.{Store}

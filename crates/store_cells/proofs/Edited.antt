@@ -17,7 +17,7 @@ use Rattle.encoding.specs.Encode.{encode, gridSize, writtenOver}
 use Rattle.encoding.proofs.Canonical.{encode-length}
 use Rattle.slots.specs.Sections.{endFrom, slotAt, countAt}
 use Rattle.slots.specs.Facts.{Fits}
-use Rattle.slots.specs.Room.{resized}
+use Rattle.slots.specs.Room.{slotPut, resized}
 use Rattle.slots.proofs.Sections.{end-rises}
 use Rattle.slots.proofs.Slot.{slot-length}
 use Rattle.slots.proofs.Resized.{new-length, new-grown}
@@ -25,8 +25,8 @@ use Rattle.edits.specs.declared.EntryAt.{EntryAt}
 use Rattle.edits.specs.declared.EntryAt.the-variants as entry
 use Rattle.edits.specs.Entry.{entryAt}
 use Rattle.edits.specs.Changes.{InMatrix, HasSpace}
-use Rattle.model.specs.Placing.{Placed}
-use Rattle.store_cells.specs.Slots.{CellOf, slotGrid, slotWith, slotPut}
+use Rattle.store_encoding.specs.Placing.{Placed}
+use Rattle.store_cells.specs.Slots.{CellOf, slotGrid, slotWith}
 use Rattle.store_cells.proofs.Counts.{replaced-count, added-count, whole}
 use Rattle.store_cells.proofs.Rewritten.{put-same, part-lent, part-back}
 use Rattle.store_cells.proofs.Grown.{held-in, grown-in, grown-entry, grown-space, grown-written}

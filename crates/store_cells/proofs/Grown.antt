@@ -19,7 +19,7 @@ use Rattle.matrix.proofs.Facts.{matrix-facts, matrix-made}
 use Rattle.encoding.specs.Encode.{encode, writtenOver}
 use Rattle.encoding.proofs.Canonical.{encode-valid, encode-same, encode-ext, encode-length, valid-within, valid-size}
 use Rattle.slots.specs.Facts.{Held}
-use Rattle.model.proofs.Held.{held-encoded}
+use Rattle.store_encoding.proofs.Held.{held-encoded}
 use Rattle.edits.specs.declared.EntryAt.the-variants as entry
 use Rattle.edits.specs.Entry.{entryAt, entryOf, entryPosition}
 use Rattle.edits.specs.Changes.{InMatrix, HasSpace}

@@ -5,9 +5,9 @@ use native.Mathlib.Nat.{add-zero}
 use native.Mathlib.Decide.{ℕ-discrete}
 use mathlib.Core.Path.{_≡_, refl, sym, ap, _∙_}
 use mathlib.Core.Bool.{true}
-use mathlib.Core.List.{List, [], _∷_}
-use lib.ListN.{length, set}
-use borrow.Author.Tests.{le-leb, lt-leb, lt-ltb, le-ltb, eq-eqb, ne-eqb}
+use mathlib.Core.List.{List, []}
+use lib.ListN.{length}
+use borrow.Author.Tests.{le-leb, lt-leb, lt-ltb, le-ltb, eq-eqb, ne-eqb, eqb-false}
 use Rattle.limits.specs.Limits.{slotCount, maxEntries}
 use Rattle.answers.specs.declared.Answer.{Answer}
 use Rattle.answers.specs.Refusals.{accepted, refused, unlessRefused, tooManyEntries, insufficientSpace, invalidStore}
@@ -15,42 +15,30 @@ use Rattle.words.specs.Words.{part}
 use Rattle.words.proofs.Parts.{part-empty}
 use Rattle.grid.specs.Grid.{Grid}
 use Rattle.grid.specs.Entries.{entryCount}
+use Rattle.grid.specs.Size.{gridSize}
 use Rattle.matrix.specs.Layout.{gridOf}
-use Rattle.encoding.specs.Encode.{gridSize}
 use Rattle.encoding.proofs.Canonical.{encode-length}
-use Rattle.requests.specs.Cases.{Case, answerFor, outputCases}
-use Rattle.requests.proofs.Cases.{applying-first, applying-rest}
+use Rattle.refusals.specs.Cases.{Case, answerFor}
+use Rattle.refusals.proofs.Cases.{applying-first, applying-rest}
 use Rattle.slots.specs.Sections.{endFrom, slotAt, countAt}
 use Rattle.slots.specs.Valid.{storeValid}
 use Rattle.slots.specs.Facts.{Store}
-use Rattle.slots.specs.Room.{resized}
+use Rattle.slots.specs.Room.{slotPut, wordsWith, resized}
 use Rattle.slots.proofs.Facts.{store-facts}
-use Rattle.model.specs.Model.{Model, vacant, holding, gridAt, wordsNeeded}
-use Rattle.model.specs.Calls.{StoreCall, dropSlot, setCell, clearCell, wrote}
-use Rattle.model.specs.Steps.{
-  noSlot,
-  noGrid,
-  noCell,
-  withValue,
-  setRefusal,
-  withoutValue,
-  cellRefusal,
-  dropRefusal,
-  reply,
-  next,
-}
-use Rattle.model.specs.Stores.{modelOf, Performed}
-use Rattle.model.specs.Placing.{placeRefusal, Placed}
-use Rattle.model.proofs.Held.{model-written, slot-written, grid-model, needed-model}
-use Rattle.model.proofs.Performed.{performed, Writes, performed-refused, performed-done}
-use Rattle.store_cells.specs.Slots.{slotPut, gridPut, Put, CellSet, CellCleared}
+use Rattle.model.specs.Model.{Model, vacant, holding, put, gridAt, wordsNeeded}
+use Rattle.model.specs.Effects.{wrote, puttingGrid, refusalOf}
+use Rattle.model.specs.Calls.{dropSlot, setCell, clearCell, cellCases, fitCases, withValue, effect}
+use Rattle.store_encoding.specs.Stores.{modelOf, Effected, Performed}
+use Rattle.store_encoding.specs.Placing.{placeRefusal, Placed}
+use Rattle.store_encoding.proofs.Held.{slot-written, grid-model, needed-model}
+use Rattle.store_encoding.proofs.Performed.{performed-refused, performed-done}
+use Rattle.store_cells.specs.Slots.{cellRefusal, gridPut, Put, CellSet, CellCleared}
 use Rattle.store_cells.proofs.Refusals.{Reached}
 
 -- the words that are needed with g in slot k
 pub room-of : (s : List ℕ) (k : ℕ) (g : Grid) → Store s → k < slotCount
-    → wordsNeeded (set (modelOf s) k (holding g)) ≡ endFrom slotCount s - countAt s k + gridSize g
-room-of s k g h l =
-    needed-model s k (holding g) h l ∙ ap (λ (n : ℕ). endFrom slotCount s - countAt s k + n) (encode-length g)
+    → wordsNeeded (put (modelOf s) k (holding g)) ≡ wordsWith s k (gridSize g)
+room-of s k g h l = needed-model s k (holding g) h l ∙ ap (wordsWith s k) (encode-length g)
 
 -- ---- 10 and 11 of a grid that is put into a slot
 module _ {s : List ℕ} {k : ℕ} (h : Store s) (l : k < slotCount) (g : Grid) where
@@ -73,70 +61,55 @@ module _ {s : List ℕ} {k : ℕ} (h : Store s) (l : k < slotCount) (g : Grid) w
         record { answer-is = ap accepted e ∙ rw (le-ltb _ _ f, room-of s k g h l, le-ltb _ _ d); words-are = w }
 
 -- ---- a call that puts a grid into a slot
-module _ {s : List ℕ} {k : ℕ} {call : StoreCall} {g : Grid} {code : ℕ} (v : storeValid s ≡ true)
-    (w : Writes s call code g (set (modelOf s) k (holding g))) where
+module _ (s : List ℕ) (k : ℕ) (grid : Model → Grid) (cases : ℕ → Model → List Case) (v : storeValid s ≡ true) where
+  abbrev refusal : ℕ
+  refusal = refusalOf (puttingGrid k grid cases) (length s) (modelOf s)
+
+  abbrev g : Grid
+  g = grid (modelOf s)
+
   -- it is accepted
-  pub performed-put : {answer : Answer} {s′ : List ℕ} → code ≡ 0 → Put s k g answer s′
-      → Performed s call (wrote answer) s′
+  pub performed-put : {answer : Answer} {s′ : List ℕ} → refusal ≡ 0 → Put s k g answer s′
+      → Effected s (puttingGrid k grid cases) (wrote answer) s′
   performed-put {answer} {s′} z p =
-      rw (p .answer-is) (performed-done s call code g _ v w (entryCount g) s′ z refl
-      (p .words-are ∙ slot-written s k (holding g) (store-facts s v)))
+      performed-done s (puttingGrid k grid cases) v z (wrote answer) s′ (ap wrote (p .answer-is))
+      (p .words-are ∙ slot-written s k (holding g) (store-facts s v))
 
   -- or refused by 10 or 11
-  performed-placed : {answer : Answer} {s′ : List ℕ} → code ≡ placeRefusal s k g → Placed s k g answer s′
-      → Performed s call (wrote answer) s′
-  performed-placed {answer} {s′} c p = go (ℕ-discrete code 0)
+  performed-placed : {answer : Answer} {s′ : List ℕ} → refusal ≡ placeRefusal s k g
+      → Placed s k g answer s′ → Effected s (puttingGrid k grid cases) (wrote answer) s′
+  performed-placed {answer} {s′} c p = go (ℕ-discrete refusal 0)
     where
-      answer-of : answer ≡ answerFor code g
+      answer-of : answer ≡ answerFor refusal g
       answer-of = p .answer-is ∙ ap (λ (n : ℕ). answerFor n g) (sym c)
 
       words-of : (a : Answer) → answer ≡ a → s′ ≡ unlessRefused a s (gridPut s k g)
       words-of a e = p .words-are ∙ ap (λ (b : Answer). unlessRefused b s (gridPut s k g)) e
 
-      go : Dec (code ≡ 0) → Performed s call (wrote answer) s′
+      go : Dec (refusal ≡ 0) → Effected s (puttingGrid k grid cases) (wrote answer) s′
       go (yes z) =
           let a : answer ≡ accepted (entryCount g) = answer-of ∙ rw (eq-eqb _ _ z) in
           performed-put z (record { answer-is = a; words-are = words-of _ a })
       go (no n) =
-          let a : answer ≡ refused code = answer-of ∙ rw (ne-eqb _ _ n) in
+          let a : answer ≡ refused refusal = answer-of ∙ rw (ne-eqb _ _ n) in
           let t : s′ ≡ s = words-of _ a ∙ rw (ne-eqb _ _ n) in
-          rw (a, t) (performed-refused s call code g _ v w n)
+          rw (a, t) (performed-refused s (puttingGrid k grid cases) v refusal refl n)
 
 -- ---- set and clear of a cell
-
--- 12, 13 and 7
-abbrev cellCases : Model → ℕ → ℕ → ℕ → List Case
-cellCases m k i j = noSlot k ∷ noGrid m k ∷ noCell (gridAt m k) i j ∷ []
-
--- of a cell that is there only 10 and 11 are left
-set-refusal : (s : List ℕ) (k i j x : ℕ) → cellRefusal (modelOf s) k i j ≡ 0
-    → setRefusal (length s) (modelOf s) k i j x ≡ placeRefusal s k (withValue (modelOf s) k i j x)
-unfolding setRefusal cellRefusal placeRefusal
-set-refusal s k i j x z =
-    let g = withValue (modelOf s) k i j x in
-    applying-rest (cellCases (modelOf s) k i j)
-    (outputCases g (wordsNeeded (set (modelOf s) k (holding g))) (length s)) (refl, (refl, (refl, tt))) z
-
-module _ {s : List ℕ} {k i j : ℕ} (v : storeValid s ≡ true) where
+module _ (s : List ℕ) (k i j : ℕ) (v : storeValid s ≡ true) where
   -- it is not there
   pub set-refused : (x : ℕ) (code : ℕ) → code ≡ cellRefusal (modelOf s) k i j → (code ≡ 0 → ⊥)
       → Performed s (setCell k i j x) (wrote (refused code)) s
-  unfolding setRefusal cellRefusal reply next
+  unfolding effect cellRefusal
   set-refused x code e n =
-      let g = withValue (modelOf s) k i j x in
-      let c : code ≡ setRefusal (length s) (modelOf s) k i j x =
-      applying-first (cellCases (modelOf s) k i j)
-      (outputCases g (wordsNeeded (set (modelOf s) k (holding g))) (length s)) code e n in
-      performed-refused s (setCell k i j x) code g (set (modelOf s) k (holding g)) v
-      (record { reply-is = rw c; next-is = rw c }) n
+      performed-refused s (effect (setCell k i j x)) v code
+      (applying-first (cellCases (modelOf s) k i j) (fitCases (length s) (modelOf s) k (withValue (modelOf s) k i j x))
+      code e n) n
 
   pub clear-refused : (code : ℕ) → code ≡ cellRefusal (modelOf s) k i j → (code ≡ 0 → ⊥)
       → Performed s (clearCell k i j) (wrote (refused code)) s
-  unfolding reply next
-  clear-refused code e n =
-      let g = withoutValue (modelOf s) k i j in
-      performed-refused s (clearCell k i j) code g (set (modelOf s) k (holding g)) v
-      (record { reply-is = rw e; next-is = rw e }) n
+  unfolding effect cellRefusal
+  clear-refused code e n = performed-refused s (effect (clearCell k i j)) v code e n
 
 -- it is: what the functions that write leave
 module _ {s : List ℕ} {k i j end : ℕ} (h : Reached s k i j end) where
@@ -145,16 +118,17 @@ module _ {s : List ℕ} {k i j end : ℕ} (h : Reached s k i j end) where
 
   pub set-performed : (x : ℕ) (answer : Answer) (s′ : List ℕ) → CellSet s k i j x answer s′
       → Performed s (setCell k i j x) (wrote answer) s′
-  unfolding reply next
+  unfolding effect cellRefusal placeRefusal
   set-performed x answer s′ p =
-      performed-placed (h .checked .valid) (record { reply-is = refl; next-is = refl }) (set-refusal s k i j x (h .free))
+      performed-placed s k _ _ (h .checked .valid)
+      (applying-rest (cellCases (modelOf s) k i j)
+      (fitCases (length s) (modelOf s) k (withValue (modelOf s) k i j x)) (refl, (refl, (refl, tt))) (h .free))
       (rw grid-is p)
 
   pub clear-performed : (answer : Answer) (s′ : List ℕ) → CellCleared s k i j answer s′
       → Performed s (clearCell k i j) (wrote answer) s′
-  unfolding reply next
-  clear-performed answer s′ p =
-      performed-put (h .checked .valid) (record { reply-is = refl; next-is = refl }) (h .free) (rw grid-is p)
+  unfolding effect cellRefusal
+  clear-performed answer s′ p = performed-put s k _ _ (h .checked .valid) (h .free) (rw grid-is p)
 
 -- ---- drop
 
@@ -168,14 +142,13 @@ none-resized s k =
 -- the call, refused and accepted
 module _ {s : List ℕ} {k : ℕ} (v : storeValid s ≡ true) where
   pub drop-refused : slotCount ≤ k → Performed s (dropSlot k) (wrote (refused invalidStore)) s
-  unfolding reply next dropRefusal
+  unfolding effect
   drop-refused l =
-      performed s (dropSlot k) (wrote (refused invalidStore)) s v (rw (le-leb _ _ l))
-      (sym (model-written s (store-facts s v)) ∙ rw (le-leb _ _ l))
+      performed-refused s (effect (dropSlot k)) v invalidStore (rw (le-leb _ _ l)) (eqb-false invalidStore 0 refl)
 
   pub drop-performed : (s′ : List ℕ) → k < slotCount → s′ ≡ slotPut s k []
       → Performed s (dropSlot k) (wrote (accepted 0)) s′
-  unfolding reply next dropRefusal
+  unfolding effect
   drop-performed s′ l w =
-      performed s (dropSlot k) (wrote (accepted 0)) s′ v (rw (lt-leb _ _ l))
-      (w ∙ slot-written s k vacant (store-facts s v) ∙ rw (lt-leb _ _ l))
+      performed-done s (effect (dropSlot k)) v (rw (lt-leb _ _ l)) (wrote (accepted 0)) s′ refl
+      (w ∙ slot-written s k vacant (store-facts s v))

@@ -8,18 +8,17 @@ use lib.Dec.{ltb}
 use borrow.Author.Tests.{le-leb, lt-leb, lt-ltb, le-ltb, leb-false, ltb-true, not-false}
 use Rattle.limits.specs.Limits.{slotCount}
 use Rattle.answers.specs.Refusals.{indexOutOfBounds, invalidStore, emptySlot}
-use Rattle.words.specs.Tests.{_and_}
-use Rattle.words.proofs.Tests.{and-left, and-right}
+use Rattle.conditions.specs.Tests.{_and_}
+use Rattle.conditions.proofs.Tests.{and-left, and-right}
 use Rattle.matrix.specs.Layout.{rows, cols}
-use Rattle.requests.proofs.Cases.{later}
+use Rattle.refusals.proofs.Cases.{later}
 use Rattle.slots.specs.Sections.{slotAt}
 use Rattle.slots.specs.Facts.{Store}
 use Rattle.slots.proofs.Facts.{held-facts}
 use Rattle.model.specs.Model.{gridAt}
-use Rattle.model.specs.Steps.{cellRefusal}
-use Rattle.model.specs.Stores.{modelOf}
-use Rattle.model.proofs.Held.{vacant-model, holding-model, grid-model}
-use Rattle.store_cells.specs.Slots.{CellOf}
+use Rattle.store_encoding.specs.Stores.{modelOf}
+use Rattle.store_encoding.proofs.Held.{vacant-model, holding-model, grid-model}
+use Rattle.store_cells.specs.Slots.{cellRefusal, CellOf}
 use Rattle.store_cells.proofs.Checks.{Checked}
 
 module _ (s : List ℕ) (k i j : ℕ) where

@@ -10,13 +10,12 @@ use Rattle.limits.specs.Limits.{slotCount, maxStoreWords}
 use Rattle.words.specs.Words.{part}
 use Rattle.slots.specs.Sections.{Slots, written, writing, endFrom, slotsOf, slotAt, countAt}
 use Rattle.slots.specs.Facts.{Sections, Fits}
-use Rattle.slots.specs.Room.{resized}
+use Rattle.slots.specs.Room.{slotPut, resized}
 use Rattle.slots.proofs.Sections.{slot-count, end-rises, rewritten}
 use Rattle.slots.proofs.ReadBack.{writing-end, writing-slots, writing-length, writing-sections}
 use Rattle.slots.proofs.Slot.{section-start, slot-length, written-room}
 use Rattle.slots.proofs.Placed.{lent, placed}
 use Rattle.slots.proofs.Resized.{new-shrunk}
-use Rattle.store_cells.specs.Slots.{slotPut}
 
 -- the words of a slot that fits are within the store
 pub fits-inside : {s : List ℕ} {k end size : ℕ} → Fits s k end size → (a : ℕ) → a ≡ endFrom k s

@@ -18,11 +18,11 @@ use Rattle.encoding.specs.Encode.{encode, gridSize, writtenOver}
 use Rattle.encoding.proofs.Canonical.{encode-length}
 use Rattle.slots.specs.Sections.{endFrom, slotAt, countAt}
 use Rattle.slots.specs.Facts.{Fits}
-use Rattle.slots.specs.Room.{resized}
+use Rattle.slots.specs.Room.{slotPut, resized}
 use Rattle.edits.specs.declared.EntryAt.the-variants as entry
 use Rattle.edits.specs.Entry.{entryAt}
-use Rattle.model.proofs.Held.{held-encoded}
-use Rattle.store_cells.specs.Slots.{CellOf, slotGrid, slotWith, slotPut, gridPut, CellCleared}
+use Rattle.store_encoding.proofs.Held.{held-encoded}
+use Rattle.store_cells.specs.Slots.{CellOf, slotGrid, slotWith, gridPut, CellCleared}
 use Rattle.store_cells.proofs.Counts.{taken-count, cleared-count, cleared-same}
 use Rattle.store_cells.proofs.Rewritten.{put-same, smaller-fits, smaller-words}
 use Rattle.store_cells.proofs.Edited.{slot-in, slot, slot-lent, slot-back}

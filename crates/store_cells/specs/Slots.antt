@@ -1,9 +1,8 @@
 -- What the functions on one slot require, and what they leave.
-use Prim.Native.Nat.{ℕ, _<_}
+use Prim.Native.Nat.{ℕ, _≤_, _<_}
 use mathlib.Core.Path.{_≡_}
 use mathlib.Core.List.{List}
-use lib.ListN.{length, set}
-use Rattle.limits.specs.Limits.{slotCount}
+use Rattle.limits.specs.Limits.{slotCount, maxRows}
 use Rattle.answers.specs.declared.Answer.{Answer}
 use Rattle.answers.specs.Refusals.{accepted}
 use Rattle.grid.specs.declared.Cell.{Cell}
@@ -13,9 +12,27 @@ use Rattle.grid.specs.Entries.{entryCount}
 use Rattle.grid.specs.Update.{withCell}
 use Rattle.matrix.specs.Layout.{rows, cols, gridOf}
 use Rattle.encoding.specs.Encode.{encode}
-use Rattle.slots.specs.Sections.{writing, slotsOf, slotAt}
+use Rattle.refusals.specs.Cases.{firstApplying}
+use Rattle.slots.specs.Sections.{endFrom, slotAt}
 use Rattle.slots.specs.Facts.{Held, Store}
-use Rattle.model.specs.Placing.{Placed}
+use Rattle.slots.specs.Room.{slotPut}
+use Rattle.model.specs.Model.{Model}
+use Rattle.model.specs.Calls.{shapeCases, cellCases}
+use Rattle.store_encoding.specs.Placing.{Placed}
+
+-- 12 and 8 of an empty matrix, and 12, 13 and 7 of a call that names a cell
+unfoldable pub shapeRefusal : ℕ → ℕ → ℕ → ℕ
+shapeRefusal k r c = firstApplying (shapeCases k r c)
+
+unfoldable pub cellRefusal : Model → ℕ → ℕ → ℕ → ℕ
+cellRefusal m k i j = firstApplying (cellCases m k i j)
+
+-- a store whose sections end at `end`, a slot of it, and the rows of an empty matrix for it
+pub record Layable (s : List ℕ) (k end r : ℕ) : Type 0 where
+  pub store : Store s
+  pub slot : k < slotCount
+  pub ends : end ≡ endFrom slotCount s
+  pub rows : r ≤ maxRows
 
 -- a store, a slot that holds a matrix, and a row and a column of it
 pub record CellOf (s : List ℕ) (k i j : ℕ) : Type 0 where
@@ -32,10 +49,7 @@ slotGrid s k = gridOf (slotAt s k)
 abbrev pub slotWith : List ℕ → ℕ → ℕ → ℕ → Cell → Grid
 slotWith s k i j x = withCell (slotGrid s k) i j x
 
--- the words of a store with the words x in slot k, and with the grid g
-abbrev pub slotPut : List ℕ → ℕ → List ℕ → List ℕ
-slotPut s k x = writing (length s) (set (slotsOf s) k x)
-
+-- the words of a store with the grid g in slot k
 abbrev pub gridPut : List ℕ → ℕ → Grid → List ℕ
 gridPut s k g = slotPut s k (encode g)
 

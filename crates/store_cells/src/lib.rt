@@ -2,13 +2,13 @@
 // clear and read a cell. Any words may be lent. Each call validates the store once. A refused call changes no word of
 // it, and a write moves each later word at most once.
 use answers::Answer;
+use answers::CellAnswer;
 use answers::EMPTY_SLOT;
 use answers::INDEX_OUT_OF_BOUNDS;
 use answers::INSUFFICIENT_SPACE;
 use answers::INVALID_SHAPE;
 use answers::INVALID_STORE;
 use answers::TOO_MANY_ENTRIES;
-use cells::CellAnswer;
 use edits::EntryAt;
 use limits::MAX_COLS;
 use limits::MAX_ENTRIES;
@@ -18,20 +18,22 @@ use matrix::layout::COLS_AT;
 use matrix::layout::FIXED_WORDS;
 use matrix::layout::ROWS_AT;
 ghost use mathlib.Core.Path.{_≡_};
-ghost use Prim.Native.Nat.{_≤_};
-ghost use lib.ListN.{length};
-ghost use Rattle.limits.specs.Limits.{slotCount, maxRows};
+ghost use Rattle.limits.specs.Limits.{slotCount};
 ghost use Rattle.answers.specs.Refusals as answers;
 ghost use Rattle.grid.specs.Grid.{emptyGrid};
-ghost use Rattle.matrix.specs.Layout.{sizeOf};
+ghost use Rattle.encoding.specs.Encode.{encode};
 ghost use Rattle.slots.specs.Sections.{endFrom};
-ghost use Rattle.slots.specs.Facts.{Store, Fits};
+ghost use Rattle.slots.specs.Facts.{Store};
+ghost use Rattle.slots.specs.Room.{Filled};
 ghost use Rattle.edits.specs.declared.EntryAt.the-variants as entry;
 ghost use Rattle.edits.specs.Entry.{entryAt};
-ghost use Rattle.model.specs.Calls.{newEmpty, dropSlot, setCell, clearCell, readCell, wrote, found};
-ghost use Rattle.model.specs.Steps.{newEmptyRefusal, cellRefusal};
-ghost use Rattle.model.specs.Stores.{modelOf, replyOn, Performed};
-ghost use Rattle.store_cells.specs.Slots.{CellOf, slotGrid, gridPut, CellSet, CellCleared};
+ghost use Rattle.model.specs.Effects.{wrote, found};
+ghost use Rattle.model.specs.Calls.{newEmpty, dropSlot, setCell, clearCell, readCell};
+ghost use Rattle.store_encoding.specs.Stores.{modelOf, replyOn, Performed};
+ghost use Rattle.store_cells.specs.Slots.{shapeRefusal, cellRefusal, Layable, CellOf, slotGrid, CellSet, CellCleared};
+
+// The words of the largest empty matrix.
+const EMPTY_WORDS: usize = MAX_ROWS as usize + FIXED_WORDS;
 
 // An empty matrix in a slot, whatever was there.
 pub fn new_empty(store: &mut [u32], slot: usize, rows: u32, cols: u32) -> Answer
@@ -41,18 +43,19 @@ pub fn new_empty(store: &mut [u32], slot: usize, rows: u32, cols: u32) -> Answer
     if end == 0 {
         return refused(INVALID_STORE);
     }
-    let code = shape_refusal(&store[..], slot, end, rows, cols);
+    let code = shape_refusal(slot, rows, cols);
     if code != 0 {
         return refused(code);
     }
-    lay(store, slot, end, rows, cols);
+    if !lay(store, slot, end, rows, cols) {
+        return refused(INSUFFICIENT_SPACE);
+    }
     accepted(0)
 }
 
-// 12, 8 and 11 of an empty matrix.
-fn shape_refusal(store: &[u32], slot: usize, end: usize, rows: u32, cols: u32) -> u32
-    requires { ⌜ Store (now store) ⌝ ∗ ⌜ end ≡ endFrom slotCount (now store) ⌝ }
-    ensures { λ r. ⌜ r ≡ newEmptyRefusal (length (now (store .entry))) (modelOf (now (store .entry))) slot rows cols ⌝ }
+// 12 and 8 of an empty matrix.
+fn shape_refusal(slot: usize, rows: u32, cols: u32) -> u32
+    ensures { λ r. ⌜ r ≡ shapeRefusal slot rows cols ⌝ }
 {
     if SLOTS <= slot {
         return INVALID_STORE;
@@ -63,21 +66,18 @@ fn shape_refusal(store: &[u32], slot: usize, end: usize, rows: u32, cols: u32) -
     if !matrix::in_range(cols, MAX_COLS) {
         return INVALID_SHAPE;
     }
-    if !slots::fits(store, slot, end, rows as usize + FIXED_WORDS) {
-        return INSUFFICIENT_SPACE;
-    }
     0
 }
 
-// The words of an empty matrix in a slot; there is room for them.
-fn lay(store: &mut [u32], slot: usize, end: usize, rows: u32, cols: u32)
-    requires { ⌜ Fits (now store) slot end (sizeOf rows 0) ⌝ ∗ ⌜ rows ≤ maxRows ⌝ }
-    ensures { λ _. ⌜ now (store .exit) ≡ gridPut (now (store .entry)) slot (emptyGrid rows cols) ⌝ }
+// The words of an empty matrix put into a slot, if there is room for them.
+fn lay(store: &mut [u32], slot: usize, end: usize, rows: u32, cols: u32) -> bool
+    requires { ⌜ Layable (now store) slot end rows ⌝ }
+    ensures { λ r. ⌜ Filled (now (store .entry)) slot (encode (emptyGrid rows cols)) r (now (store .exit)) ⌝ }
 {
+    let mut empty: [u32; EMPTY_WORDS] = [0; EMPTY_WORDS];
+    create::write_empty(&mut empty[..], rows, cols);
     let size = rows as usize + FIXED_WORDS;
-    let from = slots::find(&store[..], slot) + 1;
-    slots::resize(store, slot, end, size);
-    create::write_empty(&mut store[from..from + size], rows, cols);
+    slots::put(store, slot, end, &empty[..size])
 }
 
 // A slot becomes empty.

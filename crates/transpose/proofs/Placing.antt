@@ -130,8 +130,6 @@ pub record Placing (g : Grid) (i : ℕ) (columns next₀ s₀ next s : List ℕ)
   pub long-next : length next ≡ length next₀
   pub long-sections : length s ≡ length s₀
   pub entries : Traversal columns (IfRow g i next s) (IfRow g (i + 1) next s) k
-  pub count : at s 0 ≡ entryCount g
-  pub again : at s (entryCount g + 1) ≡ entryCount g
 
 -- none of them yet
 pub placing-start : {g : Grid} {i : ℕ} {columns values next s : List ℕ} → Source g i columns values
@@ -140,8 +138,6 @@ placing-start {g} {i} {columns} {values} src h = record {
   long-next = refl;
   long-sections = refl;
   entries = traversal-start (λ j m l. row-same (src .cells j ∙ lookup-absent columns values j m) (h .row j l)) (h .row);
-  count = h .count;
-  again = h .again;
 }
 
 -- what a turn finds: the column is a row of the grid, it has a value beside it, and its next place is that of a slot
@@ -191,18 +187,9 @@ module _ {g : Grid} {n i k : ℕ} {columns values next₀ s₀ next s : List ℕ
             (λ w r. row-more room-now c-row (src .within) there here)
             (λ j d w r. keep (i + 1) j (omega (arith, src .within)) r d (w r))
             (λ j d w r. keep i j (omega (arith, src .within)) r d (w r));
-        count = kept 0 (λ e. omega arith) (λ e. omega arith) ∙ h .count;
-        again = kept (entryCount g + 1) (λ e. omega arith) (λ e. omega arith) ∙ h .again;
       }
-    where
-      -- a word that no turn stores to
-      kept : (p : ℕ) → (p ≡ at next (at columns k) + 1 → ⊥) → (p ≡ at next (at columns k) + n + 2 → ⊥)
-          → at (stored s (at next (at columns k)) n i (at values k)) p ≡ at s p
-      kept p d e =
-          getD-set-other (set s (at next (at columns k) + 1) i) (at next (at columns k) + n + 2) p (at values k) 0 e
-          ∙ getD-set-other s (at next (at columns k) + 1) p i 0 d
 
 -- after the last entry every row has its entries of one column more
 pub placing-done : {g : Grid} {i k : ℕ} {columns next₀ s₀ next s : List ℕ}
     → Placing g i columns next₀ s₀ next s k → length columns ≤ k → Placed g (i + 1) next s
-placing-done h l = record { row = traversal-done (h .entries) l; count = h .count; again = h .again }
+placing-done h l = record { row = traversal-done (h .entries) l }

@@ -5,17 +5,16 @@ use native.Mathlib.Omega.{arith}
 use native.Mathlib.Nat.{add-zero, le-refl}
 use native.Mathlib.Numerals.{add-one}
 use mathlib.Core.Path.{_≡_, refl, sym, ap, _∙_}
-use mathlib.Core.List.{List, [], _++_, append-nil}
-use lib.ListN.{length, drop, set, length-set, drop-of-length-le}
-use lib.Seq.{ext-getD, getD-set-same, getD-set-other}
+use mathlib.Core.List.{List}
+use lib.ListN.{length}
+use lib.Seq.{ext-getD}
 use Rattle.words.specs.Words.{at, part}
 use Rattle.words.proofs.Parts.{part-empty, length-part, part-append, part-at}
 use Rattle.grid.specs.Grid.{Grid}
-use Rattle.grid.specs.Entries.{column, value, gather, flatten, gridColumns, gridValues, entryCount}
+use Rattle.grid.specs.Entries.{column, value, gather, flatten, entryCount}
 use Rattle.grid.proofs.Gather.{gather-length, flatten-next}
-use Rattle.encoding.specs.Encode.{entriesBefore, counted}
-use Rattle.encoding.proofs.Sections.{section-made}
-use Rattle.transpose.specs.Placed.{entrySections, Slots, Placed, Room, Ready}
+use Rattle.encoding.specs.Encode.{entriesBefore}
+use Rattle.transpose.specs.Placed.{EntrySections, Slots, Placed, Room, Ready}
 use Rattle.transpose.proofs.Slots.{start-next, start-grows}
 use Rattle.transpose.proofs.Placing.{room-kept}
 
@@ -26,31 +25,27 @@ pub record RowsPlaced (g : Grid) (n : ℕ) (next₀ next s : List ℕ) (i : ℕ)
   pub room : Room g n next s
   pub placed : Placed g i next s
 
--- before the first row the counts are stored, and every slot is free
+-- before the first row every slot is free
 pub placed-none : {g : Grid} {n : ℕ} {next s : List ℕ} → Ready g next s → n ≡ entryCount g
-    → RowsPlaced g n next next (set (set s 0 n) (n + 1) n) 0
+    → RowsPlaced g n next next s 0
 unfolding gather
-placed-none {g} {n} {next} {s} h e =
-    let long = length-set s 0 n in
-    record {
-      within = omega arith;
-      long-next = refl;
-      room = record {
-        entries-are = e;
-        few = h .room .few;
-        rows-fit = h .room .rows-fit;
-        sections-fit = length-set (set s 0 n) (n + 1) n ∙ long ∙ h .room .sections-fit;
-      };
-      placed = record {
-        row = λ j l. record {
-          next-place = h .starts j l ∙ sym (add-zero (entriesBefore g j));
-          columns = λ k u. absurd (omega arith);
-          values = λ k u. absurd (omega arith);
-        };
-        count = getD-set-other (set s 0 n) (n + 1) 0 n 0 (λ z. omega arith) ∙ getD-set-same s 0 n 0 (omega arith) ∙ e;
-        again = rw (← e) (getD-set-same (set s 0 n) (n + 1) n 0 (omega arith));
-      };
-    }
+placed-none {g} h e = record {
+  within = omega arith;
+  long-next = refl;
+  room = record {
+    entries-are = e;
+    few = h .room .few;
+    rows-fit = h .room .rows-fit;
+    sections-fit = h .room .sections-fit;
+  };
+  placed = record {
+    row = λ j l. record {
+      next-place = h .starts j l ∙ sym (add-zero (entriesBefore g j));
+      columns = λ k u. absurd (omega arith);
+      values = λ k u. absurd (omega arith);
+    };
+  };
+}
 
 -- a row more is placed
 pub placed-next : {g : Grid} {n i : ℕ} {next₀ next s next′ s′ : List ℕ} → RowsPlaced g n next₀ next s i → i < g .cols
@@ -99,15 +94,8 @@ module _ (emit : ℕ → ℕ → ℕ) (b : ℕ) (g : Grid) (s : List ℕ) (fits 
 
 -- when every row is placed, the sections are those of the grid
 pub placed-all : {g : Grid} {next s : List ℕ} → Placed g (g .cols) next s
-    → length s ≡ entryCount g + entryCount g + 2 → s ≡ entrySections g
-placed-all {g} {next} {s} h long =
-    let n = entryCount g in
-    let columns = section-part column 1 g s (omega arith) (λ j l. h .row j l .columns) in
-    let values = section-part value (n + 2) g s (omega arith) (λ j l. h .row j l .values) in
-    let e : 1 + n ≡ n + 1 = omega arith in
-    let none : drop (n + 2 + n) s ≡ [] = drop-of-length-le s {i = n + 2 + n} (omega arith) in
-    section-made 0 1 (1 + n) s refl (omega (arith, h .count)) (omega arith) .here
-    ∙ rw (columns, ap (λ (x : ℕ). drop x s) e)
-    (ap (λ (l : List ℕ). counted (gridColumns g) ++ l)
-    (section-made (n + 1) (n + 2) (n + 2 + n) s (omega arith) (omega (arith, h .again)) (omega arith) .here
-    ∙ rw (values, none) (append-nil (counted (gridValues g)))))
+    → length s ≡ entryCount g + entryCount g + 2 → EntrySections g s
+placed-all {g} {next} {s} h long = record {
+  columns = section-part column 1 g s (omega arith) (λ j l. h .row j l .columns);
+  values = section-part value (entryCount g + 2) g s (omega arith) (λ j l. h .row j l .values);
+}

@@ -2,17 +2,18 @@
 -- when the first i columns have been passed.
 use Prim.Native.Nat.{ℕ, _+_, _≤_, _<_}
 use mathlib.Core.Path.{_≡_}
-use mathlib.Core.List.{List, _++_}
+use mathlib.Core.List.{List}
 use lib.ListN.{length}
 use Rattle.limits.specs.Limits.{maxEntries}
-use Rattle.words.specs.Words.{at}
+use Rattle.words.specs.Words.{at, part}
 use Rattle.grid.specs.Grid.{Grid}
 use Rattle.grid.specs.Entries.{column, value, gather, gridColumns, gridValues, entryCount}
-use Rattle.encoding.specs.Encode.{counted, entriesBefore}
+use Rattle.encoding.specs.Encode.{entriesBefore}
 
--- the column numbers and the values of a grid, each after their count
-abbrev pub entrySections : Grid → List ℕ
-entrySections g = counted (gridColumns g) ++ counted (gridValues g)
+-- the column numbers and the values of a grid stand in the words of their sections, each after the word for their count
+pub record EntrySections (g : Grid) (sections : List ℕ) : Type 0 where
+  pub columns : part 1 (1 + entryCount g) sections ≡ gridColumns g
+  pub values : part (entryCount g + 2) (entryCount g + 2 + entryCount g) sections ≡ gridValues g
 
 -- how many entries row j has in its first i columns
 abbrev pub filled : Grid → ℕ → ℕ → ℕ
@@ -23,17 +24,15 @@ abbrev pub Slots : (ℕ → ℕ → ℕ) → ℕ → Grid → ℕ → List ℕ �
 Slots emit b g i sections j =
     (k : ℕ) → k < filled g i j → at sections (b + (entriesBefore g j + k)) ≡ at (gather emit i (g .cell j)) k
 
--- row j has those entries in both sections, each of which begins after its count, and `next` has the place of the next
+-- row j has those entries in both sections, each after the word for its count, and `next` has the place of the next
 pub record RowPlaced (g : Grid) (i : ℕ) (next sections : List ℕ) (j : ℕ) : Type 0 where
   pub next-place : at next j ≡ entriesBefore g j + filled g i j
   pub columns : Slots column 1 g i sections j
   pub values : Slots value (entryCount g + 2) g i sections j
 
--- every row has its entries of the first i columns, and the sections have their counts
+-- every row has its entries of the first i columns
 pub record Placed (g : Grid) (i : ℕ) (next sections : List ℕ) : Type 0 where
   pub row : (j : ℕ) → j < g .rows → RowPlaced g i next sections j
-  pub count : at sections 0 ≡ entryCount g
-  pub again : at sections (entryCount g + 1) ≡ entryCount g
 
 -- a grid with few enough entries, n of them, and room for its rows and its sections
 pub record Room (g : Grid) (n : ℕ) (next sections : List ℕ) : Type 0 where

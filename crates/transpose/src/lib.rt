@@ -7,8 +7,6 @@ use matrix::layout::COUNT_AGAIN_PAST;
 use matrix::layout::COUNT_PAST;
 use matrix::layout::FIXED_WORDS;
 use matrix::layout::ROWS_AT;
-use matrix::layout::SHAPE_COUNT_AT;
-use matrix::layout::START_COUNT_AT;
 use matrix::layout::STARTS_AT;
 ghost use mathlib.Core.Path.{_≡_};
 ghost use Prim.Native.Nat.{_+_, _≤_};
@@ -19,7 +17,7 @@ ghost use Rattle.matrix.specs.Facts.{Header, RowSpan, Matrix};
 ghost use Rattle.encoding.specs.Encode.{writtenOver};
 ghost use Rattle.operations.specs.GridOperations.{transposed};
 ghost use Rattle.transpose.specs.Counts.{Countable, CountsOf, Summable, Sums};
-ghost use Rattle.transpose.specs.Placed.{entrySections, Placed, Room, Ready};
+ghost use Rattle.transpose.specs.Placed.{EntrySections, Placed, Room, Ready};
 
 // The transposed matrix at the front of `out`; what lies behind it stays.
 pub fn transpose(a: &[u32], out: &mut [u32])
@@ -30,19 +28,17 @@ pub fn transpose(a: &[u32], out: &mut [u32])
     let cols = a[COLS_AT];
     let r = rows as usize;
     let c = cols as usize;
-    let n = matrix::entry_count(a) as usize;
+    let count = matrix::entry_count(a);
+    let n = count as usize;
     let columns_at = r + COLUMNS_PAST;
     let columns_end = r + n + COUNT_AGAIN_PAST;
     let mut next = [0u32; ROW_PLACES];
     count_columns(&a[columns_at..columns_end], &mut next);
-    out[SHAPE_COUNT_AT] = 2;
-    out[ROWS_AT] = cols;
-    out[COLS_AT] = rows;
-    out[START_COUNT_AT] = cols + 1;
     let starts_end = c + COUNT_PAST;
     write_starts(c, &mut next, &mut out[STARTS_AT..starts_end]);
     let end = c + n + n + FIXED_WORDS;
     write_entries(a, &mut next, &mut out[starts_end..end]);
+    matrix::write_header(out, cols, rows, count);
 }
 
 // How often each column number occurs.
@@ -75,17 +71,14 @@ fn write_starts(c: usize, counts: &mut [u32], starts: &mut [u32])
     starts[j] = sum;
 }
 
-// The column numbers and the values of the transposed matrix, each after their count. `next` has the start of each
-// column of `a`.
+// The column numbers and the values of the transposed matrix, each after the word for their count. `next` has the start
+// of each column of `a`.
 fn write_entries(a: &[u32], next: &mut [u32], sections: &mut [u32])
     requires { ⌜ Matrix (now a) ⌝ ∗ ⌜ Ready (transposed (gridOf (now a))) (now next) (now sections) ⌝ }
-    ensures { λ _. ⌜ now (sections .exit) ≡ entrySections (transposed (gridOf (now (a .entry)))) ⌝ }
+    ensures { λ _. ⌜ EntrySections (transposed (gridOf (now (a .entry)))) (now (sections .exit)) ⌝ }
 {
     let r = a[ROWS_AT] as usize;
-    let count = matrix::entry_count(a);
-    let n = count as usize;
-    sections[0] = count;
-    sections[n + 1] = count;
+    let n = matrix::entry_count(a) as usize;
     let mut i = 0;
     while i < r {
         place_row(a, i, n, next, sections);
@@ -94,7 +87,7 @@ fn write_entries(a: &[u32], next: &mut [u32], sections: &mut [u32])
 }
 
 // The entries of row i of `a`, which has n in all, go to the next places of their columns. The column numbers begin
-// after their count, the first word of `sections`, and the values after theirs, word n + 1.
+// after the word for their count, the first of `sections`, and the values after theirs, word n + 1.
 fn place_row(a: &[u32], i: usize, n: usize, next: &mut [u32], sections: &mut [u32])
     requires { ⌜ Header (now a) ⌝ }
     requires { ⌜ RowSpan (now a) i ⌝ }

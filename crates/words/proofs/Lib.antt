@@ -1,4 +1,3 @@
-pub mod Tests
 pub mod Parts
 pub mod Overwrite
 pub mod Upwards

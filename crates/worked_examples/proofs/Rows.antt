@@ -3,8 +3,8 @@ use mathlib.Core.Path.{_≡_, refl, sym, ap}
 use mathlib.Core.List.{List, [], _∷_, List·Memᴰ, List·Memᴰ·head, List·Memᴰ·tail}
 use mathlib.Core.Bool.{true, false, false≢true}
 use borrow.Author.Tests.{eqb-true}
-use Rattle.words.specs.Tests.{all}
-use Rattle.words.proofs.Tests.{and-left, and-right, all-at}
+use Rattle.conditions.specs.Tests.{all}
+use Rattle.conditions.proofs.Tests.{and-left, and-right, all-at}
 use Rattle.grid.specs.declared.Cell.{Cell}
 use Rattle.grid.specs.declared.Cell.the-variants.{Absent, Present}
 use Rattle.grid.specs.Grid.{Grid, Same}

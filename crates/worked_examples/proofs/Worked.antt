@@ -2,7 +2,7 @@
 use mathlib.Core.Path.{_≡_, refl}
 use mathlib.Core.List.{List·Memᴰ}
 use mathlib.Core.Bool.{true}
-use Rattle.words.specs.Tests.{_and_, all}
+use Rattle.conditions.specs.Tests.{_and_, all}
 use Rattle.twos_complement.specs.TwosComplement.{signed, word}
 use Rattle.operators.specs.Operators.{binaryWord, indexUnaryWord, entryWord}
 use Rattle.operations.specs.CellOperations.{dot}

@@ -6,7 +6,7 @@ use lib.IntN.{ℤ, pos, negℤ}
 use lib.Dec.{ltb, eqb}
 use lib.Signed.{leZ}
 use Rattle.twos_complement.specs.TwosComplement.{word}
-use Rattle.words.specs.Tests.{_and_}
+use Rattle.conditions.specs.Tests.{_and_}
 use Rattle.grid.specs.declared.Cell.{Cell}
 use Rattle.grid.specs.declared.Cell.the-variants.{Absent, Present}
 use Rattle.grid.specs.Grid.{Grid}

@@ -1,6 +1,6 @@
 -- `both` is `and`.
 use borrow.Author.Tests.{not-true, not-false}
-use Rattle.words.specs.Tests.{_and_}
+use Rattle.conditions.specs.Tests.{_and_}
 use Rattle.call_codes.proofs.both.Statement.{statement}
 use Rattle.call_codes.proofs.both.Tie as tie
 

@@ -3,12 +3,12 @@ use native.Mathlib.Omega.{arith}
 use mathlib.Core.Path.{_≡_, ap, _∙_}
 use mathlib.Core.Bool.{true}
 use denote.Ref.{now}
-use Rattle.words.proofs.Tests.{said-no, said-yes}
+use Rattle.conditions.proofs.Tests.{said-no, said-yes}
 use Rattle.rows.proofs.Rising.{rising-rises}
 use Rattle.matrix.specs.Valid.{valid}
 use Rattle.matrix.specs.Facts.{Matrix}
 use Rattle.matrix.proofs.Facts.{matrix-facts, row-span}
-use Rattle.cells.specs.Read.{foundAnswer}
+use Rattle.answers.specs.Reads.{foundAnswer}
 use Rattle.cells.proofs.Cases.{read-invalid, read-past-rows, read-past-cols, read-found}
 use borrow.Author.Needs.{needs}
 use Rattle.cells.proofs.read_cell.Statement.{statement}

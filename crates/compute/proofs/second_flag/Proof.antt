@@ -1,6 +1,6 @@
 -- `second_flag` is `secondFlag`.
 use mathlib.Core.Path.{_∙_}
-use Rattle.words.proofs.Tests.{said-no, said-yes}
+use Rattle.conditions.proofs.Tests.{said-no, said-yes}
 use borrow.Author.Needs.{needs}
 use Rattle.compute.proofs.second_flag.Statement.{statement}
 use Rattle.compute.proofs.second_flag.Tie as tie

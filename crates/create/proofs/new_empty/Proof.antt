@@ -3,7 +3,7 @@ use native.Mathlib.Omega.{arith}
 use mathlib.Core.Path.{_≡_}
 use mathlib.Core.Bool.{true}
 use Rattle.limits.specs.Limits.{maxRows, maxCols}
-use Rattle.words.proofs.Tests.{said-no, said-yes}
+use Rattle.conditions.proofs.Tests.{said-no, said-yes}
 use Rattle.matrix.specs.Valid.{inRange}
 use Rattle.matrix.proofs.Facts.{range-facts}
 use Rattle.create.proofs.Cases.{rows-refused, cols-refused, space-refused, created}

@@ -4,7 +4,7 @@ use mathlib.Core.Path.{_≡_, sym, _∙_}
 use mathlib.Core.Bool.{false≢true}
 use denote.Ref.{now}
 use Rattle.limits.specs.Limits.{maxRows, maxCols}
-use Rattle.words.proofs.Tests.{refuted, said-no, said-yes}
+use Rattle.conditions.proofs.Tests.{refuted, said-no, said-yes}
 use Rattle.matrix.specs.Layout.{rows, cols}
 use Rattle.matrix.specs.Facts.{InRange}
 use Rattle.matrix.proofs.Facts.{range-made, range-facts, header-facts, header-made}

@@ -2,8 +2,8 @@
 use mathlib.Core.Path.{sym}
 use native.Mathlib.Omega.{arith}
 use borrow.Author.Tests.{le-leb}
-use Rattle.words.specs.Tests.{_and_}
-use Rattle.words.proofs.Tests.{refuted}
+use Rattle.conditions.specs.Tests.{_and_}
+use Rattle.conditions.proofs.Tests.{refuted}
 use Rattle.matrix.specs.Valid.{inRange}
 use Rattle.matrix.proofs.Facts.{range-facts}
 use Rattle.matrix.proofs.in_range.Statement.{statement}

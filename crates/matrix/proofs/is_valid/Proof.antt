@@ -2,7 +2,7 @@
 use mathlib.Core.Path.{_≡_, _∙_}
 use mathlib.Core.Bool.{true}
 use denote.Ref.{now}
-use Rattle.words.proofs.Tests.{said-no, said-yes}
+use Rattle.conditions.proofs.Tests.{said-no, said-yes}
 use Rattle.matrix.specs.Valid.{headerValid, startsValid}
 use Rattle.matrix.proofs.Facts.{header-facts, starts-facts}
 use Rattle.matrix.proofs.Checks.{header-fails, starts-fail, rows-decide}

@@ -5,8 +5,8 @@ use mathlib.Core.Path.{_≡_, sym, ap, _∙_}
 use mathlib.Core.Bool.{true}
 use denote.Ref.{now}
 use borrow.Author.Tests.{not-true, not-false}
-use Rattle.words.specs.Tests.{all}
-use Rattle.words.proofs.Tests.{all-none, all-more, all-not}
+use Rattle.conditions.specs.Tests.{all}
+use Rattle.conditions.proofs.Tests.{all-none, all-more, all-not}
 use Rattle.rows.specs.Row.{rising}
 use Rattle.matrix.specs.Layout.{rows}
 use Rattle.matrix.specs.Valid.{rowsValid}

@@ -5,8 +5,8 @@ use mathlib.Core.Path.{_≡_, sym}
 use mathlib.Core.Bool.{true}
 use denote.Ref.{now}
 use borrow.Author.Tests.{le-leb}
-use Rattle.words.specs.Tests.{all}
-use Rattle.words.proofs.Tests.{refuted, all-none, all-more}
+use Rattle.conditions.specs.Tests.{all}
+use Rattle.conditions.proofs.Tests.{refuted, all-none, all-more}
 use Rattle.matrix.specs.Layout.{rows}
 use Rattle.matrix.proofs.Facts.{climbs, starts-facts, starts-from-tests}
 use borrow.Author.Needs.{needs}

@@ -8,8 +8,8 @@ use lib.ListN.{length}
 use lib.Dec.{ltb}
 use borrow.Author.Tests.{lt-ltb}
 use Rattle.words.specs.Words.{at}
-use Rattle.words.specs.Tests.{all}
-use Rattle.words.proofs.Tests.{refuted, all-none, all-more}
+use Rattle.conditions.specs.Tests.{all}
+use Rattle.conditions.proofs.Tests.{refuted, all-none, all-more}
 use Rattle.operations.proofs.Lists.{list-facts, list-made}
 use borrow.Author.Needs.{needs}
 use Rattle.requests.proofs.list_valid.Statement.{statement}

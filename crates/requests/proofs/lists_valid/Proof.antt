@@ -1,7 +1,7 @@
 -- `lists_valid` tests both lists.
 use mathlib.Core.Path.{_∙_}
-use Rattle.words.specs.Tests.{_and_}
-use Rattle.words.proofs.Tests.{said-no, said-yes}
+use Rattle.conditions.specs.Tests.{_and_}
+use Rattle.conditions.proofs.Tests.{said-no, said-yes}
 use borrow.Author.Needs.{needs}
 use Rattle.requests.proofs.lists_valid.Statement.{statement}
 use Rattle.requests.proofs.lists_valid.Tie as tie

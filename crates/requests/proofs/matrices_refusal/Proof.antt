@@ -1,6 +1,6 @@
 -- `matrices_refusal` looks at the matrices in their order.
 use borrow.Author.Needs.{needs}
-use Rattle.words.proofs.Tests.{said-no, said-yes}
+use Rattle.conditions.proofs.Tests.{said-no, said-yes}
 use Rattle.requests.proofs.Refusals.{first-refused, second-refused, mask-refused, output-refused, all-valid}
 use Rattle.requests.proofs.matrices_refusal.Statement.{statement}
 use Rattle.requests.proofs.matrices_refusal.Tie as tie

@@ -1,6 +1,6 @@
 -- `numbers_refusal` looks at the flags and then at the operators.
 use borrow.Author.Tests.{lt-ltb, le-ltb}
-use Rattle.requests.specs.Cases.{numbersRefusal}
+use Rattle.refusals.specs.Cases.{numbersRefusal}
 use Rattle.requests.proofs.numbers_refusal.Statement.{statement}
 use Rattle.requests.proofs.numbers_refusal.Tie as tie
 

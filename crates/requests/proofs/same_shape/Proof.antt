@@ -1,6 +1,6 @@
 -- `same_shape` compares rows, then columns.
 use borrow.Author.Tests.{eq-eqb, ne-eqb}
-use Rattle.words.specs.Tests.{_and_}
+use Rattle.conditions.specs.Tests.{_and_}
 use Rattle.requests.proofs.same_shape.Statement.{statement}
 use Rattle.requests.proofs.same_shape.Tie as tie
 

@@ -1,6 +1,6 @@
 -- `second_valid` is the validity of a second input that is there.
 use mathlib.Core.Path.{_∙_}
-use Rattle.words.proofs.Tests.{said-no, said-yes}
+use Rattle.conditions.proofs.Tests.{said-no, said-yes}
 use borrow.Author.Needs.{needs}
 use Rattle.requests.proofs.second_valid.Statement.{statement}
 use Rattle.requests.proofs.second_valid.Tie as tie

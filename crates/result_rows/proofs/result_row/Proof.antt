@@ -10,34 +10,34 @@ enum-known-operation c = search needs
 
 product-requires : tie.Need-product-requires
 product-requires c κs =
-    let p = c .before .before .before .before .before .before .before .before .before .before .before .pre in
+    let p = c .before .before .before .before .before .before .before .before .before .before .before .before .pre in
     let e = c .before .before .before .operation .given .1 in
-    (product-inputs _ _ _ _ _ _ _ (rw e at (p .0)), buffers (rw e at (p .1)))
+    (product-inputs _ _ _ _ _ _ _ _ (rw e at (p .0)), buffers (rw e at (p .1)))
 
 enum-known-operation-2 : tie.Need-enum-known-operation-2
 enum-known-operation-2 c = search needs
 
 pair-requires : tie.Need-pair-requires
 pair-requires c κs =
-    let p = c .before .before .before .before .before .before .before .before .before .before .before .pre in
+    let p = c .before .before .before .before .before .before .before .before .before .before .before .before .pre in
     let e = c .before .before .before .operation2 .given .1 in
-    (mult-inputs _ _ _ _ _ _ (rw e at (p .0)), buffers (rw e at (p .1)))
+    (mult-inputs _ _ _ _ _ _ _ (rw e at (p .0)), buffers (rw e at (p .1)))
 
 enum-known-operation-3 : tie.Need-enum-known-operation-3
 enum-known-operation-3 c = search needs
 
 pair-requires-2 : tie.Need-pair-requires-2
 pair-requires-2 c κs =
-    let p = c .before .before .before .before .before .before .before .before .before .before .before .pre in
+    let p = c .before .before .before .before .before .before .before .before .before .before .before .before .pre in
     let e = c .before .before .before .operation3 .given .1 in
-    (add-inputs _ _ _ _ _ _ (rw e at (p .0)), buffers (rw e at (p .1)))
+    (add-inputs _ _ _ _ _ _ _ (rw e at (p .0)), buffers (rw e at (p .1)))
 
 enum-known-operation-4 : tie.Need-enum-known-operation-4
 enum-known-operation-4 c = search needs
 
 applied-requires : tie.Need-applied-requires
 applied-requires c κs =
-    let p = c .before .before .before .before .before .before .before .before .before .before .before .pre in
+    let p = c .before .before .before .before .before .before .before .before .before .before .before .before .pre in
     let e = c .before .before .before .operation4 .given .1 in
     let h = rw e at (p .0) in
     (h .first, (h .row, buffers (rw e at (p .1))))
@@ -47,9 +47,9 @@ enum-told c = search needs
 
 extracted-requires : tie.Need-extracted-requires
 extracted-requires c κs =
-    let p = c .before .before .before .before .before .before .before .before .before .before .pre in
+    let p = c .before .before .before .before .before .before .before .before .before .before .before .pre in
     let e = c .before .before .enum-told .given .1 in
-    (list-inputs _ _ _ _ _ (rw e at (p .0)), buffers (rw e at (p .1)))
+    (list-inputs _ _ _ _ _ _ (rw e at (p .0)), buffers (rw e at (p .1)))
 
 same-length : tie.Need-same-length
 same-length c = search needs

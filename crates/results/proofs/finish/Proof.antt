@@ -1,5 +1,6 @@
 -- `finish` leaves `finished`.
 use native.Mathlib.Omega.{arith}
+use mathlib.Core.Path.{_∙_}
 use lib.ListN.{length-set}
 use borrow.Author.Needs.{needs}
 use Rattle.results.proofs.finish.Statement.{statement}
@@ -14,14 +15,11 @@ add-move-down-2 c = search needs
 move-down-requires : tie.Need-move-down-requires
 move-down-requires c κs = search needs
 
-cast-count : tie.Need-cast-count
-cast-count c = search needs
+cast-work : tie.Need-cast-work
+cast-work c = search needs
 
 add-work : tie.Need-add-work
 add-work c = search needs
-
-add-work-2 : tie.Need-add-work-2
-add-work-2 c = search needs
 
 mul-work : tie.Need-mul-work
 mul-work c = search needs
@@ -29,53 +27,27 @@ mul-work c = search needs
 slice-write-work : tie.Need-slice-write-work
 slice-write-work c = search needs
 
-add-work-3 : tie.Need-add-work-3
-add-work-3 c = search needs
+cast-write-header : tie.Need-cast-write-header
+cast-write-header c = search needs
 
-mul-work-2 : tie.Need-mul-work-2
-mul-work-2 c = search needs
+cast-write-header-2 : tie.Need-cast-write-header-2
+cast-write-header-2 c = search needs
 
-slice-write-work-2 : tie.Need-slice-write-work-2
-slice-write-work-2 c = simp length-set (omega arith)
+cast-write-header-3 : tie.Need-cast-write-header-3
+cast-write-header-3 c = search needs
 
-add-work-4 : tie.Need-add-work-4
-add-work-4 c = search needs
-
-mul-work-3 : tie.Need-mul-work-3
-mul-work-3 c = search needs
-
-slice-write-work-3 : tie.Need-slice-write-work-3
-slice-write-work-3 c = simp length-set (omega arith)
-
-slice-write-work-4 : tie.Need-slice-write-work-4
-slice-write-work-4 c = simp length-set (omega arith)
-
-cast-work : tie.Need-cast-work
-cast-work c = search needs
-
-slice-write-work-5 : tie.Need-slice-write-work-5
-slice-write-work-5 c = simp length-set (omega arith)
-
-cast-work-2 : tie.Need-cast-work-2
-cast-work-2 c = search needs
-
-slice-write-work-6 : tie.Need-slice-write-work-6
-slice-write-work-6 c = simp length-set (omega arith)
-
-cast-work-3 : tie.Need-cast-work-3
-cast-work-3 c = search needs
-
-add-work-5 : tie.Need-add-work-5
-add-work-5 c = search needs
-
-slice-write-work-7 : tie.Need-slice-write-work-7
-slice-write-work-7 c = simp length-set (omega arith)
+write-header-requires : tie.Need-write-header-requires
+write-header-requires c κs = record { rows = search needs; fits = simp length-set (omega arith) }
 
 same-length : tie.Need-same-length
-same-length c = simp length-set (c .before .before .move-down .kept .0)
+same-length c =
+    let q = c .before .before in
+    q .write-header .kept .0 ∙ simp length-set (q .before .before .before .before .move-down .kept .0)
 
 returns : tie.Need-returns
-returns c = rw (c .before .before .move-down .ensures)
+returns c =
+    let q = c .before .before in
+    q .write-header .ensures ∙ rw (q .before .before .before .before .move-down .ensures)
 
 pub finish-spec : {M : Type 1} → statement M
 finish-spec =
@@ -84,24 +56,13 @@ finish-spec =
     add-move-down
     add-move-down-2
     move-down-requires
-    cast-count
+    cast-work
     add-work
-    add-work-2
     mul-work
     slice-write-work
-    add-work-3
-    mul-work-2
-    slice-write-work-2
-    add-work-4
-    mul-work-3
-    slice-write-work-3
-    slice-write-work-4
-    cast-work
-    slice-write-work-5
-    cast-work-2
-    slice-write-work-6
-    cast-work-3
-    add-work-5
-    slice-write-work-7
+    cast-write-header
+    cast-write-header-2
+    cast-write-header-3
+    write-header-requires
     same-length
     returns)

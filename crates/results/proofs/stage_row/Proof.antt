@@ -4,6 +4,7 @@ use Prim.Native.Nat.{_+_}
 use mathlib.Core.Path.{_∙_}
 use denote.Ref.{now}
 use lib.ListN.{length-set}
+use Rattle.matrix.specs.Layout.{startsAt}
 use borrow.Author.Needs.{needs}
 use Rattle.results.proofs.stage_row.Statement.{statement}
 use Rattle.results.proofs.stage_row.Tie as tie
@@ -36,7 +37,7 @@ copy-into-requires-2 : tie.Need-copy-into-requires-2
 copy-into-requires-2 c κs =
     let q = c .before .before .before in
     let a = q .before .before .before .before .before .args in
-    let e = q .copy-into .kept .0 ∙ length-set (now (a .work)) (a .i + 4) (a .n) in
+    let e = q .copy-into .kept .0 ∙ length-set (now (a .work)) (a .i + startsAt) (a .n) in
     omega arith
 
 same-length : tie.Need-same-length
@@ -44,7 +45,7 @@ same-length c =
     let q = c .before .before in
     let p = q .before .before .before .before in
     let a = p .before .before .before .before .before .args in
-    q .copy-into2 .kept .0 ∙ p .copy-into .kept .0 ∙ length-set (now (a .work)) (a .i + 4) (a .n)
+    q .copy-into2 .kept .0 ∙ p .copy-into .kept .0 ∙ length-set (now (a .work)) (a .i + startsAt) (a .n)
 
 returns : tie.Need-returns
 returns c =

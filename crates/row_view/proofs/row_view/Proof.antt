@@ -2,7 +2,7 @@
 use mathlib.Core.Path.{_≡_, refl}
 use mathlib.Core.Bool.{true}
 use denote.Ref.{now}
-use Rattle.words.proofs.Tests.{said-no, said-yes}
+use Rattle.conditions.proofs.Tests.{said-no, said-yes}
 use Rattle.matrix.proofs.Facts.{matrix-facts}
 use Rattle.row_view.specs.View.{viewable}
 use Rattle.row_view.proofs.Views.{

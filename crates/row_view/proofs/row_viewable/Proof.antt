@@ -3,7 +3,7 @@ use native.Mathlib.Omega.{arith}
 use mathlib.Core.Path.{_≡_, sym, _∙_}
 use mathlib.Core.Bool.{true, false≢true}
 use denote.Ref.{now}
-use Rattle.words.proofs.Tests.{refuted, said-no, said-yes}
+use Rattle.conditions.proofs.Tests.{refuted, said-no, said-yes}
 use Rattle.matrix.specs.Valid.{valid}
 use Rattle.matrix.proofs.Facts.{matrix-facts}
 use Rattle.row_view.proofs.Views.{viewable-facts, row-decides}

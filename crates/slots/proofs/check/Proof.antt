@@ -1,6 +1,6 @@
 -- `check` is the test `storeValid`, and where the sections end.
 use native.Mathlib.Omega.{arith}
-use Rattle.words.proofs.Tests.{said-no, said-yes}
+use Rattle.conditions.proofs.Tests.{said-no, said-yes}
 use Rattle.slots.proofs.Checks.{too-short, too-long, sections-fail, end-inside, zeros-fail, all-hold}
 use borrow.Author.Needs.{needs}
 use Rattle.slots.proofs.check.Statement.{statement}

@@ -2,7 +2,7 @@
 use mathlib.Core.Path.{_≡_, sym}
 use mathlib.Core.Bool.{true}
 use denote.Ref.{now}
-use Rattle.words.proofs.Tests.{said-no, said-yes}
+use Rattle.conditions.proofs.Tests.{said-no, said-yes}
 use Rattle.matrix.specs.Valid.{valid}
 use Rattle.matrix.proofs.Facts.{matrix-facts}
 use Rattle.slots.proofs.Facts.{empty-valid}

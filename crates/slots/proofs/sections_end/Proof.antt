@@ -8,7 +8,7 @@ use denote.Ref.{now}
 use lib.ListN.{length}
 use Rattle.limits.specs.Limits.{slotCount}
 use Rattle.words.specs.Words.{at}
-use Rattle.words.proofs.Tests.{said-no, said-yes}
+use Rattle.conditions.proofs.Tests.{said-no, said-yes}
 use Rattle.slots.specs.Valid.{sectionValid}
 use Rattle.slots.proofs.Checks.{Walk, walk-start, walk-inside, walk-turn, walk-stop, walk-end}
 use borrow.Author.Needs.{needs}

@@ -3,7 +3,7 @@ use mathlib.Core.Path.{_≡_, sym, _∙_}
 use denote.Ref.{now}
 use lib.ListN.{length}
 use Rattle.model.specs.Calls.{Operate}
-use Rattle.model.specs.Stores.{modelOf}
+use Rattle.store_encoding.specs.Stores.{modelOf}
 use Rattle.store_calls.specs.Attempts.{asked, rolesRefusal, Holding}
 use Rattle.store_calls.proofs.Refusals.{roles-first, holding-of}
 use Rattle.store_calls.proofs.Operations.{
@@ -61,7 +61,7 @@ returns : tie.Need-returns
 returns c =
     let q = c .before .before in
     operated-by _ (operation (start q)) _ _ _ (c .refused .ensures)
-    (operated-no-store _ _ (no-store _ _ (q .check .ensures) (c .before .if1 .taken)))
+    (operated-no-store _ (operation (start q)) (no-store _ _ (q .check .ensures) (c .before .if1 .taken)))
 
 roles-refusal-requires : tie.Need-roles-refusal-requires
 roles-refusal-requires c κs = found (c .before) .store

@@ -6,7 +6,7 @@ use denote.Ref.{now}
 use lib.ListN.{length}
 use Rattle.model.specs.Calls.{Operate}
 use Rattle.matrix.specs.Layout.{gridOf}
-use Rattle.requests.specs.Cases.{agreementRefusal}
+use Rattle.refusals.specs.Cases.{agreementRefusal}
 use Rattle.requests.proofs.Refusals.{checked-of}
 use Rattle.store_calls.specs.Attempts.{asked}
 use Rattle.store_calls.proofs.Evaluations.{Lent, all-valid, evaluated-refused, evaluated-full, evaluated-done}

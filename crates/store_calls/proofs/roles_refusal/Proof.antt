@@ -1,7 +1,7 @@
 -- `roles_refusal` gives 12 before 1 and 2, and these before 13.
 use mathlib.Core.Path.{_≡_, sym, _∙_}
-use Rattle.requests.specs.Cases.{firstApplying}
-use Rattle.model.specs.Steps.{noSlot, roleCases}
+use Rattle.refusals.specs.Cases.{firstApplying}
+use Rattle.model.specs.Calls.{noSlot, roleCases}
 use Rattle.store_calls.proofs.Roles.{in-store}
 use Rattle.store_calls.proofs.Refusals.{slot-refused, numbers-first}
 use borrow.Author.Needs.{needs}

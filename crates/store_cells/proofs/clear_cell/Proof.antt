@@ -2,7 +2,8 @@
 use mathlib.Core.Path.{refl, ap, _∙_}
 use denote.Ref.{now}
 use Rattle.matrix.specs.Layout.{entries}
-use Rattle.model.proofs.Performed.{performed-no-store}
+use Rattle.model.specs.Calls.{effect}
+use Rattle.store_encoding.proofs.Performed.{performed-no-store}
 use Rattle.store_cells.proofs.Checks.{unchecked, Checked, checked}
 use Rattle.store_cells.proofs.Refusals.{Reached, reached}
 use Rattle.store_cells.proofs.Outcomes.{clear-refused, clear-performed}
@@ -43,6 +44,7 @@ same-length : tie.Need-same-length
 same-length c = search needs
 
 returns : tie.Need-returns
+unfolding effect
 returns c =
     rw (c .refused .ensures)
     (performed-no-store _ _ (unchecked _ _ (c .before .before .check .ensures) (c .before .if1 .taken)))
@@ -60,7 +62,7 @@ returns-2 : tie.Need-returns-2
 returns-2 c =
     let q = c .before .before in
     rw (c .refused2 .ensures)
-    (clear-refused (store (stored q) .valid) _ (q .cell-refusal .ensures) (c .before .if2 .taken))
+    (clear-refused _ _ _ _ (store (stored q) .valid) _ (q .cell-refusal .ensures) (c .before .if2 .taken))
 
 contents-requires : tie.Need-contents-requires
 contents-requires c κs = let h = there (c .before) .cell in (h .store .sections, h .slot)

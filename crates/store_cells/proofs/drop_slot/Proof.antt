@@ -2,7 +2,8 @@
 use native.Mathlib.Omega.{arith}
 use mathlib.Core.Path.{_∙_}
 use denote.Ref.{now}
-use Rattle.model.proofs.Performed.{performed-no-store}
+use Rattle.model.specs.Calls.{effect}
+use Rattle.store_encoding.proofs.Performed.{performed-no-store}
 use Rattle.store_cells.proofs.Checks.{unchecked, Checked, checked}
 use Rattle.store_cells.proofs.Outcomes.{none-resized, drop-refused, drop-performed}
 use borrow.Author.Needs.{needs}
@@ -26,6 +27,7 @@ same-length : tie.Need-same-length
 same-length c = search needs
 
 returns : tie.Need-returns
+unfolding effect
 returns c =
     rw (c .refused .ensures)
     (performed-no-store _ _ (unchecked _ _ (c .before .before .check .ensures) (c .before .if1 .taken)))

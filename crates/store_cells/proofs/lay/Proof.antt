@@ -1,85 +1,74 @@
--- `lay` gives the slot the size of an empty matrix, and writes that.
+-- `lay` writes an empty matrix into words of its own, and puts these into the slot.
 use native.Mathlib.Omega.{arith}
-use Prim.Native.Nat.{ℕ, _+_, _≤_}
-use mathlib.Core.Path.{ap}
+use Prim.Native.Nat.{ℕ, _+_}
+use mathlib.Core.Path.{_≡_, sym, ap, _∙_}
 use denote.Ref.{now}
-use lib.ListN.{length}
-use Rattle.store_cells.proofs.Rewritten.{fits-inside}
-use Rattle.store_cells.proofs.Shapes.{fixedWords, laid-words}
+use lib.ListN.{length, take}
+use Rattle.limits.specs.Sizes.{fixedWords, sizeOf}
+use Rattle.grid.specs.Grid.{emptyGrid}
+use Rattle.encoding.specs.Encode.{encode}
+use Rattle.store_cells.proofs.Shapes.{empty-size, empty-front, filled-by}
 use borrow.Author.Needs.{needs}
 use Rattle.store_cells.proofs.lay.Statement.{statement}
 use Rattle.store_cells.proofs.lay.Tie as tie
 
-abbrev start : tie.After-find → tie.Start
-start c = c .before .before .before
+-- where the function starts
+abbrev start : tie.After-empty3 → tie.Start
+start c = c .before .before .before .before .before .before
 
-abbrev found : tie.After-resize → tie.After-find
-found c = c .before .before
+-- the words that are put are those of the empty matrix
+held : (c : tie.After-empty3) → let p = start c .args in
+    take (p .rows + fixedWords) (c .before .before .before .write-empty .last .0) ≡ encode (emptyGrid (p .rows) (p .cols))
+held c =
+    let p = start c .args in
+    let e : p .rows + fixedWords ≡ sizeOf (p .rows) 0 = omega arith in
+    ap (λ (n : ℕ). take n (c .before .before .before .write-empty .last .0)) e
+    ∙ ap (take (sizeOf (p .rows) 0)) (c .before .before .before .write-empty .ensures)
+    ∙ empty-front (p .rows) (p .cols) _
 
-abbrev resized : tie.After-write-empty → tie.After-resize
-resized c = c .before .before .before .before
+held-size : (c : tie.After-empty3) → let p = start c .args in
+    length (take (p .rows + fixedWords) (c .before .before .before .write-empty .last .0)) ≡ p .rows + fixedWords
+held-size c = let p = start c .args in omega (arith, ap length (held c), empty-size (p .rows) (p .cols))
 
--- the words to be written are within the store
-inside : (c : tie.After-find)
-    → c .find .result + 1 + (start c .args .rows + fixedWords) ≤ length (now (start c .args .store))
-inside c = omega (arith, fits-inside (start c .pre .0) (c .find .result) (c .find .ensures))
+slice-aggregate-write-empty : tie.Need-slice-aggregate-write-empty
+slice-aggregate-write-empty c = search needs
+
+write-empty-requires : tie.Need-write-empty-requires
+write-empty-requires c κs = search needs
 
 add-size : tie.Need-add-size
 add-size c = search needs
 
-find-requires : tie.Need-find-requires
-find-requires c κs = search needs
+array-share-prefix-empty : tie.Need-array-share-prefix-empty
+array-share-prefix-empty c = search needs
 
-add-from : tie.Need-add-from
-add-from c = let i = inside c in omega arith
+slice-aggregate-put : tie.Need-slice-aggregate-put
+slice-aggregate-put c = sym (held-size c)
 
-resize-requires : tie.Need-resize-requires
-resize-requires c κs = search needs
-
-add-write-empty : tie.Need-add-write-empty
-add-write-empty c = let i = inside (found (c .before .before)) in omega arith
-
-mul-write-empty : tie.Need-mul-write-empty
-mul-write-empty c = let i = inside (found (c .before .before)) in omega arith
-
-sub-write-empty : tie.Need-sub-write-empty
-sub-write-empty c = search needs
-
-part-write-empty-start : tie.Need-part-write-empty-start
-part-write-empty-start c = search needs
-
-part-write-empty-end : tie.Need-part-write-empty-end
-part-write-empty-end c = let i = inside (found (c .before .before)) in omega arith
-
-write-empty-requires : tie.Need-write-empty-requires
-write-empty-requires c κs = search needs
+put-requires : tie.Need-put-requires
+put-requires c κs =
+    let p = start c .pre in
+    let l = held-size c in
+    let r = p .rows in
+    (p .store .sections, (p .slot, (p .ends, (p .store .most, omega arith))))
 
 same-length : tie.Need-same-length
 same-length c = search needs
 
 returns : tie.Need-returns
 returns c =
-    let w = c .before .before in
-    let r = resized w in
-    let f = found r in
-    let p = start f .args in
-    laid-words (now (p .store)) (p .slot) (p .end) (p .rows + fixedWords) (p .rows) (p .cols)
-    (f .find .result + 1) _ _ (omega arith) (start f .pre .0) (ap (λ (a : ℕ). a + 1) (f .find .ensures))
-    (r .resize .ensures) (w .write-empty .ensures)
+    let q = c .before .before in
+    filled-by (held (q .before)) (q .put .ensures)
 
 pub lay-spec : {M : Type 1} → statement M
 lay-spec =
     tie.close
     (tie.spec
-    add-size
-    find-requires
-    add-from
-    resize-requires
-    add-write-empty
-    mul-write-empty
-    sub-write-empty
-    part-write-empty-start
-    part-write-empty-end
+    slice-aggregate-write-empty
     write-empty-requires
+    add-size
+    array-share-prefix-empty
+    slice-aggregate-put
+    put-requires
     same-length
     returns)

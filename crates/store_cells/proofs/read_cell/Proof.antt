@@ -6,9 +6,9 @@ use denote.Ref.{now}
 use Rattle.rows.proofs.Rising.{rising-rises}
 use Rattle.matrix.specs.Layout.{rowColumns, cellOf}
 use Rattle.matrix.proofs.Facts.{row-span}
-use Rattle.cells.specs.Read.{foundAnswer}
+use Rattle.answers.specs.Reads.{foundAnswer}
 use Rattle.slots.specs.Sections.{slotAt}
-use Rattle.model.specs.Calls.{found}
+use Rattle.model.specs.Effects.{found}
 use Rattle.store_cells.proofs.Checks.{unchecked, Checked, checked}
 use Rattle.store_cells.proofs.Refusals.{Reached, reached}
 use Rattle.store_cells.proofs.Reading.{read-no-store, read-refused, read-found}

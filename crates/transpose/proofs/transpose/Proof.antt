@@ -1,19 +1,20 @@
--- `transpose` writes the transposed grid: the header, the row starts and the other sections, one behind the other.
+-- `transpose` writes the transposed grid: the row starts, the sections of its entries, and the header.
 use native.Mathlib.Omega.{arith}
-use Prim.Native.Nat.{ℕ, _≤_}
+use Prim.Native.Nat.{ℕ, _+_, _≤_}
 use mathlib.Core.Path.{_≡_, _∙_}
 use mathlib.Core.List.{List}
 use denote.Ref.{now}
-use lib.ListN.{length, length-set}
-use Rattle.matrix.specs.Layout.{rows, cols, entries, sizeOf}
+use lib.ListN.{length}
+use Rattle.words.specs.Words.{part}
+use Rattle.matrix.specs.Layout.{startsAt, countAt, sizeOf, cols, entries}
 use Rattle.matrix.specs.Facts.{Matrix}
 use Rattle.transpose.proofs.Passes.{columns-countable, counts-summable, starts-written, starts-ready}
 use Rattle.transpose.proofs.Written.{
   started,
   starts-room,
-  started-length,
   sections-room,
   size-fits,
+  header-room,
   transposed-written,
 }
 use borrow.Author.Needs.{needs}
@@ -50,11 +51,19 @@ counts-at w = w .before .before .before .before
 abbrev starts : tie.After-write-starts → List ℕ
 starts w = w .write-starts .last .1 .1 .0
 
--- the buffer has the length that it had
-started-long : (w : tie.After-write-starts)
-    → length (started (cols (input (counts-at w))) (rows (input (counts-at w))) (buffer (counts-at w)) (starts w))
-    ≡ length (buffer (counts-at w))
-started-long w = started-length _ _ (buffer (counts-at w)) (starts w) (w .write-starts .kept .1 .1 .0)
+-- the part that was lent for the row starts has that length
+starts-long : (q : tie.After-count-columns)
+    → length (part startsAt (countAt (cols (input q))) (buffer q)) ≡ cols (input q) + 1
+starts-long q = starts-room (cols (input q)) (buffer q) (omega (arith, fits q))
+
+-- and so has the part that was lent for the sections
+sections-long : (w : tie.After-write-starts)
+    → length (part (countAt (cols (input (counts-at w)))) (sizeOf (cols (input (counts-at w))) (count (counts-at w)))
+    (started (cols (input (counts-at w))) (buffer (counts-at w)) (starts w)))
+    ≡ count (counts-at w) + count (counts-at w) + 2
+sections-long w =
+    let q = counts-at w in
+    sections-room (cols (input q)) (buffer q) (starts w) (w .write-starts .kept .1 .1 .0) (count q) (fits q)
 
 shared-slice-read-rows : tie.Need-shared-slice-read-rows
 shared-slice-read-rows c = search needs
@@ -103,21 +112,6 @@ count-columns-requires c κs =
     let q = c .before .before in
     columns-countable (q .before .before .before .before .before .pre .0) (q .entry-count .ensures)
 
-slice-write-out : tie.Need-slice-write-out
-slice-write-out c = search needs
-
-slice-write-out-2 : tie.Need-slice-write-out-2
-slice-write-out-2 c = simp length-set (omega arith)
-
-slice-write-out-3 : tie.Need-slice-write-out-3
-slice-write-out-3 c = simp length-set (omega arith)
-
-add-out : tie.Need-add-out
-add-out c = search needs
-
-slice-write-out-4 : tie.Need-slice-write-out-4
-slice-write-out-4 c = simp length-set (omega arith)
-
 add-starts-end : tie.Need-add-starts-end
 add-starts-end c = search needs
 
@@ -131,13 +125,12 @@ part-write-starts-start : tie.Need-part-write-starts-start
 part-write-starts-start c = search needs
 
 part-write-starts-end : tie.Need-part-write-starts-end
-part-write-starts-end c = simp length-set (omega (arith, fits (c .before .before)))
+part-write-starts-end c = search needs
 
 write-starts-requires : tie.Need-write-starts-requires
 write-starts-requires c κs =
     let q = c .before .before .before in
-    counts-summable (valid q) (count-is q) (q .count-columns .ensures) (q .count-columns .kept .1 .0)
-    (starts-room _ _ (buffer q) (omega (arith, fits q)))
+    counts-summable (valid q) (count-is q) (q .count-columns .ensures) (q .count-columns .kept .1 .0) (starts-long q)
 
 add-end : tie.Need-add-end
 add-end c = search needs
@@ -161,35 +154,39 @@ part-write-entries-start : tie.Need-part-write-entries-start
 part-write-entries-start c = search needs
 
 part-write-entries-end : tie.Need-part-write-entries-end
-part-write-entries-end c =
-    let w = c .before .before .before .before in omega (arith, fits (counts-at w), started-long w)
+part-write-entries-end c = search needs
 
 write-entries-requires : tie.Need-write-entries-requires
 write-entries-requires c κs =
     let w = c .before .before .before .before .before in
     let q = counts-at w in
-    let next-long = w .write-starts .kept .1 .0 ∙ q .count-columns .kept .1 .0 in
-    let room = sections-room _ _ (buffer q) (starts w) (w .write-starts .kept .1 .1 .0) (count q) (fits q) in (
+    let next-long = w .write-starts .kept .1 .0 ∙ q .count-columns .kept .1 .0 in (
       valid q,
       starts-ready (valid q) (count-is q) (q .count-columns .ensures) (q .count-columns .kept .1 .0)
-          (w .write-starts .ensures) next-long room,
+          (w .write-starts .ensures) next-long (sections-long w),
     )
 
+write-header-requires : tie.Need-write-header-requires
+write-header-requires c κs =
+    let o = c .before .before in
+    let p = o .before .before .before .before .before .before in
+    let q = counts-at (p .before .before) in
+    header-room (valid q) (count-is q) (buffer q) (start q .pre .1) (o .out2 .given .1 ∙ p .out .given .1)
+
 same-length : tie.Need-same-length
-same-length c =
-    let v = c .before .before .before in
-    c .before .out2 .given .1 ∙ started-long (v .before .before .before .before .before .before)
+same-length c = search needs
 
 returns : tie.Need-returns
 returns c =
-    let v = c .before .before .before in
+    let h = c .before .before in
+    let v = h .before .before .before .before .before in
     let w = v .before .before .before .before .before .before in
     let q = counts-at w in
-    let room = starts-room (cols (input q)) (rows (input q)) (buffer q) (omega (arith, fits q)) in
-    transposed-written (valid q) (count-is q) (buffer q) (start q .pre .1)
+    h .write-header .ensures
+    ∙ transposed-written (valid q) (count-is q) (buffer q) (start q .pre .1)
     (starts-written (valid q) (count-is q) (q .count-columns .ensures) (q .count-columns .kept .1 .0)
-    (w .write-starts .ensures) (w .write-starts .kept .1 .1 .0 ∙ room))
-    (v .write-entries .ensures)
+    (w .write-starts .ensures) (w .write-starts .kept .1 .1 .0 ∙ starts-long q))
+    (v .write-entries .kept .1 .1 .0 ∙ sections-long w) (v .write-entries .ensures)
 
 pub transpose-spec : {M : Type 1} → statement M
 transpose-spec =
@@ -210,11 +207,6 @@ transpose-spec =
     part-count-columns-end
     slice-aggregate-count-columns
     count-columns-requires
-    slice-write-out
-    slice-write-out-2
-    slice-write-out-3
-    add-out
-    slice-write-out-4
     add-starts-end
     slice-aggregate-write-starts
     sub-write-starts
@@ -230,5 +222,6 @@ transpose-spec =
     part-write-entries-start
     part-write-entries-end
     write-entries-requires
+    write-header-requires
     same-length
     returns)

@@ -3,7 +3,6 @@ use native.Mathlib.Omega.{arith}
 use Prim.Native.Nat.{_-_}
 use mathlib.Core.Path.{_≡_, sym, _∙_}
 use denote.Ref.{now}
-use lib.ListN.{length-set}
 use Rattle.grid.specs.Entries.{entryCount}
 use Rattle.matrix.specs.Layout.{rows, gridOf}
 use Rattle.matrix.proofs.Facts.{row-span, matrix-made}
@@ -16,11 +15,11 @@ use Rattle.transpose.proofs.write_entries.Statement.{statement}
 use Rattle.transpose.proofs.write_entries.Tie as tie
 
 abbrev Inv-loop : tie.InvT-loop
-Inv-loop a next₀ sections₀ r count n i₀ next sections i =
+Inv-loop a next₀ sections₀ r n i₀ next sections i =
     RowsPlaced (transposed (gridOf a)) n next₀ next sections i
 
 abbrev μ-loop : tie.MeasureT-loop
-μ-loop a next₀ sections₀ r count n i₀ next sections i = r - i
+μ-loop a next₀ sections₀ r n i₀ next sections i = r - i
 
 -- the function's entry, from the place where the entries have been counted
 abbrev start : tie.After-entry-count Inv-loop μ-loop → tie.Start Inv-loop μ-loop
@@ -42,18 +41,6 @@ entry-count-requires c κs = c .before .before .before .before .pre .0 .header
 
 cast-n : tie.Need-cast-n Inv-loop μ-loop
 cast-n c = search needs
-
-slice-write-sections : tie.Need-slice-write-sections Inv-loop μ-loop
-slice-write-sections c = search needs
-
-add-sections : tie.Need-add-sections Inv-loop μ-loop
-add-sections c = search needs
-
-mul-sections : tie.Need-mul-sections Inv-loop μ-loop
-mul-sections c = search needs
-
-slice-write-sections-2 : tie.Need-slice-write-sections-2 Inv-loop μ-loop
-slice-write-sections-2 c = simp length-set (omega (arith, count-is c))
 
 loop-holds : tie.Need-loop-holds Inv-loop μ-loop
 loop-holds c = placed-none (start c .pre .1) (count-is c)
@@ -101,10 +88,6 @@ write-entries-spec =
     cast-r
     entry-count-requires
     cast-n
-    slice-write-sections
-    add-sections
-    mul-sections
-    slice-write-sections-2
     loop-holds
     place-row-requires
     add-i

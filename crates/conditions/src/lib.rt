@@ -1,0 +1,1 @@
+// Conditions as Boolean values that compute. Definitions are in specs/, their laws in proofs/; there is no code.

@@ -1,0 +1,99 @@
+-- Models that a store of n words can hold: eight slots, every grid within the limits, and all within the length.
+use Prim.Native.Nat.{ℕ, zero, suc, _+_, _≤_, _<_}
+use native.Mathlib.Omega.{arith}
+use native.Mathlib.Nat.{le-refl}
+use mathlib.Core.Path.{_≡_, refl, sym, _∙_}
+use mathlib.Core.Bool.{Bool, false, cond, false≢true}
+use mathlib.Core.List.{[], _∷_}
+use lib.ListN.{length, length-set}
+use lib.Dec.{ltb}
+use borrow.Author.Tests.{ltb-false}
+use Rattle.limits.specs.Limits.{slotCount, maxEntries}
+use Rattle.grid.specs.Grid.{Grid}
+use Rattle.grid.specs.Entries.{entryCount}
+use Rattle.grid.specs.Size.{gridSize, Within}
+use Rattle.refusals.specs.Cases.{firstApplying}
+use Rattle.refusals.proofs.Cases.{later}
+use Rattle.model.specs.Model.{
+  Slot,
+  vacant,
+  holding,
+  Model,
+  slotOf,
+  put,
+  isVacant,
+  gridIn,
+  gridAt,
+  slotSize,
+  sizes,
+  wordsNeeded,
+}
+use Rattle.model.specs.Calls.{fitCases}
+
+abbrev pub WithinSlot : Slot → Type 0
+WithinSlot vacant = Unit {0}
+WithinSlot (holding g) = Within g
+
+pub record Fitting (n : ℕ) (m : Model) : Type 0 where
+  pub slots : length m ≡ slotCount
+  pub within : (k : ℕ) → WithinSlot (slotOf m k)
+  pub room : wordsNeeded m ≤ n
+
+-- one slot changed
+put-within : (m : Model) (k : ℕ) (x : Slot) → ((j : ℕ) → WithinSlot (slotOf m j)) → WithinSlot x
+    → (j : ℕ) → WithinSlot (slotOf (put m k x) j)
+put-within [] k x f w j = f j
+put-within (y ∷ m) zero x f w zero = w
+put-within (y ∷ m) zero x f w (suc j) = f (suc j)
+put-within (y ∷ m) (suc k) x f w zero = f zero
+put-within (y ∷ m) (suc k) x f w (suc j) = put-within m k x (λ i. f (suc i)) w j
+
+sizes-put : (m : Model) (k : ℕ) (x : Slot) → slotSize x ≤ slotSize (slotOf m k) → sizes (put m k x) ≤ sizes m
+sizes-put [] k x h = le-refl 0
+sizes-put (y ∷ m) zero x h = omega arith
+sizes-put (y ∷ m) (suc k) x h = let i = sizes-put m k x h in omega arith
+
+-- what a slot that is not empty holds
+within-grid : (x : Slot) → isVacant x ≡ false → WithinSlot x → Within (gridIn x)
+within-grid vacant e w = absurd (false≢true (sym e))
+within-grid (holding g) e w = w
+
+size-grid : (x : Slot) → isVacant x ≡ false → slotSize x ≡ gridSize (gridIn x)
+size-grid vacant e = absurd (false≢true (sym e))
+size-grid (holding g) e = refl
+
+module _ (n : ℕ) (m : Model) (h : Fitting n m) where
+  -- what is put fits
+  pub put-fits : (k : ℕ) (x : Slot) → WithinSlot x → wordsNeeded (put m k x) ≤ n → Fitting n (put m k x)
+  put-fits k x w r = record { slots = length-set m k x ∙ h .slots; within = put-within m k x (h .within) w; room = r }
+
+  -- a slot emptied
+  pub dropped-fits : (k : ℕ) → Fitting n (put m k vacant)
+  dropped-fits k =
+      let s = sizes-put m k vacant (omega arith) in
+      let r = h .room in
+      put-fits k vacant tt (omega arith)
+
+  -- a grid of the shape of slot k's
+  module _ (k : ℕ) (g : Grid) (v : isVacant (slotOf m k) ≡ false) (p : g .rows ≡ gridAt m k .rows)
+      (q : g .cols ≡ gridAt m k .cols) where
+    shaped : entryCount g ≤ maxEntries → Within g
+    shaped f =
+        let w = within-grid (slotOf m k) v (h .within k) in
+        record { row-range = rw p (w .row-range); col-range = rw q (w .col-range); few = f }
+
+    -- where neither 10 nor 11 applies
+    pub shaped-fits : firstApplying (fitCases n m k g) ≡ 0 → Fitting n (put m k (holding g))
+    shaped-fits z =
+        let h₁ = later (ltb maxEntries (entryCount g)) 10 _ refl z in
+        let h₂ = later (ltb n (wordsNeeded (put m k (holding g)))) 11 0 refl (h₁ .rest) in
+        put-fits k (holding g) (shaped (ltb-false _ _ (h₁ .here))) (ltb-false _ _ (h₂ .here))
+
+    -- with no more entries it needs no more room
+    pub fewer-fits : entryCount g ≤ entryCount (gridAt m k) → Fitting n (put m k (holding g))
+    fewer-fits f =
+        let w = within-grid (slotOf m k) v (h .within k) .few in
+        let e = size-grid (slotOf m k) v in
+        let s = sizes-put m k (holding g) (omega arith) in
+        let r = h .room in
+        put-fits k (holding g) (shaped (omega arith)) (omega arith)

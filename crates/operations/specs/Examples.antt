@@ -1,0 +1,295 @@
+-- Computed examples: each definition beside its nearest wrong reading.
+use Prim.Native.Nat.{ℕ, _+_, _*_}
+use mathlib.Core.Path.{_≡_, refl}
+use mathlib.Core.List.{List, [], _∷_}
+use mathlib.Core.Bool.{Bool, true, false}
+use lib.ListN.{replicate}
+use Rattle.limits.specs.Limits.{maxList}
+use Rattle.conditions.specs.Tests.{_and_, all}
+use Rattle.grid.specs.declared.Cell.the-variants.{Present}
+use Rattle.grid.specs.Grid.{Grid, emptyGrid}
+use Rattle.operators.specs.declared.ApplyOp.the-variants.{Unary}
+use Rattle.operators.specs.declared.BinaryOp.the-variants as binary
+use Rattle.operators.specs.declared.Monoid.the-variants as monoid
+use Rattle.operators.specs.declared.UnaryOp.the-variants.{Identity}
+use Rattle.operations.specs.declared.Accumulator.the-variants.{Absent as NoAccumulator}
+use Rattle.operations.specs.declared.Call.{Call}
+use Rattle.operations.specs.declared.Operation.{Operation}
+use Rattle.operations.specs.declared.Operation.the-variants.{Mxm, EwiseMult, EwiseAdd, Apply, Extract}
+use Rattle.operations.specs.GridOperations.{oriented}
+use Rattle.operations.specs.Calls.{
+  flagSet,
+  transposeFirst,
+  transposeSecond,
+  hasSecond,
+  hasLists,
+  callResult,
+  listValid,
+  indexesValid,
+  shapesAgree,
+}
+
+-- a product, an intersection, a union, an apply
+abbrev mxm : Operation
+mxm = Mxm monoid.Plus binary.Times
+
+abbrev mult : Operation
+mult = EwiseMult binary.Minus
+
+abbrev add : Operation
+add = EwiseAdd binary.Minus
+
+abbrev same : Operation
+same = Apply (Unary Identity)
+
+-- calls without mask, with one, and with a vector as first input
+abbrev plain : ℕ → Operation → Call
+plain flags op = record {
+  flags = flags;
+  known = true;
+  operation = op;
+  «vector_first» = false;
+  «has_mask» = false;
+  accumulator = NoAccumulator;
+}
+
+abbrev masked : ℕ → Operation → Call
+masked flags op = record {
+  flags = flags;
+  known = true;
+  operation = op;
+  «vector_first» = false;
+  «has_mask» = true;
+  accumulator = NoAccumulator;
+}
+
+abbrev vector : ℕ → Operation → Call
+vector flags op = record {
+  flags = flags;
+  known = true;
+  operation = op;
+  «vector_first» = true;
+  «has_mask» = false;
+  accumulator = NoAccumulator;
+}
+
+-- 24 is 8 and 16
+flag-set : flagSet 8 24 ≡ true
+flag-set = refl
+
+flag-not-set : flagSet 4 24 ≡ false
+flag-not-set = refl
+
+-- which flag transposes which input; a vector is never transposed
+first-by-8 : transposeFirst (plain 8 mxm) ≡ true
+first-by-8 = refl
+
+first-not-by-16 : transposeFirst (plain 16 mxm) ≡ false
+first-not-by-16 = refl
+
+vector-never : transposeFirst (vector 8 mxm) ≡ false
+vector-never = refl
+
+second-by-16 : transposeSecond (vector 16 mxm) ≡ true
+second-by-16 = refl
+
+second-not-by-8 : transposeSecond (plain 8 mxm) ≡ false
+second-not-by-8 = refl
+
+-- a grid of 2 rows and 3 columns that has 12 in row 1 and column 2
+abbrev wide : Grid
+wide = record { rows = 2; cols = 3; cell = λ i j. Present (10 * i + j) }
+
+transposed-cell : oriented true wide .cell 2 1 ≡ Present 12
+transposed-cell = refl
+
+stored-cell : oriented false wide .cell 1 2 ≡ Present 12
+stored-cell = refl
+
+transposed-rows : oriented true wide .rows ≡ 3
+transposed-rows = refl
+
+transposed-cols : oriented true wide .cols ≡ 2
+transposed-cols = refl
+
+-- what the operations have
+mxm-second : hasSecond mxm ≡ true
+mxm-second = refl
+
+mult-second : hasSecond mult ≡ true
+mult-second = refl
+
+add-second : hasSecond add ≡ true
+add-second = refl
+
+apply-second : hasSecond same ≡ false
+apply-second = refl
+
+extract-second : hasSecond Extract ≡ false
+extract-second = refl
+
+mxm-lists : hasLists mxm ≡ false
+mxm-lists = refl
+
+mult-lists : hasLists mult ≡ false
+mult-lists = refl
+
+add-lists : hasLists add ≡ false
+add-lists = refl
+
+apply-lists : hasLists same ≡ false
+apply-lists = refl
+
+extract-lists : hasLists Extract ≡ true
+extract-lists = refl
+
+-- the shapes of a call without lists: a, b, mask and C
+abbrev agree : Call → Grid → Grid → Grid → Grid → Bool
+agree call a b m c = shapesAgree call a b m c [] []
+
+abbrev by : ℕ → ℕ → Grid
+by r c = emptyGrid r c
+
+-- 2 by 3 times 3 by 4 is 2 by 4: the inner numbers are compared, and T's rows and columns with C's
+product-agrees : agree (plain 0 mxm) (by 2 3) (by 3 4) (by 1 1) (by 2 4) ≡ true
+unfolding shapesAgree _and_
+product-agrees = refl
+
+product-inner : agree (plain 0 mxm) (by 2 3) (by 2 4) (by 1 1) (by 2 4) ≡ false
+unfolding shapesAgree _and_
+product-inner = refl
+
+product-rows : agree (plain 0 mxm) (by 2 3) (by 3 4) (by 1 1) (by 3 4) ≡ false
+unfolding shapesAgree _and_
+product-rows = refl
+
+product-cols : agree (plain 0 mxm) (by 2 3) (by 3 4) (by 1 1) (by 2 3) ≡ false
+unfolding shapesAgree _and_
+product-cols = refl
+
+product-first : agree (plain 8 mxm) (by 3 2) (by 3 4) (by 1 1) (by 2 4) ≡ true
+unfolding shapesAgree _and_
+product-first = refl
+
+product-second : agree (plain 16 mxm) (by 2 3) (by 4 3) (by 1 1) (by 2 4) ≡ true
+unfolding shapesAgree _and_
+product-second = refl
+
+-- "no strip where one is due"; a strip keeps its one row under flag 8
+vector-agrees : agree (vector 8 mxm) (by 1 3) (by 3 4) (by 1 1) (by 1 4) ≡ true
+unfolding shapesAgree _and_
+vector-agrees = refl
+
+vector-due : agree (vector 0 mxm) (by 2 3) (by 3 4) (by 1 1) (by 2 4) ≡ false
+unfolding shapesAgree _and_
+vector-due = refl
+
+-- intersection and union: inputs and T of one shape
+mult-agrees : agree (plain 0 mult) (by 2 3) (by 2 3) (by 1 1) (by 2 3) ≡ true
+unfolding shapesAgree _and_
+mult-agrees = refl
+
+mult-rows : agree (plain 0 mult) (by 2 3) (by 3 3) (by 1 1) (by 2 3) ≡ false
+unfolding shapesAgree _and_
+mult-rows = refl
+
+mult-cols : agree (plain 0 mult) (by 2 3) (by 2 2) (by 1 1) (by 2 3) ≡ false
+unfolding shapesAgree _and_
+mult-cols = refl
+
+mult-result : agree (plain 0 mult) (by 2 3) (by 2 3) (by 1 1) (by 3 2) ≡ false
+unfolding shapesAgree _and_
+mult-result = refl
+
+add-agrees : agree (plain 0 add) (by 2 3) (by 2 3) (by 1 1) (by 2 3) ≡ true
+unfolding shapesAgree _and_
+add-agrees = refl
+
+add-rows : agree (plain 0 add) (by 2 3) (by 3 3) (by 1 1) (by 2 3) ≡ false
+unfolding shapesAgree _and_
+add-rows = refl
+
+add-cols : agree (plain 0 add) (by 2 3) (by 2 2) (by 1 1) (by 2 3) ≡ false
+unfolding shapesAgree _and_
+add-cols = refl
+
+add-result : agree (plain 0 add) (by 2 3) (by 2 3) (by 1 1) (by 3 2) ≡ false
+unfolding shapesAgree _and_
+add-result = refl
+
+-- apply looks at no second input
+apply-agrees : agree (plain 0 same) (by 2 3) (by 5 7) (by 1 1) (by 2 3) ≡ true
+unfolding shapesAgree _and_
+apply-agrees = refl
+
+apply-result : agree (plain 0 same) (by 2 3) (by 2 3) (by 1 1) (by 3 2) ≡ false
+unfolding shapesAgree _and_
+apply-result = refl
+
+-- the mask has C's shape, where there is one
+mask-agrees : agree (masked 0 same) (by 2 3) (by 1 1) (by 2 3) (by 2 3) ≡ true
+unfolding shapesAgree _and_
+mask-agrees = refl
+
+mask-rows : agree (masked 0 same) (by 2 3) (by 1 1) (by 1 3) (by 2 3) ≡ false
+unfolding shapesAgree _and_
+mask-rows = refl
+
+mask-cols : agree (masked 0 same) (by 2 3) (by 1 1) (by 2 2) (by 2 3) ≡ false
+unfolding shapesAgree _and_
+mask-cols = refl
+
+-- extract gives as many rows and columns as there are indexes
+extract-agrees : shapesAgree (plain 0 Extract) wide (by 5 7) (by 1 1) (by 1 2) (1 ∷ []) (2 ∷ 0 ∷ []) ≡ true
+unfolding shapesAgree _and_
+extract-agrees = refl
+
+extract-turned : shapesAgree (plain 0 Extract) wide (by 5 7) (by 1 1) (by 2 1) (1 ∷ []) (2 ∷ 0 ∷ []) ≡ false
+unfolding shapesAgree _and_
+extract-turned = refl
+
+-- "T(i,j) = A(I[i], J[j])"
+extract-cell : callResult (plain 0 Extract) wide (by 5 7) (by 1 2) (1 ∷ []) (2 ∷ 0 ∷ []) .cell 0 0 ≡ Present 12
+extract-cell = refl
+
+extract-next : callResult (plain 0 Extract) wide (by 5 7) (by 1 2) (1 ∷ []) (2 ∷ 0 ∷ []) .cell 0 1 ≡ Present 10
+extract-next = refl
+
+-- an index list has 1 to maxList indexes, each below n
+list-below : listValid 3 (2 ∷ 0 ∷ []) ≡ true
+unfolding listValid all _and_
+list-below = refl
+
+list-at-end : listValid 3 (0 ∷ 3 ∷ []) ≡ false
+unfolding listValid all _and_
+list-at-end = refl
+
+list-empty : listValid 3 [] ≡ false
+unfolding listValid all _and_
+list-empty = refl
+
+list-longest : listValid 3 (replicate maxList 0) ≡ true
+unfolding listValid all _and_
+list-longest = refl
+
+list-longer : listValid 3 (replicate (maxList + 1) 0) ≡ false
+unfolding listValid all _and_
+list-longer = refl
+
+-- rows and columns of A "as transposed", rows by the first list
+indexes-within : indexesValid (plain 0 Extract) wide (by 5 7) (by 1 1) (1 ∷ []) (2 ∷ []) ≡ true
+unfolding indexesValid listValid all _and_
+indexes-within = refl
+
+indexes-past : indexesValid (plain 0 Extract) wide (by 5 7) (by 1 1) (2 ∷ []) (1 ∷ []) ≡ false
+unfolding indexesValid listValid all _and_
+indexes-past = refl
+
+indexes-transposed : indexesValid (plain 8 Extract) wide (by 5 7) (by 1 1) (2 ∷ []) (1 ∷ []) ≡ true
+unfolding indexesValid listValid all _and_
+indexes-transposed = refl
+
+-- a call without lists is not asked for any
+indexes-none : indexesValid (plain 0 mxm) wide (by 5 7) (by 1 1) [] [] ≡ true
+unfolding indexesValid listValid all _and_
+indexes-none = refl

@@ -1,0 +1,4 @@
+pub mod Writing
+pub mod Stores
+pub mod Placing
+pub mod Examples
