@@ -7,8 +7,8 @@
  * A buffer that a call writes (not const) may not overlap another buffer of the same call; those that are only read may.
  *
  * A matrix of R rows, C columns and N entries takes R + 2N + 7 words: 2, R, C; R+1 and the row starts; N and the column
- * numbers; N and the values, in two's complement (-5 is 4294967291). R and C are 1 to 512, N is 0 to 2,048. Words after
- * it are spare, and an accepted call leaves those that it does not need as they were.
+ * numbers; N and the values, in two's complement (-5 is 4294967291). R and C are 1 to 1,000, N is 0 to 2,048. Words
+ * after it are spare, and an accepted call leaves those that it does not need as they were.
  *
  * A store has eight slots, 0 to 7, each empty or with a matrix, in one buffer of 8 to 16,384 words: slot by slot a
  * count of words and the matrix, then zeros. All zeros is a store with eight empty slots. A write needs room for 8 words
@@ -18,6 +18,10 @@
  * only ostrubel_row_view has no code.
  * A refused call has the lowest code that applies (on a store 12 comes first, and 13 between 2 and 7), changes no word
  * but the workspace's, and its entries or value are 0. The workspace is all zeros after every call that has one.
+ *
+ * Threads. A call takes no memory beside its buffers and the stack, and keeps nothing: calls on several threads may run at
+ * once where each has buffers of its own (those that are only read may be shared). 48 KB of stack are enough for any
+ * call.
  */
 #ifndef OSTRUBEL_H
 #define OSTRUBEL_H
@@ -30,16 +34,19 @@ extern "C" {
 #endif
 
 /* Sizes, in words of 32 bits. */
-#define OSTRUBEL_MAX_MATRIX_WORDS 4615 /* the largest matrix: 512 rows, 2,048 entries */
-#define OSTRUBEL_MIN_WORKSPACE_WORDS 13845
+#define OSTRUBEL_MAX_MATRIX_WORDS 5103 /* the largest matrix: 1,000 rows, 2,048 entries */
+#define OSTRUBEL_MIN_WORKSPACE_WORDS 15309
 #define OSTRUBEL_MIN_STORE_WORDS 8
 #define OSTRUBEL_MAX_STORE_WORDS 16384
 
-/* Limits. An index list has 1 to 512 indexes. */
-#define OSTRUBEL_MAX_ROWS 512
-#define OSTRUBEL_MAX_COLS 512
+/* Bytes of stack that are enough for any call; the deepest at the largest shapes was measured to take 29,016. */
+#define OSTRUBEL_STACK_BYTES 49152
+
+/* Limits. An index list has 1 to 1,000 indexes. */
+#define OSTRUBEL_MAX_ROWS 1000
+#define OSTRUBEL_MAX_COLS 1000
 #define OSTRUBEL_MAX_ENTRIES 2048
-#define OSTRUBEL_MAX_INDEXES 512
+#define OSTRUBEL_MAX_INDEXES 1000
 #define OSTRUBEL_SLOTS 8
 
 /* Codes of answers. */
@@ -51,11 +58,11 @@ enum {
     OSTRUBEL_INVALID_SECOND = 4,       /* the second input is no valid matrix */
     OSTRUBEL_INVALID_MASK = 5,         /* the mask is no valid matrix */
     OSTRUBEL_INVALID_OUTPUT = 6,       /* old C is no valid matrix */
-    OSTRUBEL_INDEX_OUT_OF_BOUNDS = 7,  /* an index list shorter than 1 or longer than 512; an index, row or column past
-                                          A (as transposed) or past the matrix named */
-    OSTRUBEL_INVALID_SHAPE = 8,        /* rows or columns outside 1 to 512; shapes of inputs, mask, C and result
+    OSTRUBEL_INDEX_OUT_OF_BOUNDS = 7,  /* an index list shorter than 1 or longer than 1,000; an index, row or column
+                                          past A (as transposed) or past the matrix named */
+    OSTRUBEL_INVALID_SHAPE = 8,        /* rows or columns outside 1 to 1,000; shapes of inputs, mask, C and result
                                           disagree; no vector (one row) where one is due */
-    OSTRUBEL_WORKSPACE_TOO_SHORT = 9,  /* a workspace under 13,845 words */
+    OSTRUBEL_WORKSPACE_TOO_SHORT = 9,  /* a workspace under 15,309 words */
     OSTRUBEL_TOO_MANY_ENTRIES = 10,    /* the final C, or the matrix a cell is set in, would have over 2,048 entries */
     OSTRUBEL_INSUFFICIENT_SPACE = 11,  /* the final C, a new matrix or the store does not fit its buffer */
     OSTRUBEL_INVALID_STORE = 12,       /* the length or the words are no store's, or a slot above 7 */
@@ -151,8 +158,8 @@ uint64_t ostrubel_row_view(uint32_t i, uint32_t values, const uint32_t *first, s
  *   has_mask         0: no mask, and its words are not looked at; else there is one
  *   has_accumulator  0: no accumulator, and its number is not looked at; else there is one
  *   accumulator      a binary operator
- *   c                a valid matrix in a buffer that may be longer; at most 4,615 words are needed
- *   work             at least 13,845 words, any words; all zeros after the call
+ *   c                a valid matrix in a buffer that may be longer; at most 5,103 words are needed
+ *   work             at least 15,309 words, any words; all zeros after the call
  * The answer's entries are those of the final C. Refused by 1 to 11: 4 only with a second input, 5 only with a mask, 7
  * only by extract.
  */

@@ -59,7 +59,8 @@ static void test_format(void) {
     REFUSED(ostrubel_check(none, 0), OSTRUBEL_INVALID_FIRST);
 
     uint32_t buffer[10] = {7, 7, 7, 7, 7, 7, 7, 7, 7, 7};
-    REFUSED(ostrubel_new_empty(513, 3, WORDS(buffer)), OSTRUBEL_INVALID_SHAPE);
+    REFUSED(ostrubel_new_empty(OSTRUBEL_MAX_ROWS + 1, 3, WORDS(buffer)), OSTRUBEL_INVALID_SHAPE);
+    REFUSED(ostrubel_new_empty(2, OSTRUBEL_MAX_COLS + 1, WORDS(buffer)), OSTRUBEL_INVALID_SHAPE);
     REFUSED(ostrubel_new_empty(4, 3, WORDS(buffer)), OSTRUBEL_INSUFFICIENT_SPACE);
     SAME(buffer, 7, 7, 7, 7, 7, 7, 7, 7, 7, 7);
     ACCEPTED(ostrubel_new_empty(2, 3, WORDS(buffer)), 0);
@@ -251,6 +252,29 @@ static void test_store_operations(void) {
     SAME(c, 15, 2, 2, 2, 3, 0, 2, 3, 3, 0, 1, 1, 3, 2, 3, 5, 0);
 }
 
+/* Both sides of the limits. */
+static void test_limits(void) {
+    static uint32_t a[OSTRUBEL_MAX_ROWS + 7];
+    static uint32_t c[OSTRUBEL_MAX_MATRIX_WORDS];
+    static uint32_t list[OSTRUBEL_MAX_INDEXES + 1];
+    const size_t most = OSTRUBEL_MAX_INDEXES;
+    CHECK(OSTRUBEL_MAX_MATRIX_WORDS == OSTRUBEL_MAX_ROWS + 2 * OSTRUBEL_MAX_ENTRIES + 7);
+    CHECK(OSTRUBEL_MIN_WORKSPACE_WORDS == 3 * OSTRUBEL_MAX_MATRIX_WORDS);
+    for (uint32_t k = 0; k <= most; k++) list[k] = k % most;
+
+    REFUSED(ostrubel_new_empty(OSTRUBEL_MAX_ROWS, OSTRUBEL_MAX_COLS, a, OSTRUBEL_MAX_ROWS + 6),
+            OSTRUBEL_INSUFFICIENT_SPACE);
+    ACCEPTED(ostrubel_new_empty(OSTRUBEL_MAX_ROWS, OSTRUBEL_MAX_COLS, WORDS(a)), 0);
+    ACCEPTED(ostrubel_new_empty(OSTRUBEL_MAX_ROWS, OSTRUBEL_MAX_COLS, WORDS(c)), 0);
+    ACCEPTED(ostrubel_extract(PLAIN, WORDS(a), list, most, list + 1, most, NO_MASK, WORDS(c), WORDS(work)), 0);
+    REFUSED(ostrubel_extract(PLAIN, WORDS(a), list, most + 1, list, most, NO_MASK, WORDS(c), WORDS(work)),
+            OSTRUBEL_INDEX_OUT_OF_BOUNDS);
+    REFUSED(ostrubel_extract(PLAIN, WORDS(a), list, most, list, most + 1, NO_MASK, WORDS(c), WORDS(work)),
+            OSTRUBEL_INDEX_OUT_OF_BOUNDS);
+    REFUSED(ostrubel_extract(PLAIN, WORDS(a), list, most, list, most, NO_MASK, WORDS(c), work,
+                             OSTRUBEL_MIN_WORKSPACE_WORDS - 1), OSTRUBEL_WORKSPACE_TOO_SHORT);
+}
+
 int main(void) {
     test_format();
     test_row_view();
@@ -259,6 +283,7 @@ int main(void) {
     test_write_back();
     test_store_cells();
     test_store_operations();
+    test_limits();
     printf("ok\n");
     return 0;
 }

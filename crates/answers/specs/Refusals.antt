@@ -26,15 +26,15 @@ invalidMask = 5
 abbrev pub invalidOutput : ℕ
 invalidOutput = 6
 
--- "an index, row or column past A (as transposed) or past the sheet named"; a list shorter than 1 or longer than 512
+-- "an index, row or column past A (as transposed) or past the sheet named"; a list shorter than 1 or longer than 1,000
 abbrev pub indexOutOfBounds : ℕ
 indexOutOfBounds = 7
 
--- "rows or columns outside 1 to 512; shapes of inputs, mask, C and T disagree; no strip where one is due"
+-- "rows or columns outside 1 to 512" (A6: 1,000); "shapes of inputs, mask, C and T disagree; no strip where one is due"
 abbrev pub invalidShape : ℕ
 invalidShape = 8
 
--- "work buffer under 13,845 words"
+-- "work buffer under 13,845 words" (A6: 15,309)
 abbrev pub workspaceTooShort : ℕ
 workspaceTooShort = 9
 

@@ -15,7 +15,7 @@ use Rattle.grid.specs.Entries.{entryCount}
 use Rattle.matrix.specs.Valid.{inRange}
 use Rattle.encoding.specs.Encode.{gridSize, writtenOver}
 
--- "rows or columns outside 1 to 512": 8; "doesn't fit its buffer": 11; else 0 and the entries of the empty grid
+-- "rows or columns outside 1 to 512" (A6: 1,000): 8; "doesn't fit its buffer": 11; else 0 and the empty grid's entries
 unfoldable pub createAnswer : List ℕ → ℕ → ℕ → Answer
 createAnswer w r c =
     cond (inRange maxRows r and inRange maxCols c)

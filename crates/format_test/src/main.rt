@@ -44,15 +44,15 @@ fn strip() {
             1,
             2,
             1,
-            513,
+            1001,
             2,
             0,
             2,
             3,
             2,
-            512,
+            1000,
             2,
-            513,
+            1001,
             // the last start, a column twice, columns that fall, a column past the end
             5,
             2,
@@ -104,46 +104,49 @@ fn two_rows() {
     damage(&mut words, &[6, 2147483648]);
 }
 
-// 512 rows and columns with 2,048 entries, four to a row, and one more of each.
+// 1,000 rows and columns with 2,048 entries, and one more of each.
 fn largest() {
-    let mut space = [0u32; 4700];
+    let mut space = [0u32; 5200];
     let words: &mut [u32] = &mut space;
-    test_support::heading(b"512 by 512 with 2048 entries");
-    test_support::build(words, 512, 512, 2048, 4);
-    prefixes(words, &[4700, 4615, 4614]);
-    reads(words, &[511, 3, 511, 4, 512, 0, 0, 512]);
-    test_support::heading(b"513 by 512");
-    test_support::build(words, 513, 512, 2048, 4);
-    prefixes(words, &[4700]);
-    test_support::heading(b"512 by 513");
-    test_support::build(words, 512, 513, 2048, 4);
-    prefixes(words, &[4700]);
+    test_support::heading(b"1000 by 1000 with 2048 entries");
+    test_support::build(words, 1000, 1000, 2048, 4);
+    prefixes(words, &[5200, 5103, 5102]);
+    reads(words, &[999, 3, 999, 4, 1000, 0, 0, 1000]);
+    test_support::heading(b"1001 by 1000");
+    test_support::build(words, 1001, 1000, 2048, 4);
+    prefixes(words, &[5200]);
+    test_support::heading(b"1000 by 1001");
+    test_support::build(words, 1000, 1001, 2048, 4);
+    prefixes(words, &[5200]);
     test_support::heading(b"2049 entries");
-    test_support::build(words, 512, 512, 2049, 5);
-    prefixes(words, &[4700]);
+    test_support::build(words, 1000, 1000, 2049, 5);
+    prefixes(words, &[5200]);
 }
 
 // Empty matrices over words that are all 9: length, rows, columns.
 fn empty() {
-    let mut space = [9u32; 520];
+    let mut space = [9u32; 1008];
     let buffer: &mut [u32] = &mut space;
     test_support::heading(b"empty");
-    creates(buffer, &[520, 512, 512]);
-    prefixes(buffer, &[520, 519, 518]);
-    reads(buffer, &[511, 511, 512, 511]);
-    creates(buffer, &[520, 0, 1, 520, 513, 1, 520, 1, 0, 520, 1, 513]);
-    prefixes(buffer, &[520]);
+    creates(buffer, &[1008, 1000, 1000]);
+    prefixes(buffer, &[1008, 1007, 1006]);
+    reads(buffer, &[999, 999, 1000, 999]);
+    creates(
+        buffer,
+        &[1008, 0, 1, 1008, 1001, 1, 1008, 1, 0, 1008, 1, 1001],
+    );
+    prefixes(buffer, &[1008]);
     creates(
         buffer,
         &[
-            519,
-            512,
+            1007,
+            1000,
             1,
-            518,
-            512,
+            1006,
+            1000,
             1,
-            518,
-            513,
+            1006,
+            1001,
             1,
             8,
             1,
@@ -158,7 +161,7 @@ fn empty() {
     );
     let words = &buffer[..];
     test_support::show(b"the first words", &words[..12]);
-    test_support::show(b"the last words", &words[516..]);
+    test_support::show(b"the last words", &words[1004..]);
 }
 
 fn row_views() {

@@ -1,21 +1,21 @@
--- The limits of document 01: of a matrix, of an index list, of the flags and of a store. No other definition states these
--- numbers; src/ has the same ones for the code.
+-- The limits of document 01, as document 02, A6, raises them: of a matrix, of an index list, of the flags and of a
+-- store. No other definition states these numbers; src/ has the same ones for the code.
 use Prim.Native.Nat.{ℕ}
 
--- "R and C are 1 to 512"
+-- "R and C are 1 to 512"; A6: "Raise rows, columns and index-list length from 512 to 1,000 each"
 abbrev pub maxRows : ℕ
-maxRows = 512
+maxRows = 1000
 
 abbrev pub maxCols : ℕ
-maxCols = 512
+maxCols = 1000
 
--- "N is 0 to 2,048"
+-- "N is 0 to 2,048"; A6: "entries stay at 2,048"
 abbrev pub maxEntries : ℕ
 maxEntries = 2048
 
--- "an index list shorter than 1 or longer than 512"
+-- "an index list shorter than 1 or longer than 512" (A6: 1,000)
 abbrev pub maxList : ℕ
-maxList = 512
+maxList = 1000
 
 -- "flags above 31"
 abbrev pub maxFlags : ℕ
@@ -25,6 +25,6 @@ maxFlags = 31
 abbrev pub slotCount : ℕ
 slotCount = 8
 
--- "The length is 8 to 16,384 words.": each slot has at least its count
+-- "The length is 8 to 16,384 words." (A6: "The shelf stays at 16,384 words."): each slot has at least its count
 abbrev pub maxStoreWords : ℕ
 maxStoreWords = 16384

@@ -1,4 +1,4 @@
--- Numbers of rows and columns: "R and C are 1 to 512".
+-- Numbers of rows and columns: "R and C are 1 to 512" (A6: 1,000).
 use Prim.Native.Nat.{ℕ, _≤_}
 use mathlib.Core.Bool.{Bool}
 use lib.Dec.{leb}

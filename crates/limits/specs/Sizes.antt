@@ -12,15 +12,15 @@ fixedWords = 7
 abbrev pub sizeOf : ℕ → ℕ → ℕ
 sizeOf r n = r + n + n + fixedWords
 
--- "the largest sheet is 4,615 words", and the work buffer is three of them: 13,845 words
+-- A6: "The largest sheet is then 5,103 words, .. and the work buffer must have 15,309 words", three of them
 abbrev pub maxMatrixWords : ℕ
 maxMatrixWords = sizeOf maxRows maxEntries
 
 abbrev pub workspaceWords : ℕ
 workspaceWords = 3 * maxMatrixWords
 
-largest-matrix : maxMatrixWords ≡ 4615
+largest-matrix : maxMatrixWords ≡ 5103
 largest-matrix = refl
 
-three-largest : workspaceWords ≡ 13845
+three-largest : workspaceWords ≡ 15309
 three-largest = refl

@@ -1,16 +1,16 @@
 // The limits of a matrix, an index list, the flags and a store (document 01: a sheet, a shelf). specs/Limits.antt states
-// the same numbers.
+// the same numbers. Document 02, A6: rows, columns and index lists from 512 to 1,000.
 
 // Rows R and columns C are 1 to these.
-pub const MAX_ROWS: u32 = 512;
+pub const MAX_ROWS: u32 = 1000;
 
-pub const MAX_COLS: u32 = 512;
+pub const MAX_COLS: u32 = 1000;
 
 // The number of entries N is 0 to this.
 pub const MAX_ENTRIES: u32 = 2048;
 
 // An index list has 1 to this many indexes.
-pub const MAX_LIST: usize = 512;
+pub const MAX_LIST: usize = 1000;
 
 // The places of a row, as the length of the local arrays that hold one.
 pub const ROW_PLACES: usize = MAX_COLS as usize;

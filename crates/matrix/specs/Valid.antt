@@ -13,7 +13,7 @@ use Rattle.conditions.specs.Tests.{_and_, all}
 use Rattle.rows.specs.Row.{rising}
 use Rattle.matrix.specs.Layout.{shapeCount, rows, cols, startCount, start, entries, entriesAgain, size, rowColumns}
 
--- the counts of the sections, "R and C are 1 to 512, N is 0 to 2,048", and the size within the buffer
+-- the counts of the sections, "R and C are 1 to 512" (A6: 1,000), "N is 0 to 2,048", and the size within the buffer
 unfoldable pub headerValid : List ℕ → Bool
 headerValid s =
     eqb (shapeCount s) 2

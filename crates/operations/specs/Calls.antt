@@ -64,7 +64,7 @@ callResult call a b c is js =
 unfoldable pub callFinal : Call → Grid → Grid → Grid → Grid → List ℕ → List ℕ → Grid
 callFinal call a b m c is js = finalGrid (writeBackOf call) m c (callResult call a b c is js)
 
--- not 7: the list has 1 to 512 indexes, each below n
+-- not 7: the list has 1 to 1,000 indexes, each below n
 unfoldable pub listValid : ℕ → List ℕ → Bool
 listValid n l = leb 1 (length l) and leb (length l) maxList and all (length l) (λ k. ltb (at l k) n)
 

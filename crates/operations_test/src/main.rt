@@ -12,10 +12,10 @@ use operation_runs::plain;
 use operation_runs::vxm;
 
 // One word more than a call needs.
-type Workspace = [u32; 13846];
+type Workspace = [u32; 15310];
 
 fn main() {
-    let mut work: Workspace = [7; 13846];
+    let mut work: Workspace = [7; 15310];
     matrix_product(&mut work);
     vector_products(&mut work);
     reductions(&mut work);

@@ -11,19 +11,22 @@ use operation_runs::plain;
 use operation_runs::refill;
 use operation_runs::report;
 use operation_runs::vxm;
+use test_support::past;
 
 // One word more than a call needs.
-type Workspace = [u32; 13846];
+type Workspace = [u32; 15310];
 
 fn main() {
-    let mut work: Workspace = [7; 13846];
+    let mut work: Workspace = [7; 15310];
     early_refusals();
     late_refusals(&mut work);
     index_refusals(&mut work);
     shape_refusals(&mut work);
     entries_at_limit(&mut work);
     result_under_mask(&mut work);
-    list_lengths(&mut work);
+    shortest_lists(&mut work);
+    longest_column_lists(&mut work);
+    longest_row_lists(&mut work);
 }
 
 // Everything wrong at first, the workspace too; then the lowest refusal is mended, call by call.
@@ -99,16 +102,16 @@ fn shape_refusals(work: &mut Workspace) {
 fn entries_at_limit(work: &mut Workspace) {
     let mut v = [0u32; 1032];
     let mut c = [9u32; 4110];
-    build_full(&mut v);
+    build_full(&mut v, 512);
     let v: &[u32] = &v;
     test_support::store(&mut c, 5, 512, &[0, 0, 0, 0, 0, 1], &[0], &[50]);
     let plus = accumulated(8, false, 3);
     test_support::heading(b"limits");
-    outer(4110, 13845, b"2049 entries", plus, v, &mut c, work);
-    outer(4107, 13845, b"4107 words", plain(8), v, &mut c, work);
-    outer(4108, 13844, b"work of 13844", plain(8), v, &mut c, work);
-    outer(4108, 13845, b"work of 13845", plain(8), v, &mut c, work);
-    outer(4110, 13845, b"2048 entries", plus, v, &mut c, work);
+    outer(4110, 15309, b"2049 entries", plus, v, &mut c, work);
+    outer(4107, 15309, b"4107 words", plain(8), v, &mut c, work);
+    outer(4108, 15308, b"work of 15308", plain(8), v, &mut c, work);
+    outer(4108, 15309, b"work of 15309", plain(8), v, &mut c, work);
+    outer(4110, 15309, b"2048 entries", plus, v, &mut c, work);
 }
 
 // The products of 1, 2, 3, 4 with the entries of v, in the first n words of C's buffer and m of the workspace.
@@ -133,26 +136,27 @@ fn outer_in(m: usize, label: &[u8], options: Options, v: &[u32], c: &mut [u32], 
     }
 }
 
-// 1 by 512, all present: 0, 1, 2 and so on.
-fn build_full(words: &mut [u32]) {
-    create::new_empty(words, 1, 512);
-    test_support::put(words, 5, 512);
-    test_support::put(words, 6, 512);
-    test_support::put_run(words, 7, 512, 1, 4294967295);
-    test_support::put(words, 519, 512);
-    test_support::put_run(words, 520, 512, 1, 4294967295);
+// 1 by n, all present: 0, 1, 2 and so on.
+fn build_full(words: &mut [u32], n: u32) {
+    let cols = n as usize;
+    create::new_empty(words, 1, n);
+    test_support::put(words, 5, n);
+    test_support::put(words, 6, n);
+    test_support::put_run(words, 7, cols, 1, 4294967295);
+    test_support::put(words, past(7, cols), n);
+    test_support::put_run(words, past(8, cols), cols, 1, 4294967295);
 }
 
-// T has 262,144 entries: too many without a mask. The mask has one entry, and the final C too.
+// T has 1,000,000 entries: too many without a mask. The mask has one entry, and the final C too.
 fn result_under_mask(work: &mut Workspace) {
-    let mut v = [0u32; 1032];
-    let mut mask = [0u32; 521];
-    let mut c = [9u32; 523];
-    build_full(&mut v);
+    let mut v = [0u32; 2008];
+    let mut mask = [0u32; 1009];
+    let mut c = [9u32; 1011];
+    build_full(&mut v, 1000);
     build_mask(&mut mask);
     let v: &[u32] = &v;
     let mask: &[u32] = &mask;
-    create::new_empty(&mut c, 512, 512);
+    create::new_empty(&mut c, 1000, 1000);
     test_support::heading(b"a large T");
     square(b"no mask", plain(8), v, mask, &mut c, work);
     square(b"mask", masked(8), v, mask, &mut c, work);
@@ -173,29 +177,49 @@ fn square(
     report(label, r.code, r.entries, &c[..], &work[..]);
 }
 
-// 512 by 512 with one entry, 1 at (511, 4).
+// 1,000 by 1,000 with one entry, 1 at (999, 4).
 fn build_mask(words: &mut [u32]) {
-    create::new_empty(words, 512, 512);
-    test_support::put(words, 516, 1);
-    test_support::put(words, 517, 1);
-    test_support::put(words, 518, 4);
-    test_support::put(words, 519, 1);
-    test_support::put(words, 520, 1);
+    create::new_empty(words, 1000, 1000);
+    test_support::put(words, 1004, 1);
+    test_support::put(words, 1005, 1);
+    test_support::put(words, 1006, 4);
+    test_support::put(words, 1007, 1);
+    test_support::put(words, 1008, 1);
 }
 
-// Lists of 0, 1, 513 and 512 indexes, all 3.
-fn list_lengths(work: &mut Workspace) {
-    let mut v = [0u32; 1032];
-    let mut c = [9u32; 1034];
-    let list = [3u32; 513];
-    build_full(&mut v);
-    let v: &[u32] = &v;
+// Lists of 0 indexes and of 1.
+fn shortest_lists(work: &mut Workspace) {
+    let v: &[u32] = &[2, 1, 4, 2, 0, 3, 3, 0, 1, 3, 3, 10, 20, 40];
+    let mut c = [9u32; 12];
     create::new_empty(&mut c, 1, 1);
     test_support::heading(b"index lists");
-    extract(b"0 rows", plain(0), v, &list[..0], &[0], &mut c, work);
-    extract(b"0", plain(0), v, &[0], &list[..0], &mut c, work);
-    extract(b"1", plain(0), v, &[0], &list[..1], &mut c, work);
-    create::new_empty(&mut c, 1, 512);
-    extract(b"513", plain(0), v, &[0], &list, &mut c, work);
-    extract(b"512", plain(0), v, &[0], &list[..512], &mut c, work);
+    extract(b"0 rows", plain(0), v, &[], &[0], &mut c, work);
+    extract(b"0 columns", plain(0), v, &[0], &[], &mut c, work);
+    extract(b"1", plain(0), v, &[0], &[3], &mut c, work);
+}
+
+// Lists of 1,001 and 1,000 columns: 0, 1, 2, .., 999, 0, and without the first.
+fn longest_column_lists(work: &mut Workspace) {
+    let mut v = [0u32; 2008];
+    let mut c = [9u32; 2010];
+    let mut list = [0u32; 1001];
+    build_full(&mut v, 1000);
+    test_support::put_run(&mut list, 0, 1001, 1, 999);
+    let v: &[u32] = &v;
+    create::new_empty(&mut c, 1, 1000);
+    extract(b"1001 columns", plain(0), v, &[0], &list, &mut c, work);
+    extract(b"1000 columns", plain(0), v, &[0], &list[1..], &mut c, work);
+}
+
+// The same lists for rows: those of the transposed input.
+fn longest_row_lists(work: &mut Workspace) {
+    let mut v = [0u32; 2008];
+    let mut c = [9u32; 3009];
+    let mut list = [0u32; 1001];
+    build_full(&mut v, 1000);
+    test_support::put_run(&mut list, 0, 1001, 1, 999);
+    let v: &[u32] = &v;
+    create::new_empty(&mut c, 1000, 1);
+    extract(b"1001 rows", plain(8), v, &list, &[0], &mut c, work);
+    extract(b"1000 rows", plain(8), v, &list[1..], &[0], &mut c, work);
 }

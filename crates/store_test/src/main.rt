@@ -5,10 +5,10 @@ use call_codes::Verb;
 use model::Roles;
 
 // What an operation needs.
-type Workspace = [u32; 13845];
+type Workspace = [u32; 15309];
 
 fn main() {
-    let mut work: Workspace = [7; 13845];
+    let mut work: Workspace = [7; 15309];
     one_list(&mut work);
     several_roles(&mut work);
     refusals_in_order(&mut work);
@@ -243,7 +243,7 @@ fn refusals_in_order(work: &mut Workspace) {
     union(&mut words, plain(0), 3, 2, 2, 1, work);
     extract_in(&mut words, 0, &[2], &[], 0, 9, work);
     extract_in(&mut words, 0, &[1], &[1], 0, 9, work);
-    extract_in(&mut words, 0, &[1], &[1], 1, 13844, work);
+    extract_in(&mut words, 0, &[1], &[1], 1, 15308, work);
     extract(&mut words, 0, &[0], &[0], 1, work);
     set(&mut words, 8, 9, 9, 1);
     set(&mut words, 2, 9, 9, 1);
@@ -330,8 +330,9 @@ fn drop_in(words: &mut [u32], n: usize) {
 fn longest() {
     let mut words = [0u32; 16384];
     test_support::heading(b"16384 words");
-    lay(&mut words, 7, 512, 512);
-    lay(&mut words, 0, 512, 513);
+    lay(&mut words, 7, 1000, 1000);
+    lay(&mut words, 0, 1000, 1001);
+    lay(&mut words, 0, 1001, 1000);
     drop(&mut words, 7);
 }
 
@@ -344,22 +345,22 @@ fn too_long() {
 
 // 2,048 entries, one more, and a value in place of another.
 fn entries_at_limit() {
-    let mut words = [0u32; 4623];
-    test_support::heading(b"2048 entries in 4623 words");
-    lay(&mut words, 1, 512, 512);
+    let mut words = [0u32; 5111];
+    test_support::heading(b"2048 entries in 5111 words");
+    lay(&mut words, 1, 1000, 1000);
     fill(&mut words, 1, 2047);
-    set(&mut words, 1, 511, 3, 9);
-    set(&mut words, 1, 511, 4, 9);
-    set(&mut words, 1, 511, 3, 8);
-    read(&words, 1, 511, 3);
-    read(&words, 1, 511, 4);
-    clear(&mut words, 1, 0, 0);
+    set(&mut words, 1, 999, 3, 9);
+    set(&mut words, 1, 999, 4, 9);
+    set(&mut words, 1, 999, 3, 8);
+    read(&words, 1, 999, 3);
+    read(&words, 1, 999, 4);
+    clear(&mut words, 1, 488, 0);
     lay(&mut words, 0, 1, 1);
-    set(&mut words, 1, 511, 4, 9);
-    set(&mut words, 1, 0, 0, 9);
+    set(&mut words, 1, 999, 4, 9);
+    set(&mut words, 1, 488, 0, 9);
 }
 
-// n entries of a slot, four to a row.
+// n entries of a slot, four to a row from row 488 on.
 fn fill(store: &mut [u32], slot: usize, n: u32) {
     let mut k = 0;
     while k < n {
@@ -369,7 +370,8 @@ fn fill(store: &mut [u32], slot: usize, n: u32) {
 }
 
 fn put_entry(store: &mut [u32], slot: usize, k: u32) {
-    let r = store_cells::set_cell(store, slot, k / 4, k % 4, k);
+    let i = std::num::wrapping_add_u32(488, k / 4);
+    let r = store_cells::set_cell(store, slot, i, k % 4, k);
     if r.code != 0 {
         test_support::print_pair(b"set: ", r.code, r.entries);
     }

@@ -6,7 +6,7 @@ pub fn word(words: &[u32], k: usize) -> u32 {
     if k < words.len() { words[k] } else { 0 }
 }
 
-// A matrix with n entries, four to a row; the last row has those from 2,044 on.
+// A matrix with n entries, four to a row in the last 512 rows; the very last row has those from 2,044 on.
 pub fn build(words: &mut [u32], r: u32, c: u32, n: u32, last_row: usize) {
     build_shape(words, r, c);
     let rows = r as usize;
@@ -28,7 +28,15 @@ fn build_shape(words: &mut [u32], r: u32, c: u32) {
     put(words, 1, r);
     put(words, 2, c);
     put(words, 3, std::num::wrapping_add_u32(r, 1));
-    put_run(words, 4, r as usize, 4, 4294967295);
+    let rows = r as usize;
+    put_run(words, 4, rows, 0, 4294967295);
+    put_run(
+        words,
+        std::num::wrapping_sub_usize(rows, 508),
+        512,
+        4,
+        4294967295,
+    );
 }
 
 // The words of a matrix, from its shape and its three lists.

@@ -3,7 +3,7 @@
 use crate::entries::Entries;
 use crate::jobs::{
     library, ordinary, Buffers, Job, LentJob, Operation, Program, ProgramSubject, StoreCall, PLUS, REPLACE,
-    STORE_WORDS, STRUCTURAL, TRANSPOSE_FIRST,
+    STORE_WORDS, STRUCTURAL, TRANSPOSE_FIRST, WORK_WORDS,
 };
 use crate::peer::{self, Peer};
 use crate::scene::{Scene, Size, SIZES};
@@ -67,13 +67,13 @@ pub fn all_cases() -> Result<Vec<Case>, String> {
 fn part_cases(scenes: &[Scene]) -> Result<Vec<Case>, String> {
     let mut cases = Vec::new();
     for Scene { size, a, .. } in scenes {
-        let variant = format!("a matrix of {} entries", size.entries);
+        let variant = format!("a matrix of {} entries in {} rows", size.entries, size.side);
         cases.push(part_case("`check`", &variant, Job::Check(a.words()))?);
     }
     let Scene { a, b, mask, c, .. } = &scenes[0];
     let refused = lent_job(Operation::Mxm, REFUSED, [a, b, mask, c]);
     cases.push(part_case("`mxm`", "refused by its flags: it only clears the workspace", Job::Lent(refused))?);
-    let mut fill = part_case("`fill`", "zeros into 13,845 words, by no call", Job::Fill)?;
+    let mut fill = part_case("`fill`", &format!("zeros into {WORK_WORDS} words, by no call"), Job::Fill)?;
     fill.subjects[0] = None;
     cases.push(fill);
     Ok(cases)

@@ -49,6 +49,15 @@ impl Entries {
         self
     }
 
+    /// The same entries in so many times as many rows and columns, each row and column number so many times as large. A
+    /// vector keeps its one row.
+    pub fn spread(self, times: usize) -> Self {
+        let number = |at: u32| at * times as u32;
+        let rows = if self.rows == 1 { 1 } else { self.rows * times };
+        let cells = self.cells.iter().map(|(&(i, j), &value)| ((number(i), number(j)), value)).collect();
+        Entries { rows, cols: self.cols * times, cells }
+    }
+
     fn filled(mut self, rng: &mut Rng, count: usize) -> Self {
         while self.cells.len() < count {
             let position = (rng.below(self.rows) as u32, rng.below(self.cols) as u32);

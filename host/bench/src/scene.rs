@@ -9,10 +9,17 @@ use ostrubel::MAX_ENTRIES;
 pub struct Size {
     pub entries: usize,
     pub side: usize,
+    /// The entries are those of so many times fewer rows and columns, each row and column number so many times as large.
+    pub spread: usize,
 }
 
-pub const SIZES: [Size; 3] =
-    [Size { entries: 300, side: 250 }, Size { entries: 1_000, side: 500 }, Size { entries: 2_048, side: 512 }];
+/// The same 300 entries in 250 and in 1,000 rows and columns, and more.
+pub const SIZES: [Size; 4] = [
+    Size { entries: 300, side: 250, spread: 1 },
+    Size { entries: 300, side: 1_000, spread: 4 },
+    Size { entries: 1_000, side: 500, spread: 1 },
+    Size { entries: 2_048, side: 512, spread: 1 },
+];
 
 const SEED: u64 = 1;
 
@@ -28,7 +35,7 @@ pub struct Scene {
     pub factors: (Entries, Entries, &'static str),
     /// A second input whose union with A fits, and what it is.
     pub addend: (Entries, &'static str),
-    /// Vectors with a tenth of the columns present.
+    /// Vectors with a tenth of the columns present, before they are spread.
     pub u: Entries,
     pub vector_mask: Entries,
     pub w: Entries,
@@ -40,8 +47,9 @@ pub struct Scene {
 impl Scene {
     pub fn new(size: Size) -> Self {
         let rng = &mut Rng::new(SEED);
-        let Size { entries, side } = size;
+        let Size { entries, side, spread } = size;
         let full = entries == MAX_ENTRIES;
+        let (all, side) = (side, side / spread);
         let a = Entries::random(rng, side, side, entries);
         let b = Entries::half_of(rng, &a);
         let mask = Entries::half_of(rng, &a).with_zeros(rng);
@@ -57,7 +65,11 @@ impl Scene {
         let mut vector = || Entries::random(rng, 1, side, side / 10);
         let (u, vector_mask, w) = (vector(), vector(), vector());
         let vector_mask = vector_mask.with_zeros(rng);
-        let (row_list, col_list) = (rng.permutation(side), rng.permutation(side));
+        let (row_list, col_list) = (rng.permutation(all), rng.permutation(all));
+        let [a, b, mask, c] = [a, b, mask, c].map(|entries| entries.spread(spread));
+        let [u, vector_mask, w] = [u, vector_mask, w].map(|entries| entries.spread(spread));
+        let factors = (factors.0.spread(spread), factors.1.spread(spread), factors.2);
+        let addend = (addend.0.spread(spread), addend.1);
         Scene { size, a, b, mask, c, factors, addend, u, vector_mask, w, row_list, col_list }
     }
 }

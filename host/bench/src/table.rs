@@ -1,6 +1,7 @@
 //! The measured times as text: tables in markdown, and their place in a document.
 
 use crate::cases::{Case, Section};
+use crate::jobs::STORE_WORDS;
 use crate::machine;
 use crate::rounds::Measured;
 use crate::scene::Size;
@@ -28,11 +29,11 @@ pub fn report(cases: &[Case], measured: &Measured) -> String {
 }
 
 fn title(section: Section) -> String {
-    let size = |Size { entries, side }: Size| format!("{entries} entries in {side} rows and columns");
+    let size = |Size { entries, side, .. }: Size| format!("{entries} entries in {side} rows and columns");
     match section {
         Section::Parts => "Validating and clearing alone".to_string(),
         Section::Lent(of) => format!("{}: lent matrices", size(of)),
-        Section::Store(of) => format!("{}: a store of 16,384 words", size(of)),
+        Section::Store(of) => format!("{}: a store of {STORE_WORDS} words", size(of)),
     }
 }
 

@@ -3,18 +3,36 @@
 use bench::cases::{all_cases, Case, Section};
 use bench::entries::Entries;
 use bench::ordinary;
+use bench::rounds::measure;
 use bench::scene::{Scene, SIZES};
+use std::time::Duration;
 
 #[test]
 fn all_sides_agree() {
     let cases = all_cases().unwrap();
     let count = |of: fn(Section) -> bool| cases.iter().filter(|case| of(case.section)).count();
-    assert_eq!(count(|section| section == Section::Parts), 5);
+    assert_eq!(count(|section| section == Section::Parts), SIZES.len() + 2);
     assert_eq!(count(|section| matches!(section, Section::Lent(_))), 14 * SIZES.len());
     assert_eq!(count(|section| matches!(section, Section::Store(_))), 12 * SIZES.len());
     let has_peer = |case: &&Case| case.subjects[2].is_some();
     let peers = if cfg!(feature = "suitesparse") { (14 + 4) * SIZES.len() } else { 0 };
     assert_eq!(cases.iter().filter(has_peer).count(), peers);
+}
+
+/// The fewest rounds, of the products of 300 entries: in 250 rows and columns, and the same in 1,000.
+#[test]
+fn products_are_measured() {
+    let is_product = |case: &Case| match case.section {
+        Section::Lent(size) => case.call == "`mxm`" && size.entries == 300,
+        _ => false,
+    };
+    let mut cases: Vec<Case> = all_cases().unwrap().into_iter().filter(is_product).collect();
+    let (narrow, wide) = cases.split_at(4);
+    let results = |cases: &[Case]| cases.iter().map(|case| case.entries).collect::<Vec<_>>();
+    assert_eq!(results(narrow), results(wide));
+    for [library, ordinary, _] in measure(&mut cases, Duration::ZERO).sides {
+        assert!(library.is_some_and(|time| time.median > 0.0) && ordinary.is_some_and(|time| time.median > 0.0));
+    }
 }
 
 #[test]

@@ -1,15 +1,35 @@
 //! The pages of the help, which are the texts in the folder `help`.
 
 use crate::commands::Command;
-use ostrubel::Error;
+use crate::{script, shelf_file};
+use ostrubel::{Error, MAX_COLS, MAX_ENTRIES, MAX_INDEXES, MAX_ROWS, MAX_STORE_WORDS, MIN_STORE_WORDS, SLOTS};
 
 const PAGE_WIDTH: usize = 98;
 
-/// The first page.
-pub const OVERVIEW: &str = include_str!("help/overview.txt");
-
 /// What the pages of the six operations end with.
 const OPTIONS: &str = include_str!("help/options.txt");
+
+/// The text with its limits: no page has one of its own.
+fn filled(text: &str) -> String {
+    let limits = [
+        ("{MAX_ROWS}", MAX_ROWS as usize),
+        ("{MAX_COLS}", MAX_COLS as usize),
+        ("{MAX_ENTRIES}", MAX_ENTRIES),
+        ("{MAX_INDEXES}", MAX_INDEXES),
+        ("{LAST_PLACE}", SLOTS - 1),
+        ("{MIN_WORDS}", MIN_STORE_WORDS),
+        ("{MAX_WORDS}", MAX_STORE_WORDS),
+        ("{MAX_BYTES}", shelf_file::MAX_BYTES),
+        ("{MAX_SCRIPT_BYTES}", script::MAX_BYTES as usize),
+        ("{MAX_PRINTED_BYTES}", script::MAX_PRINTED_BYTES),
+    ];
+    limits.iter().fold(text.to_string(), |text, (name, limit)| text.replace(name, &limit.to_string()))
+}
+
+/// The first page.
+pub fn overview() -> String {
+    command_page(Command::Help)
+}
 
 /// The page about a command or another topic.
 pub fn page(topic: &str) -> Option<String> {
@@ -30,11 +50,11 @@ pub fn form(command: Command) -> &'static str {
 }
 
 fn command_page(command: Command) -> String {
-    let text = command_text(command);
+    let text = filled(command_text(command));
     if command.is_operation() {
         format!("{text}\n{OPTIONS}")
     } else {
-        text.to_string()
+        text
     }
 }
 
@@ -55,7 +75,7 @@ fn command_text(command: Command) -> &'static str {
         Command::Apply => include_str!("help/apply.txt"),
         Command::Extract => include_str!("help/extract.txt"),
         Command::Run => include_str!("help/run.txt"),
-        Command::Help => OVERVIEW,
+        Command::Help => include_str!("help/overview.txt"),
     }
 }
 
@@ -107,6 +127,24 @@ mod tests {
         }
     }
 
+    /// The numbers of a page's text as it is written, with words such as `0..9` in their parts.
+    fn numbers(text: &str) -> Vec<u64> {
+        text.split(|c: char| !c.is_ascii_digit()).filter_map(|digits| digits.parse().ok()).collect()
+    }
+
+    #[test]
+    fn limits_are_filled_in() {
+        let limits = numbers(&filled("{MAX_ROWS} {MAX_COLS} {MAX_ENTRIES} {MAX_INDEXES} {MAX_WORDS} {MAX_BYTES}"));
+        assert_eq!(limits, [1_000, 1_000, 2_048, 1_000, 16_384, 65_536]);
+        for page in pages() {
+            assert!(!page.contains('{') && !page.contains('}'), "{page}");
+        }
+        // 1000 words are a shelf in the first page's example, and no limit.
+        for command in Command::ALL.into_iter().filter(|command| *command != Command::Help) {
+            assert!(!numbers(command_text(command)).iter().any(|number| limits.contains(number)), "{command:?}");
+        }
+    }
+
     #[test]
     fn each_example_is_a_command() {
         for page in pages() {
@@ -120,7 +158,7 @@ mod tests {
     #[test]
     fn each_command_is_on_the_first_page_and_on_its_own() {
         for command in Command::ALL {
-            assert!(OVERVIEW.lines().any(|line| line.starts_with(&format!("  {} ", command.name()))), "{command:?}");
+            assert!(overview().lines().any(|line| line.starts_with(&format!("  {} ", command.name()))), "{command:?}");
             let first = command_page(command);
             assert!(command == Command::Help || first.starts_with(&format!("ostrubel {} FILE", command.name())));
         }

@@ -33,7 +33,7 @@ use task::Task;
 fn main() -> ExitCode {
     let words: Vec<OsString> = std::env::args_os().skip(1).collect();
     if words.is_empty() {
-        complain(help::OVERVIEW);
+        complain(&help::overview());
         return ExitCode::from(WRONG_USAGE);
     }
     match carry_out(&words) {

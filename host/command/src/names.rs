@@ -171,8 +171,8 @@ mod tests {
 
     #[test]
     fn a_long_list_is_cut_behind_the_limit() {
-        assert_eq!(listed("0..511").map(|list| list.len()), Ok(512));
-        assert_eq!(listed("0..99999999999999999999,4").map(|list| list.len()), Ok(513));
+        assert_eq!(listed("0..999").map(|list| list.len()), Ok(1_000));
+        assert_eq!(listed("0..99999999999999999999,4").map(|list| list.len()), Ok(1_001));
     }
 
     #[test]

@@ -15,10 +15,10 @@ use std::io::{self, Read};
 use std::path::Path;
 
 /// The longest script: some 50,000 calls.
-const MAX_BYTES: u64 = 1 << 20;
+pub const MAX_BYTES: u64 = 1 << 20;
 
 /// The most that a script prints, which is kept in memory until the shelf is saved.
-const MAX_PRINTED_BYTES: usize = 16 << 20;
+pub const MAX_PRINTED_BYTES: usize = 16 << 20;
 
 pub struct Script {
     lines: Vec<Line>,

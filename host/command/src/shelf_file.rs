@@ -29,7 +29,7 @@ use std::path::{Path, PathBuf};
 use std::process;
 
 const WORD_BYTES: usize = 4;
-const MAX_BYTES: usize = MAX_STORE_WORDS * WORD_BYTES;
+pub const MAX_BYTES: usize = MAX_STORE_WORDS * WORD_BYTES;
 
 /// The names that are tried for a new file.
 const NEW_FILE_NAMES: u32 = 100;

@@ -37,7 +37,7 @@ impl Task {
         let texts: Vec<String> = words.iter().map(|word| word.to_string_lossy().into_owned()).collect();
         let name = texts.first().map_or("", String::as_str);
         let page = match name {
-            "--help" | "-h" => Some(help::OVERVIEW.to_string()),
+            "--help" | "-h" => Some(help::overview()),
             "--version" | "-V" => Some(format!("ostrubel {}", env!("CARGO_PKG_VERSION"))),
             _ => None,
         };
@@ -79,7 +79,7 @@ impl Task {
 
 fn help_task(topics: &[String]) -> Result<Task, Usage> {
     match topics {
-        [] => Ok(Task::Print(help::OVERVIEW.to_string())),
+        [] => Ok(Task::Print(help::overview())),
         [topic] => match help::page(topic) {
             Some(page) => Ok(Task::Print(page)),
             None => Err(Usage::new("", format!("no help about {topic:?}"))),

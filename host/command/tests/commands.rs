@@ -226,13 +226,16 @@ fn what_the_help_says() {
         (
             "help",
             &[
+                "A sheet is a table of up to 1000 rows and 1000 columns, counted from 0;",
                 "An entry is a cell that has a value. A sheet has at most 2048 entries.",
+                "a new shelf of WORDS words (8 to 16384; 1000 will often do)",
                 "To merge place 1 into place 0, where the larger value stays: apply FILE 0 1 --op identity --accum max",
                 "Each command works within one shelf.",
                 "3 a file or the output cannot be read or written; the message says whether the shelf was saved.",
             ][..],
         ),
-        ("lay", &["A sheet has at most 2048 entries."]),
+        ("lay", &["ROWS 1 to 1000 COLS 1 to 1000", "A sheet has at most 2048 entries."]),
+        ("extract", &["A LIST has 1 to 1000 numbers."]),
         ("mxm", &["plus.times is the ordinary product; min.plus adds the two values and keeps the smallest sum."]),
         ("options", &["Options may stand anywhere behind the command", "--mask 3 and --mask=3 are the same."]),
         ("show", &["A sheet of more than 60 rows, or one whose picture would be wider than 120 characters,"]),

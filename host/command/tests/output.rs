@@ -17,11 +17,8 @@ fn run_closed(folder: &Folder, line: &str) -> Output {
 fn long_output() -> Folder {
     let folder = Folder::new();
     folder.accept("new s 16384");
-    let zeros = vec!["0"; 512].join(",");
-    folder.script(
-        "s",
-        &format!("lay 1 1 1\nset 1 0 0 -2147483648\nlay 0 512 4\nextract 0 1 --rows {zeros} --cols 0,0,0,0\n"),
-    );
+    let cells = (0..2_048).map(|k| format!("set 0 {} {} -2147483648\n", k / 4, k % 4));
+    folder.script("s", &format!("lay 1 1 1\nset 1 0 0 -2147483648\nlay 0 512 4\n{}", cells.collect::<String>()));
     folder.write("script", format!("set 1 0 0 5\n{}", "show 0\n".repeat(20)));
     folder
 }

@@ -70,9 +70,9 @@ fn rows_and_columns_past_the_sheet_are_7() {
         7,
         "--rows has 3, --cols has 2, place 0 (A) is 3 by 2 as transposed",
     );
-    let zeros = vec!["0"; 513].join(",");
+    let zeros = vec!["0"; 1_001].join(",");
     let line = format!("extract s 1 0 --rows {zeros} --cols 0");
-    folder.refuses(&line, 7, "--rows has more than 512 indexes, place 0 (A) is 2 by 3");
+    folder.refuses(&line, 7, "--rows has more than 1000 indexes, place 0 (A) is 2 by 3");
 }
 
 #[test]
@@ -84,12 +84,13 @@ fn a_list_without_indexes_is_7() {
 #[test]
 fn shapes_that_do_not_fit_are_8() {
     let folder = shelf();
-    folder.refuses("lay s 0 513 1", 8, "513 by 1");
+    folder.refuses("lay s 0 1001 1", 8, "1001 by 1");
+    folder.refuses("lay s 0 1 1001", 8, "1 by 1001");
     folder.refuses("lay s 0 1 0", 8, "1 by 0");
     folder.refuses("lay s 0 -4 99999999999999999999", 8, "-4 by 99999999999999999999");
     assert_eq!(
-        folder.fails("lay s 0 513 1", 1),
-        "refused (8): A sheet has 1 to 512 rows and 1 to 512 columns. (513 by 1)\n"
+        folder.fails("lay s 0 1001 1", 1),
+        "refused (8): A sheet has 1 to 1000 rows and 1 to 1000 columns. (1001 by 1)\n"
     );
 }
 
@@ -149,12 +150,11 @@ fn shapes_that_do_not_fit_an_operation() {
 fn too_many_entries_are_10() {
     let folder = Folder::new();
     folder.accept("new s 16384");
-    let zeros = vec!["0"; 512].join(",");
-    let full = format!("lay 0 1 2\nset 0 0 0 1\nlay 1 512 5\nextract 1 0 --rows {zeros} --cols 0,0,0,0,1\n");
+    let cells = (0..2_048).map(|k| format!("set 1 {} {} 1\n", k / 4, k % 4));
+    let full = format!("lay 0 1000 1000\nset 0 0 4 1\nlay 1 1000 1000\n{}", cells.collect::<String>());
     assert!(folder.script("s", &full).ends_with("place 1: 2048 entries\n"));
     folder.refuses("set s 1 0 4 1", 10, "place 1 has 2048 entries now");
-    let line = format!("extract s 1 0 --rows {zeros} --cols 0,0,0,0,0");
-    folder.refuses(&line, 10, "place 1 (C) has 2048 entries now");
+    folder.refuses("eWiseAdd s 1 0 1 --op max", 10, "place 1 (C) has 2048 entries now");
     folder.prints("set s 1 0 0 9", "place 1: 2048 entries\n");
 }
 
@@ -213,7 +213,7 @@ fn damaged_files_are_12() {
         ("a byte more than the longest", vec![0; 65_537]),
         ("1 MB", vec![0; 1 << 20]),
         ("a count that is too large", changed(0, 14)),
-        ("513 columns", changed(13, 2)),
+        ("1,027 columns", changed(13, 4)),
         ("a row start that falls", changed(20, 200)),
         ("a word behind the last section", changed(3999, 1)),
         ("a text", b"These are not the words of a shelf.\n".repeat(4)),

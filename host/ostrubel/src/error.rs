@@ -1,5 +1,9 @@
 //! Refusals.
 
+use crate::limits::{
+    MAX_COLS, MAX_ENTRIES, MAX_INDEXES, MAX_ROWS, MAX_STORE_WORDS, MIN_STORE_WORDS, SLOTS, WORKSPACE_WORDS,
+};
+use std::borrow::Cow;
 use std::fmt;
 
 /// Why a call was refused. A refused call changes nothing.
@@ -31,17 +35,18 @@ pub enum Error {
     InvalidMask = 5,
     /// 6: the output is no valid matrix.
     InvalidOutput = 6,
-    /// 7: an index, row or column past the matrix, or an index list that is empty or has over 512 indexes.
+    /// 7: an index, row or column past the matrix, or an index list that is empty or has over [`MAX_INDEXES`] indexes.
     IndexOutOfBounds = 7,
-    /// 8: rows or columns outside 1 to 512, shapes that disagree, or more than one row where a vector is due.
+    /// 8: rows or columns outside 1 to [`MAX_ROWS`] and [`MAX_COLS`], shapes that disagree, or more than one row where a
+    /// vector is due.
     InvalidShape = 8,
-    /// 9: a workspace under 13,845 words. `Matrix` and `Store` provide one that is long enough.
+    /// 9: a workspace under [`WORKSPACE_WORDS`] words. `Matrix` and `Store` provide one that is long enough.
     WorkspaceTooShort = 9,
-    /// 10: a matrix would have over 2,048 entries.
+    /// 10: a matrix would have over [`MAX_ENTRIES`] entries.
     TooManyEntries = 10,
     /// 11: the matrices do not fit the store.
     InsufficientSpace = 11,
-    /// 12: the length or the words are no store's, or a slot above 7.
+    /// 12: the length or the words are no store's, or a slot is not below [`SLOTS`].
     InvalidStore = 12,
     /// 13: a slot that must have a matrix is empty.
     EmptySlot = 13,
@@ -75,47 +80,61 @@ impl Error {
         Error::ALL.into_iter().find(|error| error.number() == number)
     }
 
-    const fn sentence(self) -> &'static str {
+    /// What is wrong and what to do about it. A limit is the constant's number.
+    fn sentence(self) -> Cow<'static, str> {
+        let last = SLOTS - 1;
         match self {
-            Error::FlagsOutOfRange => "The flags are above 31: add up only 1, 2, 4, 8 and 16, each at most once.",
+            Error::FlagsOutOfRange => {
+                "The flags are above 31: add up only 1, 2, 4, 8 and 16, each at most once.".into()
+            }
             Error::UnknownOperator => {
                 "There is no such operator: choose among FIRST, SECOND, ONEB, PLUS, MINUS, TIMES, MIN and MAX for two \
                  values (to add up: PLUS, TIMES, MIN, MAX), IDENTITY, AINV, ABS, LNOT and ONE for one, and ROWINDEX, \
                  COLINDEX and DIAGINDEX for rows and columns."
+                    .into()
             }
             Error::InvalidFirst => {
-                "The sheet, or the first of two, is damaged: take a sound copy of it, or write it anew."
+                "The sheet, or the first of two, is damaged: take a sound copy of it, or write it anew.".into()
             }
-            Error::InvalidSecond => "The second sheet is damaged: take a sound copy of it, or write it anew.",
-            Error::InvalidMask => "The mask is damaged: take a sound copy of it, or write it anew.",
-            Error::InvalidOutput => "The sheet to write into is damaged: take a sound copy of it, or lay it anew.",
-            Error::IndexOutOfBounds => {
-                "A row or column lies past the edge of the sheet, or a list of them does not have 1 to 512 numbers: \
-                 count rows and columns from 0, and stay within the sheet."
+            Error::InvalidSecond => "The second sheet is damaged: take a sound copy of it, or write it anew.".into(),
+            Error::InvalidMask => "The mask is damaged: take a sound copy of it, or write it anew.".into(),
+            Error::InvalidOutput => {
+                "The sheet to write into is damaged: take a sound copy of it, or lay it anew.".into()
             }
-            Error::InvalidShape => {
-                "The shapes do not fit: a sheet has 1 to 512 rows and columns, a strip has one row, and the sheets of \
-                 one step must agree in shape."
+            Error::IndexOutOfBounds => format!(
+                "A row or column lies past the edge of the sheet, or a list of them does not have 1 to {MAX_INDEXES} \
+                 numbers: count rows and columns from 0, and stay within the sheet."
+            )
+            .into(),
+            Error::InvalidShape => format!(
+                "The shapes do not fit: a sheet has 1 to {MAX_ROWS} rows and 1 to {MAX_COLS} columns, a strip has one \
+                 row, and the sheets of one step must agree in shape."
+            )
+            .into(),
+            Error::WorkspaceTooShort => {
+                format!("The work buffer is too short: give it at least {WORKSPACE_WORDS} words.").into()
             }
-            Error::WorkspaceTooShort => "The work buffer is too short: give it at least 13,845 words.",
-            Error::TooManyEntries => {
-                "The sheet would hold more than 2,048 entries: clear some cells, or split it into two sheets."
-            }
+            Error::TooManyEntries => format!(
+                "The sheet would hold more than {MAX_ENTRIES} entries: clear some cells, or split it into two sheets."
+            )
+            .into(),
             Error::InsufficientSpace => {
                 "The shelf has too little room for this: drop a sheet that is no longer needed, or take a longer shelf."
+                    .into()
             }
-            Error::InvalidStore => {
-                "The place is not one of 0 to 7, or the shelf is damaged or not 8 to 16,384 words long: name a place \
-                 from 0 to 7, or take a sound copy of the shelf."
-            }
-            Error::EmptySlot => "The place holds no sheet: lay one there first.",
+            Error::InvalidStore => format!(
+                "The place is not one of 0 to {last}, or the shelf is damaged or not {MIN_STORE_WORDS} to \
+                 {MAX_STORE_WORDS} words long: name a place from 0 to {last}, or take a sound copy of the shelf."
+            )
+            .into(),
+            Error::EmptySlot => "The place holds no sheet: lay one there first.".into(),
         }
     }
 }
 
 impl fmt::Display for Error {
     fn fmt(&self, f: &mut fmt::Formatter<'_>) -> fmt::Result {
-        f.pad(self.sentence())
+        f.pad(&self.sentence())
     }
 }
 

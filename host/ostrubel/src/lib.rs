@@ -54,7 +54,7 @@ pub use entries::Entries;
 pub use error::Error;
 pub use limits::{
     MAX_COLS, MAX_ENTRIES, MAX_INDEXES, MAX_MATRIX_WORDS, MAX_ROWS, MAX_STORE_WORDS, MIN_STORE_WORDS, SLOTS,
-    WORKSPACE_WORDS,
+    STACK_BYTES, WORKSPACE_WORDS,
 };
 pub use matrix::{Matrix, Section};
 pub use operators::{ApplyOp, BinaryOp, IndexUnaryOp, Monoid, Semiring, UnaryOp};

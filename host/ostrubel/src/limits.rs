@@ -1,16 +1,16 @@
 //! The library's limits and sizes. Sizes count words of 32 bits.
 
 /// The most rows a matrix may have.
-pub const MAX_ROWS: u32 = 512;
+pub const MAX_ROWS: u32 = 1_000;
 
 /// The most columns a matrix may have.
-pub const MAX_COLS: u32 = 512;
+pub const MAX_COLS: u32 = 1_000;
 
 /// The most entries a matrix may have.
 pub const MAX_ENTRIES: usize = 2_048;
 
 /// The most indexes in an index list of `extract`.
-pub const MAX_INDEXES: usize = 512;
+pub const MAX_INDEXES: usize = 1_000;
 
 /// The number of slots of a store.
 pub const SLOTS: usize = 8;
@@ -21,8 +21,11 @@ pub const MIN_STORE_WORDS: usize = 8;
 /// The words of the longest store.
 pub const MAX_STORE_WORDS: usize = 16_384;
 
-/// The words of the largest matrix.
-pub const MAX_MATRIX_WORDS: usize = 4_615;
+/// The words of the largest matrix: its rows, twice its entries, and 7.
+pub const MAX_MATRIX_WORDS: usize = MAX_ROWS as usize + 2 * MAX_ENTRIES + 7;
 
-/// The words that an operation needs to work in. `Matrix` and `Store` provide them.
-pub const WORKSPACE_WORDS: usize = 13_845;
+/// The words that an operation needs to work in: three of the largest matrices. `Matrix` and `Store` provide them.
+pub const WORKSPACE_WORDS: usize = 3 * MAX_MATRIX_WORDS;
+
+/// Bytes of stack that are enough for any of the library's calls ([`calls`](crate::calls)), at the largest shapes too.
+pub const STACK_BYTES: usize = 48 << 10;

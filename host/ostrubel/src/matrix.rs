@@ -16,8 +16,8 @@ pub enum Section {
 
 /// A sparse matrix of whole numbers: each cell has a value or none, and a value of 0 is a value.
 ///
-/// It has 1 to 512 rows and columns and at most 2,048 entries. Two matrices are equal where their shapes and all their
-/// cells are.
+/// It has 1 to [`MAX_ROWS`] rows, 1 to [`MAX_COLS`](crate::MAX_COLS) columns and at most [`MAX_ENTRIES`] entries. Two
+/// matrices are equal where their shapes and all their cells are.
 ///
 /// `Display` draws the cells, or lists the entries of a matrix that is too wide or too long for a page.
 ///
@@ -41,7 +41,7 @@ impl Matrix {
     ///
     /// # Errors
     ///
-    /// `InvalidShape` where rows or columns are not 1 to 512.
+    /// `InvalidShape` where rows or columns are outside their limits.
     pub fn new(rows: u32, cols: u32) -> Result<Matrix, Error> {
         let mut words = vec![0; layout::size_of(MAX_ROWS as usize, 0)];
         answer::entries(calls::new_empty(rows, cols, &mut words))?;
@@ -65,8 +65,8 @@ impl Matrix {
     ///
     /// # Errors
     ///
-    /// `InvalidShape` where rows or columns are not 1 to 512; `IndexOutOfBounds` for a cell outside the matrix;
-    /// `TooManyEntries` above 2,048 cells.
+    /// `InvalidShape` where rows or columns are outside their limits; `IndexOutOfBounds` for a cell outside the matrix;
+    /// `TooManyEntries` above [`MAX_ENTRIES`] cells.
     pub fn from_triples(
         rows: u32,
         cols: u32,

@@ -14,7 +14,7 @@ use crate::{ApplyOp, BinaryOp, Error, Matrix, Options, Semiring};
 /// # Errors
 ///
 /// `IndexOutOfBounds` (only `extract`), `InvalidShape` where the shapes of inputs, mask, C and result disagree,
-/// `TooManyEntries` where the final C would have over 2,048 entries.
+/// `TooManyEntries` where the final C would have over [`MAX_ENTRIES`](crate::MAX_ENTRIES) entries.
 impl Matrix {
     /// C gets A times B. There is an entry at (i, j) where some k has both A(i, k) and B(k, j).
     ///
@@ -134,7 +134,8 @@ impl Matrix {
 
     /// At (i, j) the cell of A at row `rows[i]` and column `cols[j]`. An index may repeat.
     ///
-    /// `IndexOutOfBounds` where a list is empty or has over 512 indexes, or an index is outside A (as transposed).
+    /// `IndexOutOfBounds` where a list is empty or has over [`MAX_INDEXES`](crate::MAX_INDEXES) indexes, or an index is
+    /// outside A (as transposed).
     ///
     /// ```
     /// use ostrubel::{Error, Matrix, Options};

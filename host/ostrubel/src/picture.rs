@@ -159,9 +159,9 @@ mod tests {
 
     #[test]
     fn lists_the_largest_shape() -> Result<(), Error> {
-        assert_eq!(lines(&Matrix::new(512, 512)?), ["512 by 512, 0 entries"]);
-        let matrix = Matrix::from_triples(512, 512, [(511, 511, 1)])?;
-        assert_eq!(lines(&matrix), ["512 by 512, 1 entry", "511 511 1"]);
+        assert_eq!(lines(&Matrix::new(1_000, 1_000)?), ["1000 by 1000, 0 entries"]);
+        let matrix = Matrix::from_triples(1_000, 1_000, [(999, 999, 1)])?;
+        assert_eq!(lines(&matrix), ["1000 by 1000, 1 entry", "999 999 1"]);
         Ok(())
     }
 }

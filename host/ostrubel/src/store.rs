@@ -33,7 +33,8 @@ impl Store {
     ///
     /// # Errors
     ///
-    /// `InvalidStore` where the number of words is not 8 to 16,384.
+    /// `InvalidStore` where the number of words is not [`MIN_STORE_WORDS`](crate::MIN_STORE_WORDS) to
+    /// [`MAX_STORE_WORDS`].
     pub fn new(words: usize) -> Result<Store, Error> {
         if words > MAX_STORE_WORDS {
             return Err(Error::InvalidStore);
@@ -68,7 +69,7 @@ impl Store {
     ///
     /// # Errors
     ///
-    /// `InvalidShape` where rows or columns are not 1 to 512, `InsufficientSpace` where it does not fit.
+    /// `InvalidShape` where rows or columns are outside their limits, `InsufficientSpace` where it does not fit.
     pub fn new_empty(&mut self, slot: usize, rows: u32, cols: u32) -> Result<(), Error> {
         answer::entries(calls::store_new_empty(slot, rows, cols, &mut self.words))?;
         Ok(())
@@ -88,7 +89,7 @@ impl Store {
     ///
     /// # Errors
     ///
-    /// `EmptySlot`; `IndexOutOfBounds` for a cell outside the matrix; `TooManyEntries` above 2,048;
+    /// `EmptySlot`; `IndexOutOfBounds` for a cell outside the matrix; `TooManyEntries` where it is full;
     /// `InsufficientSpace` where the entry does not fit.
     pub fn set(&mut self, slot: usize, i: u32, j: u32, value: i32) -> Result<usize, Error> {
         answer::entries(calls::store_set_cell(slot, i, j, value as u32, &mut self.words))

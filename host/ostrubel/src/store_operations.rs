@@ -12,8 +12,8 @@ use crate::{ApplyOp, BinaryOp, Error, Options, Semiring, Store};
 /// # Errors
 ///
 /// `EmptySlot`; `IndexOutOfBounds` (only `extract`); `InvalidShape` where the shapes of inputs, mask, C and result
-/// disagree; `TooManyEntries` where the final C would have over 2,048 entries; `InsufficientSpace` where it does not
-/// fit the store.
+/// disagree; `TooManyEntries` where the final C would have over [`MAX_ENTRIES`](crate::MAX_ENTRIES) entries;
+/// `InsufficientSpace` where it does not fit the store.
 impl Store {
     /// C gets A times B. There is an entry at (i, j) where some k has both A(i, k) and B(k, j).
     pub fn mxm(
@@ -83,7 +83,8 @@ impl Store {
 
     /// At (i, j) the cell of A at row `rows[i]` and column `cols[j]`. An index may repeat.
     ///
-    /// `IndexOutOfBounds` where a list is empty or has over 512 indexes, or an index is outside A (as transposed).
+    /// `IndexOutOfBounds` where a list is empty or has over [`MAX_INDEXES`](crate::MAX_INDEXES) indexes, or an index is
+    /// outside A (as transposed).
     pub fn extract(
         &mut self,
         c: usize,

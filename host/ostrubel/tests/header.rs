@@ -36,6 +36,7 @@ fn limits() {
         ("MAX_STORE_WORDS", ostrubel::MAX_STORE_WORDS),
         ("MAX_MATRIX_WORDS", ostrubel::MAX_MATRIX_WORDS),
         ("MIN_WORKSPACE_WORDS", ostrubel::WORKSPACE_WORDS),
+        ("STACK_BYTES", ostrubel::STACK_BYTES),
     ];
     for (name, limit) in limits {
         assert_eq!(number(name).map(|number| number as usize), Some(limit), "{name}");

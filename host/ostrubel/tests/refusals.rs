@@ -75,7 +75,7 @@ fn r7_cells_and_rows_outside() -> Result<(), Error> {
 fn r7_index_lists() -> Result<(), Error> {
     let a = matrix()?;
     let mut c = a.clone();
-    let too_long = [0; 513];
+    let too_long = [0; 1_001];
     for (rows, cols) in [(&[3][..], &[0][..]), (&[0], &[2]), (&[], &[0]), (&[0], &[]), (&too_long, &[0])] {
         refused(&mut c, Error::IndexOutOfBounds, |c| c.extract(&a, rows, cols, &Options::new()));
         refused(&mut store()?, Error::IndexOutOfBounds, |store| store.extract(0, 1, rows, cols, &Options::new()));
@@ -105,7 +105,7 @@ fn r8_shapes_of_matrices() -> Result<(), Error> {
 fn r8_shapes_on_a_store() -> Result<(), Error> {
     let mut store = store()?;
     let none = Options::new();
-    refused(&mut store, Error::InvalidShape, |store| store.new_empty(0, 513, 1));
+    refused(&mut store, Error::InvalidShape, |store| store.new_empty(0, 1_001, 1));
     refused(&mut store, Error::InvalidShape, |store| store.mxm(0, PLUS_TIMES, 0, 1, &none));
     refused(&mut store, Error::InvalidShape, |store| store.vxm(0, PLUS_TIMES, 0, 2, &none));
     refused(&mut store, Error::InvalidShape, |store| store.ewise_mult(0, BinaryOp::Plus, 0, 2, &none));
@@ -117,11 +117,11 @@ fn r8_shapes_on_a_store() -> Result<(), Error> {
 
 #[test]
 fn r10_too_many_entries() -> Result<(), Error> {
-    let cells = |count| (0..count).map(|k: u32| (k / 512, k % 512, 1));
-    assert_eq!(Matrix::from_triples(5, 512, cells(2_049)), Err(Error::TooManyEntries));
+    let cells = |count| (0..count).map(|k: u32| (k / 1_000, k % 1_000, 1));
+    assert_eq!(Matrix::from_triples(5, 1_000, cells(2_049)), Err(Error::TooManyEntries));
 
-    let full = Matrix::from_triples(5, 512, cells(2_048))?;
-    let other = Matrix::from_triples(5, 512, [(4, 511, 1)])?;
+    let full = Matrix::from_triples(5, 1_000, cells(2_048))?;
+    let other = Matrix::from_triples(5, 1_000, [(4, 999, 1)])?;
     let mut c = other.clone();
     let accumulate = Options::new().accumulate(BinaryOp::Max);
     refused(&mut c, Error::TooManyEntries, |c| c.apply(COPY, &full, &accumulate));
@@ -129,7 +129,7 @@ fn r10_too_many_entries() -> Result<(), Error> {
     let mut store = Store::new(10_000)?;
     store.put(0, &full)?;
     store.put(1, &other)?;
-    refused(&mut store, Error::TooManyEntries, |store| store.set(0, 4, 511, 1));
+    refused(&mut store, Error::TooManyEntries, |store| store.set(0, 4, 999, 1));
     let accumulate = Options::new().accumulate(BinaryOp::Max);
     refused(&mut store, Error::TooManyEntries, |store| store.apply(1, COPY, 0, &accumulate));
     Ok(())
@@ -216,5 +216,18 @@ fn errors_have_numbers_and_sentences() {
     }
     for number in [0, 14, 256, u32::MAX] {
         assert_eq!(Error::from_number(number), None);
+    }
+}
+
+#[test]
+fn sentences_have_the_limits() {
+    for (error, part) in [
+        (Error::IndexOutOfBounds, "does not have 1 to 1000 numbers: "),
+        (Error::InvalidShape, "a sheet has 1 to 1000 rows and 1 to 1000 columns, "),
+        (Error::WorkspaceTooShort, "at least 15309 words."),
+        (Error::TooManyEntries, "more than 2048 entries: "),
+        (Error::InvalidStore, "not one of 0 to 7, or the shelf is damaged or not 8 to 16384 words long: "),
+    ] {
+        assert!(error.to_string().contains(part), "{error}");
     }
 }

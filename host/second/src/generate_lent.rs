@@ -2,7 +2,7 @@
 
 use crate::calls::*;
 use crate::generate::*;
-use crate::grid::{Grid, MAX_ENTRIES, MAX_SIDE};
+use crate::grid::{Grid, MAX_ENTRIES, MAX_SIDE, MAX_WORDS};
 use crate::model::{Sheets, SOUND};
 use crate::rng::Rng;
 
@@ -13,7 +13,7 @@ pub fn lent_call(rng: &mut Rng) -> LentCall {
         13..=18 => {
             let words = lone_buffer(rng);
             let near = |rng: &mut Rng, side: Option<&u32>| {
-                let side = side.copied().unwrap_or(1).min(600);
+                let side = side.copied().unwrap_or(1).min(MAX_SIDE + 1);
                 match rng.below(10) {
                     0 => side,
                     1 => rng.pick(&[u32::MAX, MAX_SIDE, side + 1]),
@@ -73,7 +73,7 @@ fn new_empty(rng: &mut Rng) -> LentCall {
         _ => rng.between(1, 20),
     };
     let (rows, cols) = (any_side(rng), any_side(rng));
-    let exact = if rows <= 600 { rows as usize + 7 } else { 30 };
+    let exact = if rows <= MAX_SIDE + 1 { rows as usize + 7 } else { 30 };
     let length = match rng.below(5) {
         0 => exact - 1,
         1 => exact,
@@ -192,7 +192,7 @@ fn c_buffer(rng: &mut Rng, c: &Grid, needed: usize) -> Vec<u32> {
         2 | 3 => (enough - 1).max(words.len()),
         4 | 5 => enough,
         6 => enough + 1,
-        7 if rng.once_in(20) => 4615 + rng.below(3000),
+        7 if rng.once_in(20) => MAX_WORDS + rng.below(3000),
         _ => enough + rng.below(20),
     };
     let spare = length.saturating_sub(words.len());
@@ -200,7 +200,7 @@ fn c_buffer(rng: &mut Rng, c: &Grid, needed: usize) -> Vec<u32> {
     words
 }
 
-/// A T of up to 262,144 entries.
+/// A T of up to 1,000,000 entries.
 fn outer_product(rng: &mut Rng, mut options: Options) -> LentOperation {
     let k = rng.between(1, 4);
     let m = rng.between(64, MAX_SIDE);

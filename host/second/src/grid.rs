@@ -3,9 +3,12 @@
 use crate::fault::Fault;
 use std::collections::BTreeMap;
 
-pub const MAX_SIDE: u32 = 512;
+/// Document 02, A6: "Raise rows, columns and index-list length from 512 to 1,000 each; entries stay at 2,048. The largest
+/// sheet is then 5,103 words".
+pub const MAX_SIDE: u32 = 1000;
 pub const MAX_ENTRIES: usize = 2048;
-pub const MAX_LIST: usize = 512;
+pub const MAX_LIST: usize = 1000;
+pub const MAX_WORDS: usize = 5103;
 
 #[derive(Clone, PartialEq, Eq, Debug)]
 pub struct Grid {
@@ -181,9 +184,9 @@ mod tests {
 
     #[test]
     fn the_largest_sheet() {
-        let mut grid = Grid::empty(512, 512);
-        grid.cells.extend((0..2048).map(|k| ((k / 4, k % 4), 0)));
-        assert_eq!(grid.words().len(), 4615);
+        let mut grid = Grid::empty(1000, 1000);
+        grid.cells.extend((0..2048).map(|k| ((999 - k / 4, 999 - k % 4), 0)));
+        assert_eq!(grid.words().len(), MAX_WORDS);
         assert_eq!(Grid::read(&grid.words(), Fault::None), Some(grid));
     }
 
@@ -192,7 +195,7 @@ mod tests {
         for length in 0..STRIP.len() {
             assert_eq!(Grid::read(&STRIP[..length], Fault::None), None);
         }
-        for (at, word) in [(0, 3), (1, 0), (1, 513), (3, 3), (4, 1), (5, 2), (6, 4), (8, 0), (9, 4), (10, 2)] {
+        for (at, word) in [(0, 3), (1, 0), (1, 1001), (3, 3), (4, 1), (5, 2), (6, 4), (8, 0), (9, 4), (10, 2)] {
             let mut words = STRIP;
             words[at] = word;
             assert_eq!(Grid::read(&words, Fault::None), None, "word {at} changed to {word}");

@@ -304,8 +304,8 @@ mod tests {
         let mut state = StoreState::new(&[0; 30], SOUND.fault);
         let calls = [
             StoreCall::NewEmpty { slot: 8, rows: 0, cols: 1 },
-            StoreCall::NewEmpty { slot: 0, rows: 513, cols: 1 },
-            StoreCall::NewEmpty { slot: 0, rows: 512, cols: 1 },
+            StoreCall::NewEmpty { slot: 0, rows: 1001, cols: 1 },
+            StoreCall::NewEmpty { slot: 0, rows: 1000, cols: 1 },
             StoreCall::ClearCell { slot: 0, i: 0, j: 0 },
             StoreCall::Drop { slot: 0 },
             StoreCall::NewEmpty { slot: 0, rows: 2, cols: 2 },

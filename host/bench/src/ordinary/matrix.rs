@@ -1,6 +1,6 @@
 //! Matrices in words: the validity test, and a view of a valid one.
 
-pub const MAX_SIDE: usize = 512;
+pub const MAX_SIDE: usize = 1000;
 pub const MAX_ENTRIES: usize = 2048;
 
 /// The words of a matrix beside its R rows and twice its N entries.

@@ -1,0 +1,150 @@
+//! What a call asks of its thread: a stack of `STACK_BYTES`, and nothing that it shares with calls on other threads.
+
+use ostrubel::calls::{self, OptionNumbers};
+use ostrubel::{Error, Matrix, Store};
+use ostrubel::{MAX_COLS, MAX_ENTRIES, MAX_MATRIX_WORDS, MAX_ROWS, MAX_STORE_WORDS, STACK_BYTES, WORKSPACE_WORDS};
+use std::thread;
+
+const PLUS: u32 = 3;
+const TIMES: u32 = 5;
+/// Apply's kind of index operators, and one of them.
+const INDEX: u32 = 3;
+const DIAGINDEX: u32 = 2;
+
+/// A structural mask, an accumulator, and both inputs transposed.
+const EVERYTHING: OptionNumbers =
+    OptionNumbers { flags: 4 + 8 + 16, has_mask: 1, has_accumulator: 1, accumulator: PLUS };
+const TRANSPOSED: OptionNumbers = OptionNumbers { flags: 8 + 16, has_mask: 0, has_accumulator: 0, accumulator: 0 };
+
+/// The buffers of calls at the largest shapes, all on the heap.
+#[derive(Clone, Debug, PartialEq, Eq)]
+struct Buffers {
+    a: Vec<u32>,
+    b: Vec<u32>,
+    mask: Vec<u32>,
+    vector: Vec<u32>,
+    c: Vec<u32>,
+    c_row: Vec<u32>,
+    store: Vec<u32>,
+    rows: Vec<u32>,
+    cols: Vec<u32>,
+    work: Vec<u32>,
+}
+
+/// A matrix of the largest shape with so many entries; which ones and their values go by the seed.
+fn matrix(entries: usize, seed: u32) -> Result<Matrix, Error> {
+    let cell = |k: u32| (k * 7 % MAX_ROWS, (k / MAX_ROWS * 401 + k * 3 + seed) % MAX_COLS, (k * seed) as i32);
+    Matrix::from_triples(MAX_ROWS, MAX_COLS, (0..entries as u32).map(cell))
+}
+
+fn long(words: Vec<u32>) -> Vec<u32> {
+    let mut words = words;
+    words.resize(MAX_MATRIX_WORDS, 0);
+    words
+}
+
+impl Buffers {
+    fn new(seed: u32) -> Result<Buffers, Error> {
+        let (a, b, mask) = (matrix(MAX_ENTRIES, seed)?, matrix(MAX_ENTRIES, seed + 1)?, matrix(900, seed + 2)?);
+        let vector = Matrix::from_triples(1, MAX_COLS, (0..MAX_COLS).map(|j| (0, j, (j + seed) as i32)))?;
+        let mut store = Store::new(MAX_STORE_WORDS)?;
+        for (slot, entries) in [(0, 1_700), (1, 1_700), (2, 900), (3, 20)] {
+            store.put(slot, &matrix(entries, seed + slot as u32)?)?;
+        }
+        store.put(4, &Matrix::new(1, MAX_COLS)?)?;
+        Ok(Buffers {
+            a: a.into_words(),
+            b: b.into_words(),
+            mask: mask.into_words(),
+            vector: vector.into_words(),
+            c: long(matrix(100, seed + 3)?.into_words()),
+            c_row: long(Matrix::new(1, MAX_COLS)?.into_words()),
+            store: store.into_words(),
+            rows: (0..MAX_ROWS).rev().collect(),
+            cols: (0..MAX_COLS).map(|k| k * 7 % MAX_COLS).collect(),
+            work: vec![9; WORKSPACE_WORDS],
+        })
+    }
+
+    /// Every call once; its answers.
+    fn run(&mut self) -> Vec<u64> {
+        let mut answers = self.lent_calls();
+        answers.extend(self.store_calls());
+        answers
+    }
+
+    fn lent_calls(&mut self) -> Vec<u64> {
+        let Buffers { a, b, mask, vector, c, c_row, rows, cols, work, .. } = self;
+        vec![
+            calls::check(a),
+            calls::read_cell(999, 999, a),
+            calls::row_view(999, 0, a, b),
+            calls::mxm(EVERYTHING, PLUS, TIMES, a, b, mask, c, work),
+            calls::vxm(TRANSPOSED, PLUS, TIMES, vector, a, mask, c_row, work),
+            calls::ewise_mult(EVERYTHING, TIMES, a, b, mask, c, work),
+            calls::ewise_add(EVERYTHING, TIMES, a, b, mask, c, work),
+            calls::apply(EVERYTHING, INDEX, DIAGINDEX, 5, a, mask, c, work),
+            calls::extract(EVERYTHING, a, rows, cols, mask, c, work),
+            calls::extract(TRANSPOSED, a, rows, cols, mask, c, work),
+            calls::new_empty(MAX_ROWS, MAX_COLS, c_row),
+        ]
+    }
+
+    fn store_calls(&mut self) -> Vec<u64> {
+        let Buffers { store, rows, cols, work, .. } = self;
+        vec![
+            calls::store_mxm(EVERYTHING, PLUS, TIMES, 0, 1, 2, 3, store, work),
+            calls::store_ewise_mult(EVERYTHING, TIMES, 0, 1, 2, 3, store, work),
+            calls::store_ewise_add(EVERYTHING, TIMES, 0, 1, 2, 3, store, work),
+            calls::store_apply(EVERYTHING, INDEX, DIAGINDEX, 5, 0, 2, 3, store, work),
+            calls::store_extract(EVERYTHING, 0, 2, 3, store, rows, cols, work),
+            calls::store_vxm(TRANSPOSED, PLUS, TIMES, 4, 0, 4, 4, store, work),
+            calls::store_set_cell(0, 500, 999, 7, store),
+            calls::store_read_cell(0, 500, 999, store),
+            calls::store_clear_cell(0, 500, 999, store),
+            calls::store_drop(1, store),
+            calls::store_new_empty(1, MAX_ROWS, MAX_COLS, store),
+        ]
+    }
+}
+
+#[test]
+fn every_call_stays_within_the_stack() -> Result<(), Error> {
+    let mut here = Buffers::new(1)?;
+    let mut there = here.clone();
+    let expected = here.run();
+    // Refusals would be quick: there are none.
+    let refused = |answer: &&u64| **answer & 255 != 0;
+    assert_eq!(expected.iter().enumerate().find(|(at, answer)| *at != 2 && refused(answer)), None);
+
+    let thread = thread::Builder::new().stack_size(STACK_BYTES).spawn(move || (there.run(), there));
+    let (answers, there) = thread.unwrap().join().unwrap();
+    assert_eq!(answers, expected);
+    assert!(there == here, "the same words");
+    Ok(())
+}
+
+#[test]
+fn threads_share_nothing() -> Result<(), Error> {
+    let mut expected = Vec::new();
+    let mut threads = Vec::new();
+    for seed in 1..9 {
+        let mut here = Buffers::new(seed)?;
+        let there = here.clone();
+        expected.push((here.run(), here));
+        threads.push(there);
+    }
+    // All at once, several times, so that calls of one thread meet calls of others.
+    let several = |buffers: Buffers| {
+        let runs = (0..20).map(|_| {
+            let mut buffers = buffers.clone();
+            (buffers.run(), buffers)
+        });
+        runs.collect::<Vec<_>>()
+    };
+    let threads: Vec<_> = threads.into_iter().map(|buffers| thread::spawn(move || several(buffers))).collect();
+    for (thread, expected) in threads.into_iter().zip(expected) {
+        assert!(thread.join().unwrap().into_iter().all(|run| run == expected), "the same answers and words");
+    }
+    Ok(())
+}
