@@ -96,7 +96,7 @@ enum {
     OSTRUBEL_UNARY = 0,         /* a unary operator; the scalar is not looked at */
     OSTRUBEL_SCALAR_FIRST = 1,  /* a binary operator with x = scalar */
     OSTRUBEL_SCALAR_SECOND = 2, /* a binary operator with y = scalar */
-    OSTRUBEL_INDEX_UNARY = 3    /* an index operator, by the row i and the column j of the matrix as stored */
+    OSTRUBEL_INDEX_UNARY = 3    /* an index operator, by the row i and the column j of the matrix as transposed */
 };
 enum {
     OSTRUBEL_IDENTITY = 0,

@@ -146,6 +146,17 @@ static void test_elementwise(void) {
                             WORDS(work)), 3);
     SAME(c, 2, 1, 4, 2, 0, 3, 3, 0, 1, 3, 3, 0, 1, 3);
 
+    /* an entry stored at (2, 5) of a transposed input has row 5 and column 2 */
+    const uint32_t stored[] = {2, 3, 6, 4, 0, 0, 0, 1, 1, 5, 1, 7};
+    const uint32_t numbers[] = {5, 2, 4294967293}; /* ROWINDEX, COLINDEX, DIAGINDEX: j - i is -3 */
+    uint32_t turned[15];
+    for (uint32_t op = OSTRUBEL_ROWINDEX; op <= OSTRUBEL_DIAGINDEX; op++) {
+        ACCEPTED(ostrubel_new_empty(6, 3, WORDS(turned)), 0);
+        ACCEPTED(ostrubel_apply(OSTRUBEL_TRANSPOSE_FIRST, 0, 0, 0, OSTRUBEL_INDEX_UNARY, op, 0, WORDS(stored), NO_MASK,
+                                WORDS(turned), WORDS(work)), 1);
+        SAME(turned, 2, 6, 3, 7, 0, 0, 0, 0, 0, 0, 1, 1, 2, 1, numbers[op]);
+    }
+
     /* an index may repeat */
     const uint32_t rows[] = {0};
     const uint32_t cols[] = {3, 2, 3, 0};

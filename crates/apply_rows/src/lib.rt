@@ -1,19 +1,15 @@
 // Apply on one row of the input as its transpose flag asks.
 use operators::ApplyOp;
-ghost use mathlib.Core.Path.{_≡_};
 ghost use Prim.Native.Nat.{_≤_};
 ghost use lib.ListN.{length};
-ghost use Rattle.operators.specs.Operators.{entryWord};
 ghost use Rattle.operations.specs.CellOperations.{applyCell};
-ghost use Rattle.operations.specs.GridOperations.{storedRow, storedCol};
 ghost use Rattle.rows.specs.Row.{lookup, Row, Holds};
 
-// Row i, of `places` columns: each entry keeps its column, and its value becomes what the operator makes of it. The
-// result is left at the front of `oc` and `ov`, and its number of entries returned.
+// Row i, of `places` columns: each entry keeps its column, and its value becomes what the operator makes of it at row i
+// and that column. The result is left at the front of `oc` and `ov`, and its number of entries returned.
 pub fn apply_row(
     places: usize,
     op: ApplyOp,
-    transposed: bool,
     i: u32,
     columns: &[u32],
     values: &[u32],
@@ -22,30 +18,17 @@ pub fn apply_row(
 ) -> usize
     requires { ⌜ Row places (now columns) (now values) ⌝ ∗ ⌜ (places ≤ length (now oc)) × (places ≤ length (now ov)) ⌝ }
     ensures { λ r. ⌜ Holds places
-        (λ j. applyCell op (storedRow transposed i j) (storedCol transposed i j)
-        (lookup (now (columns .entry)) (now (values .entry)) j))
+        (λ j. applyCell op i j (lookup (now (columns .entry)) (now (values .entry)) j))
         r (now (oc .exit)) (now (ov .exit)) ⌝ }
 {
     let mut p: usize = 0;
     while p < columns.len() {
         let j = columns[p];
         let x = values[p];
-        let y = apply_stored(op, transposed, i, j, x);
+        let y = operators::apply_entry(op, x, i, j);
         oc[p] = j;
         ov[p] = y;
         p += 1;
     }
     p
-}
-
-// What the operator makes of x at row i and column j: "Row and column numbers here are those of the sheet as stored,
-// before any transposing."
-fn apply_stored(op: ApplyOp, transposed: bool, i: u32, j: u32, x: u32) -> u32
-    ensures { λ r. ⌜ r ≡ entryWord op x (storedRow transposed i j) (storedCol transposed i j) ⌝ }
-{
-    if transposed {
-        operators::apply_entry(op, x, j, i)
-    } else {
-        operators::apply_entry(op, x, i, j)
-    }
 }

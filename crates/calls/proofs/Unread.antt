@@ -79,7 +79,7 @@ module _ (call : Call) (a b b′ m c : Grid) (is is′ js js′ : List ℕ) wher
     unfolding callFinal
     final-lists =
         ap (finalGrid (writeBackOf call) m c)
-        (lists-unread A B c is is′ js js′ (call .operation) h (transposeFirst call))
+        (lists-unread A B c is is′ js js′ (call .operation) h)
 
   module _ (h : hasSecond (call .operation) ≡ false) where
     shapes-are : callShapes call a b c is js ≡ callShapes call a b′ c is js
@@ -98,7 +98,7 @@ module _ (call : Call) (a b b′ m c : Grid) (is is′ js js′ : List ℕ) wher
     unfolding callFinal
     final-second =
         ap (finalGrid (writeBackOf call) m c)
-        (second-unread A B B′ c is js (call .operation) h (transposeFirst call))
+        (second-unread A B B′ c is js (call .operation) h)
 
 module _ (call : Call) (a b b′ m c is is′ js js′ w : List ℕ) (answer : Answer) (c′ w′ : List ℕ) where
   pub completed-lists : hasLists (call .operation) ≡ false → Completed call a b m c is js w answer c′ w′

@@ -66,10 +66,9 @@ shapes-facts call a b m c is js h₀ =
 same-refl : {g : Grid} → Same g g
 same-refl = record { rows = refl; cols = refl; cell = λ i j l m. refl }
 
--- x and y are the inputs as they are read, and flag that of the first
+-- x and y are the inputs as they are read
 module _ (call : Call) (a b m c is js x y : List ℕ) (r : Ready call a b m c is js) (s : Source (transposeFirst call) a x)
-    (u : hasSecond (call .operation) ≡ true → Source (transposeSecond call) b y) (flag : Bool)
-    (f : flag ≡ transposeFirst call) where
+    (u : hasSecond (call .operation) ≡ true → Source (transposeSecond call) b y) where
   -- as the definition has them
   abbrev A : Grid
   A = oriented (transposeFirst call) (gridOf a)
@@ -108,18 +107,18 @@ module _ (call : Call) (a b m c is js x y : List ℕ) (r : Ready call a b m c is
   cols-are = rw shapes-are (shapes .result-cols)
 
   pub row-buffers : (tc tv oc ov : List ℕ) → RowBuffers tc tv oc ov
-      → Buffers (resultGrid (call .operation) flag (gridOf x) (gridOf y) (gridOf c) is js) tc tv
+      → Buffers (resultGrid (call .operation) (gridOf x) (gridOf y) (gridOf c) is js) tc tv
   row-buffers tc tv oc ov h =
       let k = r .inputs .output .header .col-range .most in
       record { columns = omega (arith, cols-are); values = omega (arith, cols-are) }
 
   -- the row of T, once it is left in its buffers
   module _ (i t : ℕ) (tc tv : List ℕ) (l : i < rows c)
-      (h : Holds (resultGrid (call .operation) flag (gridOf x) (gridOf y) (gridOf c) is js .cols)
-      (resultGrid (call .operation) flag (gridOf x) (gridOf y) (gridOf c) is js .cell i) t tc tv) (W : WriteBack)
+      (h : Holds (resultGrid (call .operation) (gridOf x) (gridOf y) (gridOf c) is js .cols)
+      (resultGrid (call .operation) (gridOf x) (gridOf y) (gridOf c) is js .cell i) t tc tv) (W : WriteBack)
       (v : W ≡ writeBackOf call) where
     abbrev T : ℕ → Cell
-    T = resultGrid (call .operation) flag (gridOf x) (gridOf y) (gridOf c) is js .cell i
+    T = resultGrid (call .operation) (gridOf x) (gridOf y) (gridOf c) is js .cell i
 
     held : Holds (cols c) T t tc tv
     held = rw cols-are at h
@@ -140,8 +139,8 @@ module _ (call : Call) (a b m c is js x y : List ℕ) (r : Ready call a b m c is
         let p : lookup (take t tc) (take t tv) j ≡ T j =
         rw (held .columns, held .values) (lookup-gather (cols c) T j k) in
         let q : T j ≡ callResult call (gridOf a) (gridOf b) (gridOf c) is js .cell i j =
-        rw f (cell-same (gridOf x) A (gridOf y) B (gridOf c) (gridOf c) is js (s .same) same-refl (call .operation)
-        (transposeFirst call) second-same (shapes .inputs) lists i j (rw (shapes .result-rows) l) (rw (shapes .result-cols) k)) in
+        cell-same (gridOf x) A (gridOf y) B (gridOf c) (gridOf c) is js (s .same) same-refl (call .operation) second-same
+        (shapes .inputs) lists i j (rw (shapes .result-rows) l) (rw (shapes .result-cols) k) in
         p ∙ q
 
     pub final-row : (e : ℕ) (oc ov : List ℕ)

@@ -187,7 +187,7 @@ fn final_row<'a>(
     let x = choose(first, &work[FIRST_AT..SECOND_AT], a);
     let y = choose(second, &work[SECOND_AT..REGIONS_END], b);
     let operation = call.operation;
-    let t = result_rows::result_row(operation, first, x, y, c, is, js, i, tc, tv);
+    let t = result_rows::result_row(operation, x, y, c, is, js, i, tc, tv);
     write_row(write_back_of(call), mask, c, &tc[..t], &tv[..t], i, oc, ov)
 }
 

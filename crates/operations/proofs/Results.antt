@@ -20,8 +20,6 @@ use Rattle.operations.specs.declared.Shape.{Shape}
 use Rattle.operations.specs.declared.Shapes.{Shapes}
 use Rattle.operations.specs.GridOperations.{
   needsOf,
-  storedRow,
-  storedCol,
   resultCell,
   shapeOf,
   noShape,
@@ -44,9 +42,9 @@ dot-same monoid op (suc n) f f′ g g′ p q =
     )
 
 -- the cells of T do not depend on a second input or on lists that the operation does not have
-module _ (flag : Bool) (a b b′ c : Grid) (is is′ js js′ : List ℕ) where
+module _ (a b b′ c : Grid) (is is′ js js′ : List ℕ) where
   second-cells : (op : Operation) → hasSecond op ≡ false
-      → resultCell op flag a b c is js ≡ resultCell op flag a b′ c is js
+      → resultCell op a b c is js ≡ resultCell op a b′ c is js
   second-cells (Mxm monoid op) h = absurd (false≢true (sym h))
   second-cells (EwiseMult op) h = absurd (false≢true (sym h))
   second-cells (EwiseAdd op) h = absurd (false≢true (sym h))
@@ -54,7 +52,7 @@ module _ (flag : Bool) (a b b′ c : Grid) (is is′ js js′ : List ℕ) where
   second-cells Extract h = refl
 
   lists-cells : (op : Operation) → hasLists op ≡ false
-      → resultCell op flag a b c is js ≡ resultCell op flag a b c is′ js′
+      → resultCell op a b c is js ≡ resultCell op a b c is′ js′
   lists-cells (Mxm monoid op) h = refl
   lists-cells (EwiseMult op) h = refl
   lists-cells (EwiseAdd op) h = refl
@@ -93,28 +91,28 @@ grid n cell = record { rows = n .result .rows; cols = n .result .cols; cell = ce
 
 module _ (a a′ b b′ c c′ : Grid) (is js : List ℕ) (s : Same a a′) (u : Same c c′) where
   -- the cells of T, within its shape
-  pub cell-same : (op : Operation) (flag : Bool) → (hasSecond op ≡ true → Same b b′)
+  pub cell-same : (op : Operation) → (hasSecond op ≡ true → Same b b′)
       → inputsAgree (shapesOf op a′ b′ c′ is js) (needsOf op (shapesOf op a′ b′ c′ is js)) ≡ true
       → listsValid op (needsOf op (shapesOf op a′ b′ c′ is js) .bounds) is js ≡ true → (i j : ℕ)
-      → i < resultGrid op flag a′ b′ c′ is js .rows → j < resultGrid op flag a′ b′ c′ is js .cols
-      → resultCell op flag a b c is js i j ≡ resultCell op flag a′ b′ c′ is js i j
-  cell-same (Mxm monoid op) flag t g v i j l m =
+      → i < resultGrid op a′ b′ c′ is js .rows → j < resultGrid op a′ b′ c′ is js .cols
+      → resultCell op a b c is js i j ≡ resultCell op a′ b′ c′ is js i j
+  cell-same (Mxm monoid op) t g v i j l m =
       let e : b′ .rows ≡ a′ .cols = eqb-true _ _ (and-left _ _ (and-right _ _ g)) in
       ap (λ (n : ℕ). dot monoid op n (a .cell i) (λ k. b .cell k j)) (s .cols)
       ∙ dot-same monoid op (a′ .cols) _ _ _ _ (λ k q. s .cell i k l q) (λ k q. t refl .cell k j (omega arith) m)
-  cell-same (EwiseMult op) flag t g v i j l m =
+  cell-same (EwiseMult op) t g v i j l m =
       let e : b′ .rows ≡ a′ .rows = eqb-true _ _ (and-left _ _ (and-right _ _ g)) in
       let f : b′ .cols ≡ a′ .cols = eqb-true _ _ (and-right _ _ (and-right _ _ g)) in
       ap (λ (x : Cell). intersect op x (b .cell i j)) (s .cell i j l m)
       ∙ ap (intersect op (a′ .cell i j)) (t refl .cell i j (omega arith) (omega arith))
-  cell-same (EwiseAdd op) flag t g v i j l m =
+  cell-same (EwiseAdd op) t g v i j l m =
       let e : b′ .rows ≡ a′ .rows = eqb-true _ _ (and-left _ _ (and-right _ _ g)) in
       let f : b′ .cols ≡ a′ .cols = eqb-true _ _ (and-right _ _ (and-right _ _ g)) in
       ap (λ (x : Cell). unite op x (b .cell i j)) (s .cell i j l m)
       ∙ ap (unite op (a′ .cell i j)) (t refl .cell i j (omega arith) (omega arith))
-  cell-same (Apply op) flag t g v i j l m =
-      ap (applyCell op (storedRow flag i j) (storedCol flag i j)) (s .cell i j l m)
-  cell-same Extract flag t g v i j l m =
+  cell-same (Apply op) t g v i j l m =
+      ap (applyCell op i j) (s .cell i j l m)
+  cell-same Extract t g v i j l m =
       s .cell (at is i) (at js j) (list-facts _ _ (and-left _ _ v) .below i l) (list-facts _ _ (and-right _ _ v) .below j m)
 
   -- the shapes of a call
@@ -129,17 +127,17 @@ module _ (a b b′ c : Grid) (is js : List ℕ) (op : Operation) (h : hasSecond 
   pub shapes-unread : shapesOf op a b c is js ≡ shapesOf op a b′ c is js
   shapes-unread = rw h
 
-  pub second-unread : (flag : Bool) → resultGrid op flag a b c is js ≡ resultGrid op flag a b′ c is js
-  second-unread flag =
-      ap (λ (s : Shapes). grid (needsOf op s) (resultCell op flag a b c is js)) shapes-unread
-      ∙ ap (grid (needsOf op (shapesOf op a b′ c is js))) (second-cells flag a b b′ c is is js js op h)
+  pub second-unread : resultGrid op a b c is js ≡ resultGrid op a b′ c is js
+  second-unread =
+      ap (λ (s : Shapes). grid (needsOf op s) (resultCell op a b c is js)) shapes-unread
+      ∙ ap (grid (needsOf op (shapesOf op a b′ c is js))) (second-cells a b b′ c is is js js op h)
 
 -- and without lists that it does not have
 module _ (a b c : Grid) (is is′ js js′ : List ℕ) (op : Operation) (h : hasLists op ≡ false) where
   pub needs-unread : needsOf op (shapesOf op a b c is js) ≡ needsOf op (shapesOf op a b c is′ js′)
   needs-unread = lists-needs op (shapesOf op a b c is js) _ h
 
-  pub lists-unread : (flag : Bool) → resultGrid op flag a b c is js ≡ resultGrid op flag a b c is′ js′
-  lists-unread flag =
-      ap (λ (n : Needs). grid n (resultCell op flag a b c is js)) needs-unread
-      ∙ ap (grid (needsOf op (shapesOf op a b c is′ js′))) (lists-cells flag a b b c is is′ js js′ op h)
+  pub lists-unread : resultGrid op a b c is js ≡ resultGrid op a b c is′ js′
+  lists-unread =
+      ap (λ (n : Needs). grid n (resultCell op a b c is js)) needs-unread
+      ∙ ap (grid (needsOf op (shapesOf op a b c is′ js′))) (lists-cells a b b c is is′ js js′ op h)

@@ -109,7 +109,7 @@ module _ (call : Call) (a a′ b b′ m m′ c c′ : Grid) (is js : List ℕ) (
           let e = eqb-true (callResult call a′ b′ c′ is js .rows) (c′ .rows) (and-left _ _ shape) in
           let f = eqb-true (callResult call a′ b′ c′ is js .cols) (c′ .cols) (and-right _ _ shape) in
           let t =
-          cell-same A A′ B B′ c c′ is js first sc (call .operation) (transposeFirst call) (λ h. second) agrees v i j
+          cell-same A A′ B B′ c c′ is js first sc (call .operation) (λ h. second) agrees v i j
           (omega arith) (omega arith) in
           mask-same (writeBackOf call) (m .cell i j) (m′ .cell i j) (c .cell i j) (callResult call a b c is js .cell i j)
           (λ h.

@@ -57,8 +57,7 @@ callNeeds call a b c is js = needsOf (call .operation) (callShapes call a b c is
 -- T, of the inputs a and b as stored and the old C
 abbrev pub callResult : Call → Grid → Grid → Grid → List ℕ → List ℕ → Grid
 callResult call a b c is js =
-    resultGrid (call .operation) (transposeFirst call) (oriented (transposeFirst call) a) (oriented (transposeSecond call) b)
-    c is js
+    resultGrid (call .operation) (oriented (transposeFirst call) a) (oriented (transposeSecond call) b) c is js
 
 -- the final C, of the inputs, the mask and the old C
 unfoldable pub callFinal : Call → Grid → Grid → Grid → Grid → List ℕ → List ℕ → Grid

@@ -25,7 +25,7 @@ unfoldable pub dot : Monoid → BinaryOp → ℕ → (ℕ → Cell) → (ℕ →
 dot monoid op zero row col = Absent
 dot monoid op (suc n) row col = unite (monoidOp monoid) (dot monoid op n row col) (intersect op (row n) (col n))
 
--- "Apply: .. Only present entries." The entry stands at row i and column j of the matrix as stored.
+-- "Apply: .. Only present entries." The entry stands at row i and column j of the input as its flag asks.
 abbrev pub applyCell : ApplyOp → ℕ → ℕ → Cell → Cell
 applyCell op i j Absent = Absent
 applyCell op i j (Present x) = Present (entryWord op x i j)

@@ -6,12 +6,17 @@ use mathlib.Core.Bool.{Bool, true, false}
 use lib.ListN.{replicate}
 use Rattle.limits.specs.Limits.{maxList}
 use Rattle.conditions.specs.Tests.{_and_, all}
+use Rattle.twos_complement.specs.TwosComplement.{signed, word}
+use Rattle.grid.specs.declared.Cell.{Cell}
 use Rattle.grid.specs.declared.Cell.the-variants.{Present}
 use Rattle.grid.specs.Grid.{Grid, emptyGrid}
-use Rattle.operators.specs.declared.ApplyOp.the-variants.{Unary}
+use Rattle.operators.specs.declared.ApplyOp.the-variants.{Unary, IndexUnary}
 use Rattle.operators.specs.declared.BinaryOp.the-variants as binary
 use Rattle.operators.specs.declared.Monoid.the-variants as monoid
 use Rattle.operators.specs.declared.UnaryOp.the-variants.{Identity}
+use Rattle.operators.specs.declared.IndexUnaryOp.{IndexUnaryOp}
+use Rattle.operators.specs.declared.IndexUnaryOp.the-variants.{RowIndex, ColIndex, DiagIndex}
+use Rattle.operators.specs.Operators.{indexUnaryWord, entryWord}
 use Rattle.operations.specs.declared.Accumulator.the-variants.{Absent as NoAccumulator}
 use Rattle.operations.specs.declared.Call.{Call}
 use Rattle.operations.specs.declared.Operation.{Operation}
@@ -254,6 +259,30 @@ extract-cell = refl
 
 extract-next : callResult (plain 0 Extract) wide (by 5 7) (by 1 2) (1 ∷ []) (2 ∷ 0 ∷ []) .cell 0 1 ≡ Present 10
 extract-next = refl
+
+-- "An entry stored at (2, 5) of a transposed input has row 5 and column 2" (document 02, A5): DIAGINDEX with 10 is
+-- 2 - 5 + 10. Not transposed it has row 2 and column 5.
+abbrev tall : Grid
+tall = record { rows = 3; cols = 6; cell = λ i j. Present 1 }
+
+abbrev numbered : ℕ → IndexUnaryOp → ℕ → ℕ → ℕ → Cell
+numbered flags op s i j = callResult (plain flags (Apply (IndexUnary op s))) tall (by 1 1) (by 6 3) [] [] .cell i j
+
+row-transposed : numbered 8 RowIndex 0 5 2 ≡ Present 5
+unfolding entryWord indexUnaryWord signed word
+row-transposed = refl
+
+column-transposed : numbered 8 ColIndex 0 5 2 ≡ Present 2
+unfolding entryWord indexUnaryWord signed word
+column-transposed = refl
+
+diagonal-transposed : numbered 8 DiagIndex 10 5 2 ≡ Present 7
+unfolding entryWord indexUnaryWord signed word
+diagonal-transposed = refl
+
+row-stored : numbered 0 RowIndex 0 2 5 ≡ Present 2
+unfolding entryWord indexUnaryWord signed word
+row-stored = refl
 
 -- an index list has 1 to maxList indexes, each below n
 list-below : listValid 3 (2 ∷ 0 ∷ []) ≡ true

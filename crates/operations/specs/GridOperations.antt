@@ -54,28 +54,19 @@ needsOf (Apply op) s = asks (s .first) (s .second) (s .first) (s .first)
 -- "T(i,j) = A(I[i], J[j])"; an index "past A (as transposed)" is refused
 needsOf Extract s = asks (s .first) (s .second) (s .first) (s .lists)
 
--- apply, where a is the input as its flag asks: "Row and column numbers here are those of the sheet as stored, before any
--- transposing"
-abbrev pub storedRow : Bool → ℕ → ℕ → ℕ
-storedRow true i j = j
-storedRow false i j = i
-
-abbrev pub storedCol : Bool → ℕ → ℕ → ℕ
-storedCol true i j = i
-storedCol false i j = j
-
--- the cell of T at (i, j): of the transpose flag of the first input, both inputs as their flags ask, the old C, and the
--- index lists
-abbrev pub resultCell : Operation → Bool → Grid → Grid → Grid → List ℕ → List ℕ → ℕ → ℕ → Cell
+-- the cell of T at (i, j): of both inputs as their flags ask, the old C, and the index lists
+abbrev pub resultCell : Operation → Grid → Grid → Grid → List ℕ → List ℕ → ℕ → ℕ → Cell
 -- the product, and the strip times a sheet with the strip as first input
-resultCell (Mxm monoid op) flag a b c is js i j = dot monoid op (a .cols) (a .cell i) (λ k. b .cell k j)
+resultCell (Mxm monoid op) a b c is js i j = dot monoid op (a .cols) (a .cell i) (λ k. b .cell k j)
 -- the intersection
-resultCell (EwiseMult op) flag a b c is js i j = intersect op (a .cell i j) (b .cell i j)
+resultCell (EwiseMult op) a b c is js i j = intersect op (a .cell i j) (b .cell i j)
 -- the union
-resultCell (EwiseAdd op) flag a b c is js i j = unite op (a .cell i j) (b .cell i j)
-resultCell (Apply op) flag a b c is js i j = applyCell op (storedRow flag i j) (storedCol flag i j) (a .cell i j)
+resultCell (EwiseAdd op) a b c is js i j = unite op (a .cell i j) (b .cell i j)
+-- apply, with the row and column numbers of the input as its flag asks (document 02, A5: "An entry stored at (2, 5) of a
+-- transposed input has row 5 and column 2")
+resultCell (Apply op) a b c is js i j = applyCell op i j (a .cell i j)
 -- "T(i,j) = A(I[i], J[j])"
-resultCell Extract flag a b c is js i j = a .cell (at is i) (at js j)
+resultCell Extract a b c is js i j = a .cell (at is i) (at js j)
 
 abbrev pub shapeOf : Grid → Shape
 shapeOf g = g .rows by g .cols
@@ -94,9 +85,9 @@ shapesOf op a b c is js = record {
 }
 
 -- T
-abbrev pub resultGrid : Operation → Bool → Grid → Grid → Grid → List ℕ → List ℕ → Grid
-resultGrid op flag a b c is js = record {
+abbrev pub resultGrid : Operation → Grid → Grid → Grid → List ℕ → List ℕ → Grid
+resultGrid op a b c is js = record {
   rows = needsOf op (shapesOf op a b c is js) .result .rows;
   cols = needsOf op (shapesOf op a b c is js) .result .cols;
-  cell = resultCell op flag a b c is js;
+  cell = resultCell op a b c is js;
 }

@@ -168,7 +168,7 @@ fn applies(work: &mut Workspace) {
     apply(b"colindex", plain(0), 3, 1, 0, v, v, &mut c, work);
 }
 
-// The transpose, scaled by 2; ROWINDEX and DIAGINDEX with 100, by the row and column as stored.
+// The transpose, scaled by 2; ROWINDEX and DIAGINDEX with 100, by the row and column after transposing.
 fn transposed(work: &mut Workspace) {
     let mut a = [0u32; 22];
     let mut c = [9u32; 25];

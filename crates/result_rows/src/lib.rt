@@ -12,14 +12,13 @@ ghost use Rattle.rows.specs.Row.{Holds};
 ghost use Rattle.matrix.specs.Layout.{rows, cols, cellOf, gridOf};
 ghost use Rattle.matrix.specs.Facts.{Matrix};
 ghost use Rattle.operations.specs.CellOperations.{dot, applyCell};
-ghost use Rattle.operations.specs.GridOperations.{storedRow, storedCol, resultGrid};
+ghost use Rattle.operations.specs.GridOperations.{resultGrid};
 ghost use Rattle.merge.specs.Combined.{combined};
 ghost use Rattle.result_rows.specs.RowInputs.{RowInputs, Buffers, ProductInputs, PairInputs, ListInputs, noCell};
 
 // Row i of T, left at the front of `oc` and `ov`: its number of entries.
 pub fn result_row(
     operation: Operation,
-    flag: bool,
     a: &[u32],
     b: &[u32],
     c: &[u32],
@@ -30,11 +29,11 @@ pub fn result_row(
     ov: &mut [u32],
 ) -> usize
     requires { ⌜ RowInputs operation (now a) (now b) (now c) (now is) (now js) i ⌝ }
-    requires { ⌜ Buffers (resultGrid operation flag (gridOf (now a)) (gridOf (now b)) (gridOf (now c)) (now is) (now js))
+    requires { ⌜ Buffers (resultGrid operation (gridOf (now a)) (gridOf (now b)) (gridOf (now c)) (now is) (now js))
         (now oc) (now ov) ⌝ }
-    ensures { λ r. ⌜ Holds (resultGrid operation flag (gridOf (now (a .entry))) (gridOf (now (b .entry)))
+    ensures { λ r. ⌜ Holds (resultGrid operation (gridOf (now (a .entry))) (gridOf (now (b .entry)))
         (gridOf (now (c .entry))) (now (is .entry)) (now (js .entry)) .cols)
-        (resultGrid operation flag (gridOf (now (a .entry))) (gridOf (now (b .entry)))
+        (resultGrid operation (gridOf (now (a .entry))) (gridOf (now (b .entry)))
         (gridOf (now (c .entry))) (now (is .entry)) (now (js .entry)) .cell i)
         r (now (oc .exit)) (now (ov .exit)) ⌝ }
 {
@@ -42,7 +41,7 @@ pub fn result_row(
         Operation::Mxm(monoid, op) => product(monoid, op, a, b, i, oc, ov),
         Operation::EwiseMult(op) => pair(Combine::Intersect(op), a, b, i, oc, ov),
         Operation::EwiseAdd(op) => pair(Combine::Unite(op), a, b, i, oc, ov),
-        Operation::Apply(op) => applied(op, flag, a, i, oc, ov),
+        Operation::Apply(op) => applied(op, a, i, oc, ov),
         Operation::Extract => extracted(a, is, js, i, oc, ov),
     }
 }
@@ -97,17 +96,16 @@ fn pair(how: Combine, a: &[u32], b: &[u32], i: usize, oc: &mut [u32], ov: &mut [
 }
 
 // A row of apply.
-fn applied(op: ApplyOp, flag: bool, a: &[u32], i: usize, oc: &mut [u32], ov: &mut [u32]) -> usize
+fn applied(op: ApplyOp, a: &[u32], i: usize, oc: &mut [u32], ov: &mut [u32]) -> usize
     requires { ⌜ Matrix (now a) ⌝ ∗ ⌜ i < rows (now a) ⌝ }
     requires { ⌜ (cols (now a) ≤ length (now oc)) × (cols (now a) ≤ length (now ov)) ⌝ }
     ensures { λ r. ⌜ Holds (cols (now (a .entry)))
-        (λ j. applyCell op (storedRow flag i j) (storedCol flag i j) (cellOf (now (a .entry)) i j))
+        (λ j. applyCell op i j (cellOf (now (a .entry)) i j))
         r (now (oc .exit)) (now (ov .exit)) ⌝ }
 {
     apply_rows::apply_row(
         matrix::col_count(a) as usize,
         op,
-        flag,
         i as u32,
         matrix::row_columns(a, i),
         matrix::row_values(a, i),

@@ -136,6 +136,17 @@ fn apply_of_each_kind() {
     }
 }
 
+/// Rows and columns are counted in the sheet as transposed.
+#[test]
+fn index_operators_after_transposing() {
+    let folder = Folder::with_shelf();
+    folder.script("s", "lay 0 3 6\nset 0 2 5 7\nlay 1 6 3\n");
+    for (op, value) in [("rowindex", 5), ("colindex", 2), ("diagindex", -3)] {
+        folder.prints(&format!("apply s 1 0 --op {op} --transpose-a"), "place 1: 1 entry\n");
+        folder.prints("read s 1 5 2", &format!("{value}\n"));
+    }
+}
+
 #[test]
 fn extract_by_lists() {
     let folder = worked_example();

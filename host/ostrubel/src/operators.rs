@@ -109,7 +109,7 @@ operators! {
 }
 
 operators! {
-    /// An operator on an entry's row i and column j, as the matrix is stored, and a scalar s.
+    /// An operator on an entry's row i and column j, those of the input as transposed, and a scalar s.
     IndexUnaryOp {
         /// i + s, wrapping
         RowIndex = 0 "ROWINDEX",

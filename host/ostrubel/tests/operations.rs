@@ -65,6 +65,13 @@ fn index_operators() -> Result<(), Error> {
         c.apply(ApplyOp::Index(op, -100), &a, &Options::new())?;
         assert_eq!(c.to_triples(), [(2, 5, expected)], "{op}");
     }
+    // "An entry stored at (2, 5) of a transposed input has row 5 and column 2"
+    let expected = [5 - 100, 2 - 100, 2 - 5 - 100];
+    for (&op, expected) in IndexUnaryOp::ALL.iter().zip(expected) {
+        let mut c = Matrix::new(6, 3)?;
+        c.apply(ApplyOp::Index(op, -100), &a, &Options::new().transpose_first())?;
+        assert_eq!(c.to_triples(), [(5, 2, expected)], "{op}");
+    }
     Ok(())
 }
 

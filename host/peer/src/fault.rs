@@ -3,7 +3,9 @@
 use crate::plan::{Adjustment, Plan, Step};
 use crate::suite::Triple;
 use second::grid::Grid;
-use suitesparse::{Apply, Binary, Monoid, Unary, COMPLEMENT, REPLACE, STRUCTURAL, TRANSPOSE_FIRST, TRANSPOSE_SECOND};
+use suitesparse::{
+    Apply, Binary, IndexUnary, Monoid, Unary, COMPLEMENT, REPLACE, STRUCTURAL, TRANSPOSE_FIRST, TRANSPOSE_SECOND,
+};
 
 macro_rules! faults {
     ($($name:ident: $text:literal,)*) => {
@@ -47,11 +49,11 @@ faults! {
     UnaryChanged: "apply takes the unary operator with the next number",
     ScalarSideChanged: "the scalar is on the other side",
     ScalarOneMore: "the scalar is one more",
+    PositionsAsStored: "ROWINDEX and COLINDEX see the row and column before transposing",
     RowsReversed: "extract takes the list of rows from its end",
     ColsReversed: "extract takes the list of columns from its end",
     // Adjustments that are left out.
     DiagonalAsTheirs: "DIAGINDEX is j - (i + s)",
-    PositionsAsTransposed: "index operators see the row and column as transposed",
     ScalarFirstByFlag16: "with the scalar first, flag 16 transposes and flag 8 does not",
     // Stored zeros, and one matrix in several roles.
     InputZeroDropped: "a stored 0 of the first input is no entry",
@@ -80,6 +82,15 @@ fn copy_of(grids: &mut Vec<Option<Grid>>, at: usize, change: impl Fn(&mut Grid))
     add(grids, grid)
 }
 
+/// The operator that takes the row for the column.
+fn exchanged(op: IndexUnary) -> IndexUnary {
+    match op {
+        IndexUnary::RowIndex => IndexUnary::ColIndex,
+        IndexUnary::ColIndex => IndexUnary::RowIndex,
+        IndexUnary::DiagIndex => IndexUnary::DiagIndex,
+    }
+}
+
 fn drop_zeros(grid: &mut Grid) {
     grid.cells.retain(|_, value| *value != 0);
 }
@@ -89,7 +100,6 @@ impl Fault {
     pub fn left_out(self) -> Option<Adjustment> {
         match self {
             Fault::DiagonalAsTheirs => Some(Adjustment::DiagonalSign),
-            Fault::PositionsAsTransposed => Some(Adjustment::StoredPositions),
             Fault::ScalarFirstByFlag16 => Some(Adjustment::ScalarFirstFlag),
             _ => None,
         }
@@ -103,6 +113,11 @@ impl Fault {
     }
 
     fn change_flags(self, plan: &mut Plan) {
+        if self == Fault::PositionsAsStored && plan.flags & TRANSPOSE_FIRST != 0 {
+            if let Step::Apply(Apply::IndexUnary(op, _)) = &mut plan.step {
+                *op = exchanged(*op);
+            }
+        }
         match self {
             Fault::ReplaceIgnored => plan.flags &= !REPLACE,
             Fault::ReplaceAlways => plan.flags |= REPLACE,
@@ -131,7 +146,7 @@ impl Fault {
             (Fault::IntersectionIsUnion, step @ &mut Step::EwiseMult(op)) => *step = Step::EwiseAdd(op),
             (Fault::RowsReversed, Step::Extract(rows, _)) => rows.reverse(),
             (Fault::ColsReversed, Step::Extract(_, cols)) => cols.reverse(),
-            (_, Step::Apply(apply) | Step::ApplyAndTranspose(apply)) => *apply = self.changed_apply(*apply),
+            (_, Step::Apply(apply)) => *apply = self.changed_apply(*apply),
             _ => {}
         }
     }

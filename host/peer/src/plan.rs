@@ -4,8 +4,6 @@
 //! The differences, found by running (the tests of the crate `suitesparse` show each):
 //!
 //! - DIAGINDEX is j - (i + s) and not j - i + s. The adjusted call has the scalar -s, which wraps.
-//! - Index operators take the row and column of the input as transposed, and not as stored. The adjusted call applies
-//!   the operator to the matrix as stored, into a new matrix, and writes the transpose of that back.
 //! - Of an apply with the scalar first, the matrix is the second input: flag 16 transposes it, and flag 8 is ignored.
 //!   Document 01's apply has one input, the first. The adjusted call has flag 16 where the call has flag 8.
 //! - The index of a vector is its row, so that ROWINDEX gives it and COLINDEX gives 0. Document 01's vector is a matrix
@@ -22,8 +20,6 @@ pub enum Step {
     EwiseMult(Binary),
     EwiseAdd(Binary),
     Apply(Apply),
-    /// Apply to the matrix as stored, and the transpose of the result.
-    ApplyAndTranspose(Apply),
     Extract(Vec<u64>, Vec<u64>),
 }
 
@@ -43,18 +39,15 @@ pub struct Plan {
 #[derive(Clone, Copy, Debug, PartialEq, Eq, PartialOrd, Ord)]
 pub enum Adjustment {
     DiagonalSign,
-    StoredPositions,
     ScalarFirstFlag,
 }
 
 impl Adjustment {
-    pub const ALL: [Adjustment; 3] =
-        [Adjustment::DiagonalSign, Adjustment::StoredPositions, Adjustment::ScalarFirstFlag];
+    pub const ALL: [Adjustment; 2] = [Adjustment::DiagonalSign, Adjustment::ScalarFirstFlag];
 
     pub fn text(self) -> &'static str {
         match self {
             Adjustment::DiagonalSign => "DIAGINDEX by the scalar's negative",
-            Adjustment::StoredPositions => "an index operator applied before the transpose",
             Adjustment::ScalarFirstFlag => "flag 16 for flag 8 with the scalar first",
         }
     }
@@ -65,12 +58,6 @@ impl Adjustment {
         match (self, &mut plan.step) {
             (Adjustment::DiagonalSign, Step::Apply(Apply::IndexUnary(IndexUnary::DiagIndex, scalar))) => {
                 *scalar = scalar.wrapping_neg();
-            }
-            (Adjustment::StoredPositions, &mut Step::Apply(apply @ Apply::IndexUnary(..)))
-                if plan.flags & TRANSPOSE_FIRST != 0 =>
-            {
-                plan.step = Step::ApplyAndTranspose(apply);
-                plan.flags &= !TRANSPOSE_FIRST;
             }
             (Adjustment::ScalarFirstFlag, Step::Apply(Apply::ScalarFirst(..))) => {
                 let is_transposed = plan.flags & TRANSPOSE_FIRST != 0;

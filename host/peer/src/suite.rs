@@ -4,8 +4,8 @@ use crate::plan::{Plan, Step};
 use second::grid::Grid;
 use std::collections::BTreeMap;
 use suitesparse::{
-    apply, ewise_add, ewise_mult, extract, mxm, transpose, vxm, Apply, Binary, Descriptor, Error, Matrix, Monoid,
-    Semiring, Vector, WriteBack,
+    apply, ewise_add, ewise_mult, extract, mxm, vxm, Binary, Descriptor, Error, Matrix, Monoid, Semiring, Vector,
+    WriteBack,
 };
 
 /// Row, column and value.
@@ -60,18 +60,9 @@ impl Tools {
             Step::EwiseMult(op) => ewise_mult(c, write, *op, a, b)?,
             Step::EwiseAdd(op) => ewise_add(c, write, *op, a, b)?,
             Step::Apply(kind) => apply(c, write, *kind, a)?,
-            Step::ApplyAndTranspose(kind) => self.apply_and_transpose(c, write, *kind, a)?,
             Step::Extract(rows, cols) => extract(c, write, a, rows, cols)?,
         }
         c.triples()
-    }
-
-    fn apply_and_transpose(&self, c: &Matrix, write: WriteBack<Matrix>, kind: Apply, a: &Matrix) -> Result<(), Error> {
-        let (rows, cols) = a.shape()?;
-        let stored = Matrix::new(rows, cols)?;
-        let plain = WriteBack { mask: None, accumulator: None, descriptor: &self.descriptors[0] };
-        apply(&stored, plain, kind, a)?;
-        transpose(c, write, &stored)
     }
 
     /// The vector, C and the mask are vectors, one for each position; the matrix is an object of its own.

@@ -27,7 +27,7 @@ faults! {
     AbsSaturates: "ABS of the smallest value is the largest",
     LnotOfNegative: "LNOT of a negative value is 1",
     DiagIndexParse: "DIAGINDEX gives j - (i + s)",
-    IndexAsTransposed: "index operators see the transposed row and column",
+    PositionsAsStored: "index operators see the row and column before transposing",
     ScalarSidesSwapped: "the scalar's side is swapped",
     // Operations.
     MonoidIsOperator: "products are added up with the multiplying operator if it is a monoid",

@@ -93,12 +93,11 @@ impl Model {
                 cells
             }
             Operation::Apply { kind, op, scalar } => {
-                let turn = options.has(TRANSPOSE_FIRST);
-                let value = |&(i, j): &(u32, u32), x: i32| self.applied(*kind, *op, *scalar as i32, (i, j), x, turn);
-                let stored = &sheets.a.cells;
-                let cells = stored.iter().map(|(at, &x)| (*at, value(at, x))).collect();
-                let result = Grid { cells, ..*sheets.a };
-                result.transposed_if(turn).cells
+                // Document 02, A5: an index-unary operator sees the row and column of the input as transposed.
+                let turned = options.has(TRANSPOSE_FIRST) && fault == Fault::PositionsAsStored;
+                let seen = |(i, j): (u32, u32)| if turned { (j, i) } else { (i, j) };
+                let value = |at, x| self.applied(*kind, *op, *scalar as i32, seen(at), x);
+                first.cells.iter().map(|(&at, &x)| (at, value(at, x))).collect()
             }
             Operation::Extract { rows, cols } => {
                 let (mut rows, mut cols) = (rows, cols);
@@ -140,14 +139,13 @@ impl Model {
         cells
     }
 
-    fn applied(&self, kind: u32, op: u32, scalar: i32, at: (u32, u32), x: i32, turned: bool) -> i32 {
+    fn applied(&self, kind: u32, op: u32, scalar: i32, at: (u32, u32), x: i32) -> i32 {
         let fault = self.fault;
         let scalar_first = (kind == 1) != (fault == Fault::ScalarSidesSwapped);
         match kind {
             0 => unary(op, x, fault),
             1 | 2 if scalar_first => binary(op, scalar, x, fault),
             1 | 2 => binary(op, x, scalar, fault),
-            _ if fault == Fault::IndexAsTransposed && turned => index_unary(op, at.1, at.0, scalar, fault),
             _ => index_unary(op, at.0, at.1, scalar, fault),
         }
     }

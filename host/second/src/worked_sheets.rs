@@ -67,6 +67,17 @@ fn p3() {
     assert_eq!(run(operation, plain(), [&a, &a, &a], &strip(&[])), strip(&[(0, 0), (1, 1), (3, 3)]));
 }
 
+/// Document 02, A5: "An entry stored at (2, 5) of a transposed input has row 5 and column 2".
+#[test]
+fn positions_after_transposing() {
+    let a = grid(3, 6, &[(2, 5, 7)]);
+    for (op, expected) in [(0, 5), (1, 2), (2, -3)] {
+        let operation = Operation::Apply { kind: 3, op, scalar: 0 };
+        let result = run(operation, Options { flags: TRANSPOSE_FIRST, ..plain() }, [&a, &a, &a], &Grid::empty(6, 3));
+        assert_eq!(result, grid(6, 3, &[(5, 2, expected)]));
+    }
+}
+
 #[test]
 fn p4_to_p6() {
     let cases = [(3, i32::MAX, 1, i32::MIN), (5, 46_341, 46_341, -2_147_479_015), (5, 65_536, 65_536, 0)];

@@ -14,7 +14,7 @@ mod triples;
 
 pub use operators::{Apply, Binary, IndexUnary, Monoid, Unary};
 pub use raw::objects::{Descriptor, Matrix, Semiring, Vector};
-pub use raw::operations::{apply, apply_index, ewise_add, ewise_mult, extract, mxm, transpose, vxm, WriteBack};
+pub use raw::operations::{apply, apply_index, ewise_add, ewise_mult, extract, mxm, vxm, WriteBack};
 pub use raw::{threads, version, Error};
 
 /// Outside the mask C loses its entries.

@@ -33,8 +33,7 @@ numbered!(
     Unary { Identity = 0, Ainv = 1, Abs = 2, Lnot = 3, One = 4, }
 );
 numbered!(
-    /// Index operators by SuiteSparse's rules: the row and column are those of the input as transposed, and DIAGINDEX
-    /// is j - (i + s).
+    /// Index operators by SuiteSparse's rules: DIAGINDEX is j - (i + s).
     IndexUnary { RowIndex = 0, ColIndex = 1, DiagIndex = 2, }
 );
 

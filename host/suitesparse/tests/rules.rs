@@ -1,4 +1,4 @@
-//! By which rules SuiteSparse computes, found by running. The first four tests are the differences from document 01,
+//! By which rules SuiteSparse computes, found by running. The first three tests are the differences from the papers,
 //! the others what both have in common.
 
 use suitesparse::{
@@ -61,15 +61,6 @@ fn diagindex_takes_the_scalar_away() {
 }
 
 #[test]
-fn index_operators_see_positions_as_transposed() {
-    let a = matrix(2, 3, &[(0, 2, 7), (1, 0, 7)]);
-    let index = |op| applied(Apply::IndexUnary(op, 10), TRANSPOSE_FIRST, &a, (3, 2)).unwrap();
-    assert_eq!(index(IndexUnary::RowIndex), [(0, 1, 10), (2, 0, 12)]);
-    assert_eq!(index(IndexUnary::ColIndex), [(0, 1, 11), (2, 0, 10)]);
-    assert_eq!(index(IndexUnary::DiagIndex), [(0, 1, -9), (2, 0, -12)]);
-}
-
-#[test]
 fn with_the_scalar_first_the_matrix_is_the_second_input() {
     let a = matrix(2, 3, &[(0, 2, 7)]);
     let first = Apply::ScalarFirst(Binary::Minus, 10);
@@ -101,6 +92,15 @@ fn the_index_of_a_vector_is_its_row() {
 }
 
 // What is the same.
+
+#[test]
+fn index_operators_see_positions_as_transposed() {
+    let a = matrix(2, 3, &[(0, 2, 7), (1, 0, 7)]);
+    let index = |op| applied(Apply::IndexUnary(op, 10), TRANSPOSE_FIRST, &a, (3, 2)).unwrap();
+    assert_eq!(index(IndexUnary::RowIndex), [(0, 1, 10), (2, 0, 12)]);
+    assert_eq!(index(IndexUnary::ColIndex), [(0, 1, 11), (2, 0, 10)]);
+    assert_eq!(index(IndexUnary::DiagIndex), [(0, 1, -9), (2, 0, -12)]);
+}
 
 #[test]
 fn unary_operators() {

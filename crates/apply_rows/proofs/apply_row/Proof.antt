@@ -7,21 +7,21 @@ use Rattle.apply_rows.proofs.apply_row.Statement.{statement}
 use Rattle.apply_rows.proofs.apply_row.Tie as tie
 
 abbrev Inv-loop : tie.InvT-loop
-Inv-loop places op transposed i columns values oc₀ ov₀ p₀ oc ov p =
-    Applying places op transposed i columns values oc₀ ov₀ oc ov p
+Inv-loop places op i columns values oc₀ ov₀ p₀ oc ov p =
+    Applying places op i columns values oc₀ ov₀ oc ov p
 
 abbrev μ-loop : tie.MeasureT-loop
-μ-loop places op transposed i columns values oc₀ ov₀ p₀ oc ov p = length columns - p
+μ-loop places op i columns values oc₀ ov₀ p₀ oc ov p = length columns - p
 
 -- the function's entry, seen from the loop, and the loop's turn, seen from behind the call
 abbrev start : tie.At-loop Inv-loop μ-loop → tie.Start Inv-loop μ-loop
 start q = q .before .before .before .before .before
 
-abbrev turn : tie.After-apply-stored Inv-loop μ-loop → tie.In-loop Inv-loop μ-loop
+abbrev turn : tie.After-apply-entry Inv-loop μ-loop → tie.In-loop Inv-loop μ-loop
 turn c = c .before .before .before
 
 loop-holds : tie.Need-loop-holds Inv-loop μ-loop
-loop-holds c = applying-start (c .before .before .before .before .pre .0) _ _ _ _ _
+loop-holds c = applying-start (c .before .before .before .before .pre .0) _ _ _ _
 
 mul-j : tie.Need-mul-j Inv-loop μ-loop
 mul-j c = omega arith
@@ -35,10 +35,10 @@ mul-x c = omega (arith, start (c .before .before) .pre .0 .even)
 shared-slice-read-x : tie.Need-shared-slice-read-x Inv-loop μ-loop
 shared-slice-read-x c = omega (arith, start (c .before .before .before) .pre .0 .even)
 
-apply-stored-requires : tie.Need-apply-stored-requires Inv-loop μ-loop
-apply-stored-requires c κs = tt
+apply-entry-requires : tie.Need-apply-entry-requires Inv-loop μ-loop
+apply-entry-requires c κs = tt
 
-room : (c : tie.After-apply-stored Inv-loop μ-loop) → turn c .before .loop .p < start (turn c .before) .args .places
+room : (c : tie.After-apply-entry Inv-loop μ-loop) → turn c .before .loop .p < start (turn c .before) .args .places
 room c = applying-room (start (turn c .before) .pre .0) (turn c .before .loop .inv) (turn c .loop-test .taken)
 
 mul-oc : tie.Need-mul-oc Inv-loop μ-loop
@@ -63,7 +63,7 @@ loop-again : tie.Need-loop-again Inv-loop μ-loop
 loop-again c =
     let t = turn c in
     let p = start (t .before) .pre in
-    applying-step (p .0) (t .before .loop .inv) (t .loop-test .taken) (p .1 .0) (p .1 .1) (c .apply-stored .ensures)
+    applying-step (p .0) (t .before .loop .inv) (t .loop-test .taken) (p .1 .0) (p .1 .1) (c .apply-entry .ensures)
 
 same-length : tie.Need-same-length Inv-loop μ-loop
 same-length c = c .before .loop .inv .long-cols
@@ -85,7 +85,7 @@ apply-row-spec =
     shared-slice-read-j
     mul-x
     shared-slice-read-x
-    apply-stored-requires
+    apply-entry-requires
     mul-oc
     slice-write-oc
     mul-ov

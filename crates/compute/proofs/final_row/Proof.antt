@@ -50,7 +50,7 @@ row-fits s =
     let q = chosen s in
     let p = start q .pre in
     let b =
-    row-buffers _ _ _ _ _ _ _ _ _ (p .0) (first-source q) (second-held q) _ (p .1 .1 .0 .0) _ _ _ _ (p .1 .1 .1 .1 .1) in
+    row-buffers _ _ _ _ _ _ _ _ _ (p .0) (first-source q) (second-held q) _ _ _ _ (p .1 .1 .1 .1 .1) in
     let h = holds-most (s .result-row .ensures) in
     (omega arith, omega arith)
 
@@ -82,8 +82,8 @@ result-row-requires : tie.Need-result-row-requires
 result-row-requires c κs =
     let q = c .before .before in
     let p = start q .pre in (
-      row-inputs _ _ _ _ _ _ _ _ _ (p .0) (first-source q) (second-held q) _ (p .1 .1 .0 .0) _ (p .1 .1 .1 .1 .0),
-      row-buffers _ _ _ _ _ _ _ _ _ (p .0) (first-source q) (second-held q) _ (p .1 .1 .0 .0) _ _ _ _ (p .1 .1 .1 .1 .1),
+      row-inputs _ _ _ _ _ _ _ _ _ (p .0) (first-source q) (second-held q) _ (p .1 .1 .1 .1 .0),
+      row-buffers _ _ _ _ _ _ _ _ _ (p .0) (first-source q) (second-held q) _ _ _ _ (p .1 .1 .1 .1 .1),
     )
 
 write-back-of-requires : tie.Need-write-back-of-requires
@@ -109,7 +109,7 @@ write-row-requires c κs =
     let p = start q .pre in
     let k = p .0 .inputs .output .header .col-range .most in
     let b = p .1 .1 .1 .1 .1 in (
-      old-row _ _ _ _ _ _ _ _ _ (p .0) (first-source q) (second-held q) _ (p .1 .1 .0 .0) _ _ _ _ (p .1 .1 .1 .1 .0)
+      old-row _ _ _ _ _ _ _ _ _ (p .0) (first-source q) (second-held q) _ _ _ _ (p .1 .1 .1 .1 .0)
           (s .result-row .ensures) _ (w .write-back-of .ensures),
       (omega arith, omega arith),
     )
@@ -133,7 +133,7 @@ returns c =
     let s = made w in
     let q = chosen s in
     let p = start q .pre in
-    final-row _ _ _ _ _ _ _ _ _ (p .0) (first-source q) (second-held q) _ (p .1 .1 .0 .0) _ _ _ _ (p .1 .1 .1 .1 .0)
+    final-row _ _ _ _ _ _ _ _ _ (p .0) (first-source q) (second-held q) _ _ _ _ (p .1 .1 .1 .1 .0)
     (s .result-row .ensures) _ (w .write-back-of .ensures) _ _ _ (r .write-row .ensures)
 
 pub final-row-spec : {M : Type 1} → statement M

@@ -24,9 +24,7 @@ pub fn compute<'w>(request: &Request, inputs: &Inputs, work: &'w mut [u32]) -> R
         }
         Operation::EwiseMult(op) => write.rows(result, |i, t| intersection_row(op, a.row(i), b.row(i), t)),
         Operation::EwiseAdd(op) => write.rows(result, |i, t| union_row(op, a.row(i), b.row(i), t)),
-        Operation::Apply(op) => {
-            write.rows(result, |i, t| apply_row(op, request.transpose_first, i as u32, a.row(i), t))
-        }
+        Operation::Apply(op) => write.rows(result, |i, t| apply_row(op, i as u32, a.row(i), t)),
         Operation::Extract { rows, cols } => {
             let mut dense = DenseRow::new();
             let positions = Positions::new(cols, a.cols);
@@ -113,11 +111,9 @@ fn visit_both(a: Row, b: Row, mut visit: impl FnMut(u32, Option<u32>, Option<u32
     let Ok(()) = done;
 }
 
-fn apply_row(op: ApplyOp, transposed: bool, i: u32, a: Row, t: &mut RowBuffer) {
+fn apply_row(op: ApplyOp, i: u32, a: Row, t: &mut RowBuffer) {
     for (j, x) in a.iter() {
-        // The operator gets the row and the column of the matrix as stored.
-        let (row, column) = if transposed { (j, i) } else { (i, j) };
-        t.push(j, op.apply(x, row, column));
+        t.push(j, op.apply(x, i, j));
     }
 }
 

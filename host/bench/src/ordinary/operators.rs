@@ -133,7 +133,7 @@ impl ApplyOp {
         })
     }
 
-    /// What becomes of x at row i and column j of the matrix as stored.
+    /// What becomes of x at row i and column j of the matrix as transposed.
     pub fn apply(self, x: u32, i: u32, j: u32) -> u32 {
         match self {
             ApplyOp::Unary(op) => op.apply(x),

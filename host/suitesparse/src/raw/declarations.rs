@@ -229,5 +229,4 @@ extern "C" {
         col_count: Index,
         descriptor: Descriptor,
     ) -> Info;
-    pub fn GrB_transpose(c: Matrix, mask: Matrix, accumulator: BinaryOp, a: Matrix, descriptor: Descriptor) -> Info;
 }

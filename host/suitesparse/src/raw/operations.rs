@@ -1,4 +1,4 @@
-//! The six operations, the transpose, and index operators on a vector. The result is materialized when one returns.
+//! The six operations, and index operators on a vector. The result is materialized when one returns.
 
 use super::objects::{Descriptor, Matrix, Semiring, Vector};
 use super::{c, call, Error};
@@ -161,13 +161,5 @@ pub fn extract(c: &Matrix, write: WriteBack<Matrix>, a: &Matrix, rows: &[u64], c
     unsafe {
         call!(GrB_Matrix_extract(to, mask, accumulator, a, row_list, row_count, col_list, col_count, descriptor))?
     };
-    c.wait()
-}
-
-/// C gets the transpose of A; of A itself where the first input is transposed.
-pub fn transpose(c: &Matrix, write: WriteBack<Matrix>, a: &Matrix) -> Result<(), Error> {
-    let (mask, accumulator, descriptor) = (write.mask(), write.accumulator(), write.descriptor.handle());
-    let (to, a) = (c.handle(), a.handle());
-    unsafe { call!(GrB_transpose(to, mask, accumulator, a, descriptor))? };
     c.wait()
 }
