@@ -19,8 +19,8 @@
  * A refused call has the lowest code that applies (on a store 12 comes first, and 13 between 2 and 7), changes no word
  * but the workspace's, and its entries or value are 0. The workspace is all zeros after every call that has one.
  *
- * Threads. A call takes no memory beside its buffers and the stack, and keeps nothing: calls on several threads may run at
- * once where each has buffers of its own (those that are only read may be shared). 48 KB of stack are enough for any
+ * Threads. A call takes no memory beside its buffers and the stack, and keeps nothing: calls on several threads may run
+ * at once where each has buffers of its own (those that are only read may be shared). 48 KB of stack are enough for any
  * call.
  */
 #ifndef OSTRUBEL_H
@@ -39,7 +39,7 @@ extern "C" {
 #define OSTRUBEL_MIN_STORE_WORDS 8
 #define OSTRUBEL_MAX_STORE_WORDS 16384
 
-/* Bytes of stack that are enough for any call; the deepest at the largest shapes was measured to take 29,016. */
+/* Bytes of stack that are enough for any call; at the largest shapes the deepest took some 29,000. */
 #define OSTRUBEL_STACK_BYTES 49152
 
 /* Limits. An index list has 1 to 1,000 indexes. */
@@ -58,8 +58,8 @@ enum {
     OSTRUBEL_INVALID_SECOND = 4,       /* the second input is no valid matrix */
     OSTRUBEL_INVALID_MASK = 5,         /* the mask is no valid matrix */
     OSTRUBEL_INVALID_OUTPUT = 6,       /* old C is no valid matrix */
-    OSTRUBEL_INDEX_OUT_OF_BOUNDS = 7,  /* an index list shorter than 1 or longer than 1,000; an index, row or column
-                                          past A (as transposed) or past the matrix named */
+    OSTRUBEL_INDEX_OUT_OF_BOUNDS = 7,  /* an index list shorter than 1 or longer than 1,000, or with an index twice;
+                                          an index, row or column past A (as transposed) or past the matrix named */
     OSTRUBEL_INVALID_SHAPE = 8,        /* rows or columns outside 1 to 1,000; shapes of inputs, mask, C and result
                                           disagree; no vector (one row) where one is due */
     OSTRUBEL_WORKSPACE_TOO_SHORT = 9,  /* a workspace under 15,309 words */
@@ -194,7 +194,8 @@ uint64_t ostrubel_apply(uint32_t flags, uint32_t has_mask, uint32_t has_accumula
                         const uint32_t *mask, size_t mask_len, uint32_t *c, size_t c_len, uint32_t *work,
                         size_t work_len);
 
-/* At (i, j) the cell of A at row is[i] and column js[j]. The lists have no count in front. */
+/* At (i, j) the cell of A at row is[i] and column js[j]. The lists have no count in front. No index may occur twice in
+   one list; the same index in both is fine. */
 uint64_t ostrubel_extract(uint32_t flags, uint32_t has_mask, uint32_t has_accumulator, uint32_t accumulator,
                           const uint32_t *a, size_t a_len, const uint32_t *is, size_t is_len, const uint32_t *js,
                           size_t js_len, const uint32_t *mask, size_t mask_len, uint32_t *c, size_t c_len,

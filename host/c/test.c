@@ -157,13 +157,17 @@ static void test_elementwise(void) {
         SAME(turned, 2, 6, 3, 7, 0, 0, 0, 0, 0, 0, 1, 1, 2, 1, numbers[op]);
     }
 
-    /* an index may repeat */
+    /* the columns in another order; an index in both lists is fine, twice in one list it is refused */
     const uint32_t rows[] = {0};
-    const uint32_t cols[] = {3, 2, 3, 0};
+    const uint32_t cols[] = {3, 2, 0, 1};
+    const uint32_t twice[] = {3, 2, 3, 0};
     ACCEPTED(ostrubel_extract(PLAIN, WORDS(strip), WORDS(rows), WORDS(cols), NO_MASK, WORDS(c), WORDS(work)), 3);
-    SAME(c, 2, 1, 4, 2, 0, 3, 3, 0, 2, 3, 3, 40, 40, 10);
+    SAME(c, 2, 1, 4, 2, 0, 3, 3, 0, 2, 3, 3, 40, 10, 20);
+    REFUSED(ostrubel_extract(PLAIN, WORDS(strip), WORDS(rows), WORDS(twice), NO_MASK, WORDS(c), WORDS(work)),
+            OSTRUBEL_INDEX_OUT_OF_BOUNDS);
     REFUSED(ostrubel_extract(PLAIN, WORDS(strip), WORDS(cols), WORDS(rows), NO_MASK, WORDS(c), WORDS(work)),
             OSTRUBEL_INDEX_OUT_OF_BOUNDS);
+    SAME(c, 2, 1, 4, 2, 0, 3, 3, 0, 2, 3, 3, 40, 10, 20);
 }
 
 /* P7, P8, P9 and P11: has_mask and has_accumulator are any number but 0. */

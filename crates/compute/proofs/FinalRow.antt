@@ -1,16 +1,15 @@
 -- One row of the final C, from what is known of a call whose inputs are valid and agree.
-use Prim.Native.Nat.{ℕ, _≤_, _<_}
+use Prim.Native.Nat.{ℕ, _<_}
 use native.Mathlib.Omega.{arith}
-use mathlib.Core.Path.{_≡_, refl, sym, ap, _∙_}
+use mathlib.Core.Path.{_≡_, refl, ap, _∙_}
 use mathlib.Core.List.{List}
-use mathlib.Core.Bool.{Bool, true, false, cond}
-use lib.ListN.{length, take}
+use mathlib.Core.Bool.{true}
+use lib.ListN.{take}
 use borrow.Author.Tests.{eqb-true}
-use Rattle.limits.specs.Limits.{maxCols}
 use Rattle.conditions.proofs.Tests.{and-left, and-right}
 use Rattle.grid.specs.declared.Cell.{Cell}
 use Rattle.grid.specs.Grid.{Grid, Same}
-use Rattle.rows.specs.Row.{Row, Holds, lookup}
+use Rattle.rows.specs.Row.{Holds, lookup}
 use Rattle.rows.proofs.Holds.{holds-same}
 use Rattle.rows.proofs.Lookup.{gather-row, lookup-gather}
 use Rattle.matrix.specs.Layout.{rows, cols, cellOf, gridOf}
@@ -36,7 +35,7 @@ use Rattle.operations.specs.Calls.{
 use Rattle.requests.specs.Refusal.{lentFinal}
 use Rattle.requests.specs.Inputs.{Ready}
 use Rattle.result_rows.specs.RowInputs.{rowShapes, rowNeeds, RowInputs, Buffers}
-use Rattle.compute.specs.Computing.{MaskRow, OldRow, Source, RowBuffers}
+use Rattle.compute.specs.Computing.{OldRow, Source, RowBuffers}
 use Rattle.operations.proofs.Results.{shapes-of-same, cell-same}
 
 -- what `shapesAgree` says

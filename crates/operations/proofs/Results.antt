@@ -26,6 +26,7 @@ use Rattle.operations.specs.GridOperations.{
   shapesOf,
   resultGrid,
 }
+use Rattle.operations.specs.Lists.{Small}
 use Rattle.operations.specs.Calls.{hasSecond, hasLists, inputsAgree, listsValid}
 use Rattle.operations.proofs.Lists.{list-facts}
 
@@ -71,6 +72,15 @@ lists-needs (EwiseMult op) s l h = refl
 lists-needs (EwiseAdd op) s l h = refl
 lists-needs (Apply op) s l h = refl
 lists-needs Extract s l h = absurd (false≢true (sym h))
+
+-- the bounds of the indexes are the shape of a matrix of the call
+pub bounds-small : (n : ℕ) (s : Shapes) → Small n (s .first) → Small n (s .output) → (op : Operation)
+    → Small n (needsOf op s .bounds)
+bounds-small n s first output (Mxm monoid op) = first
+bounds-small n s first output (EwiseMult op) = first
+bounds-small n s first output (EwiseAdd op) = first
+bounds-small n s first output (Apply op) = first
+bounds-small n s first output Extract = first
 
 -- the shapes of grids that agree
 shape-same : (g h : Grid) → Same g h → shapeOf g ≡ shapeOf h

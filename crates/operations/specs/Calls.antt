@@ -2,7 +2,7 @@
 -- (document 01, "Operators", "The six operations", "When the clerk turns a call away").
 use Prim.Native.Nat.{ℕ, _/_, _%_}
 use mathlib.Core.List.{List}
-use mathlib.Core.Bool.{Bool, true, false, cond}
+use mathlib.Core.Bool.{Bool, true, false, cond, not}
 use lib.ListN.{length}
 use lib.Dec.{leb, ltb, eqb}
 use Rattle.limits.specs.Limits.{maxList}
@@ -63,9 +63,18 @@ callResult call a b c is js =
 unfoldable pub callFinal : Call → Grid → Grid → Grid → Grid → List ℕ → List ℕ → Grid
 callFinal call a b m c is js = finalGrid (writeBackOf call) m c (callResult call a b c is js)
 
--- not 7: the list has 1 to 1,000 indexes, each below n
+-- none of the first k indexes is j
+abbrev pub fresh : List ℕ → ℕ → ℕ → Bool
+fresh l k j = all k (λ h. not (eqb (at l h) j))
+
+-- index k of the list is below n, and does not stand before
+abbrev pub indexFits : ℕ → List ℕ → ℕ → Bool
+indexFits n l k = ltb (at l k) n and fresh l k (at l k)
+
+-- not 7: the list has 1 to 1,000 indexes, each below n, and none stands twice (document 02, A9: "Extract now refuses 7 if an
+-- index occurs twice in the same list", which replaces "an index may repeat")
 unfoldable pub listValid : ℕ → List ℕ → Bool
-listValid n l = leb 1 (length l) and leb (length l) maxList and all (length l) (λ k. ltb (at l k) n)
+listValid n l = leb 1 (length l) and leb (length l) maxList and all (length l) (indexFits n l)
 
 -- not 7, where there are lists: each index stays below its bound
 abbrev pub listsValid : Operation → Shape → List ℕ → List ℕ → Bool
@@ -74,6 +83,7 @@ listsValid op bounds is js = cond (hasLists op) (listValid (bounds .rows) is and
 unfoldable pub indexesValid : Call → Grid → Grid → Grid → List ℕ → List ℕ → Bool
 indexesValid call a b c is js = listsValid (call .operation) (callNeeds call a b c is js .bounds) is js
 
+-- one shape
 abbrev pub matches : Shape → Shape → Bool
 matches s t = eqb (s .rows) (t .rows) and eqb (s .cols) (t .cols)
 

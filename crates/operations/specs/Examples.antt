@@ -1,7 +1,7 @@
 -- Computed examples: each definition beside its nearest wrong reading.
-use Prim.Native.Nat.{ℕ, _+_, _*_}
+use Prim.Native.Nat.{ℕ, zero, suc, _+_, _*_}
 use mathlib.Core.Path.{_≡_, refl}
-use mathlib.Core.List.{List, [], _∷_}
+use mathlib.Core.List.{List, [], _∷_, _++_}
 use mathlib.Core.Bool.{Bool, true, false}
 use lib.ListN.{replicate}
 use Rattle.limits.specs.Limits.{maxList}
@@ -284,6 +284,11 @@ row-stored : numbered 0 RowIndex 0 2 5 ≡ Present 2
 unfolding entryWord indexUnaryWord signed word
 row-stored = refl
 
+-- 0 up to n, n not among them
+abbrev counting : ℕ → List ℕ
+counting zero = []
+counting (suc n) = counting n ++ (n ∷ [])
+
 -- an index list has 1 to maxList indexes, each below n
 list-below : listValid 3 (2 ∷ 0 ∷ []) ≡ true
 unfolding listValid all _and_
@@ -297,13 +302,40 @@ list-empty : listValid 3 [] ≡ false
 unfolding listValid all _and_
 list-empty = refl
 
-list-longest : listValid 3 (replicate maxList 0) ≡ true
-unfolding listValid all _and_
-list-longest = refl
-
-list-longer : listValid 3 (replicate (maxList + 1) 0) ≡ false
+-- longer than a list may be
+list-longer : listValid (maxList + 1) (counting (maxList + 1)) ≡ false
 unfolding listValid all _and_
 list-longer = refl
+
+-- "if an index occurs twice in the same list": at the ends, next to each other; too long and repeating
+list-ends : listValid 3 (1 ∷ 0 ∷ 2 ∷ 1 ∷ []) ≡ false
+unfolding listValid all _and_
+list-ends = refl
+
+list-next : listValid 3 (0 ∷ 2 ∷ 2 ∷ []) ≡ false
+unfolding listValid all _and_
+list-next = refl
+
+list-once : listValid 3 (1 ∷ 0 ∷ 2 ∷ []) ≡ true
+unfolding listValid all _and_
+list-once = refl
+
+list-longer-twice : listValid 3 (replicate (maxList + 1) 0) ≡ false
+unfolding listValid all _and_
+list-longer-twice = refl
+
+-- "The same index in both lists is fine."
+indexes-both : indexesValid (plain 0 Extract) wide (by 5 7) (by 1 1) (1 ∷ 0 ∷ []) (0 ∷ 1 ∷ []) ≡ true
+unfolding indexesValid listValid all _and_
+indexes-both = refl
+
+indexes-first : indexesValid (plain 0 Extract) wide (by 5 7) (by 1 1) (1 ∷ 1 ∷ []) (0 ∷ 1 ∷ []) ≡ false
+unfolding indexesValid listValid all _and_
+indexes-first = refl
+
+indexes-second : indexesValid (plain 0 Extract) wide (by 5 7) (by 1 1) (0 ∷ 1 ∷ []) (1 ∷ 1 ∷ []) ≡ false
+unfolding indexesValid listValid all _and_
+indexes-second = refl
 
 -- rows and columns of A "as transposed", rows by the first list
 indexes-within : indexesValid (plain 0 Extract) wide (by 5 7) (by 1 1) (1 ∷ []) (2 ∷ []) ≡ true

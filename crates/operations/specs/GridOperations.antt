@@ -37,12 +37,12 @@ inputsOf (EwiseAdd op) = record { second = true; lists = false }
 inputsOf (Apply op) = record { second = false; lists = false }
 inputsOf Extract = record { second = false; lists = true }
 
--- What it asks of the shapes of a call, which are those of the inputs as their flags ask and of the old C, and the lengths
--- of the lists: the shapes of its inputs (one that may have any shape is asked for its own), the bounds of the indexes
--- (where there are lists), and T's shape.
+-- the shapes that both inputs have to have, the bounds of the indexes, and T's shape
 abbrev pub asks : Shape → Shape → Shape → Shape → Needs
 asks first second bounds result = record { first = first; second = second; bounds = bounds; result = result }
 
+-- What it asks of the shapes of a call, which are those of the inputs as their flags ask and of the old C, and the lengths
+-- of the lists. An input that may have any shape is asked for its own; the bounds matter where there are lists.
 abbrev pub needsOf : Operation → Shapes → Needs
 -- "A(i,k) and B(k,j)": A has as many columns as B has rows
 needsOf (Mxm monoid op) s =
@@ -68,6 +68,7 @@ resultCell (Apply op) a b c is js i j = applyCell op i j (a .cell i j)
 -- "T(i,j) = A(I[i], J[j])"
 resultCell Extract a b c is js i j = a .cell (at is i) (at js j)
 
+-- the shape of a grid
 abbrev pub shapeOf : Grid → Shape
 shapeOf g = g .rows by g .cols
 
@@ -84,7 +85,7 @@ shapesOf op a b c is js = record {
   lists = length is by length js;
 }
 
--- T
+-- T: its shape and its cells
 abbrev pub resultGrid : Operation → Grid → Grid → Grid → List ℕ → List ℕ → Grid
 resultGrid op a b c is js = record {
   rows = needsOf op (shapesOf op a b c is js) .result .rows;

@@ -115,7 +115,8 @@ fn union(work: &mut Workspace) {
     ewise_add(b"ewise_add, minus", plain(0), 4, a, &b, a, &mut c, work);
 }
 
-// The first four columns of a vector; rows 0 and 2 of a matrix, scaled by 2; a row of its transpose, twice.
+// The first four columns of a vector; rows 0 and 2 of a matrix, scaled by 2; rows and columns of its transpose in another
+// order.
 fn extracts(work: &mut Workspace) {
     let v: &[u32] = &[
         2,
@@ -150,7 +151,7 @@ fn extracts(work: &mut Workspace) {
     create::new_empty(&mut c, 2, 3);
     extract(b"rows", plain(0), a, &[0, 2], &[0, 1, 2], &mut c, work);
     create::new_empty(&mut c, 2, 2);
-    extract(b"repeated", plain(8), a, &[1, 1], &[1, 0], &mut c, work);
+    extract(b"reordered", plain(8), a, &[1, 0], &[1, 0], &mut c, work);
 }
 
 // The four kinds: unary, on the smallest value, 0 and -5; MINUS with 15 first and second; COLINDEX.

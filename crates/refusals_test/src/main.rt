@@ -70,15 +70,18 @@ fn wrong(flags: u32) -> Options {
     }
 }
 
-// 7 stands between 6 and 8, and looks at A as transposed.
+// 7 stands between 6 and 8, looks at A as transposed, and is given where an index stands twice in one list.
 fn index_refusals(work: &mut Workspace) {
     let v: &[u32] = &[2, 1, 4, 2, 0, 3, 3, 0, 1, 3, 3, 10, 20, 40];
     let mut c = [9u32; 12];
     test_support::heading(b"indexes and shapes");
-    extract(b"C, column 4", plain(0), v, &[0], &[4, 4], &mut c, work);
+    extract(b"C, column 4", plain(0), v, &[0], &[4, 3], &mut c, work);
     create::new_empty(&mut c, 1, 1);
-    extract(b"column 4", plain(0), v, &[0], &[4, 4], &mut c, work);
-    extract(b"shape", plain(0), v, &[0], &[3, 3], &mut c, work);
+    extract(b"column 4", plain(0), v, &[0], &[4, 3], &mut c, work);
+    extract(b"shape", plain(0), v, &[0], &[3, 2], &mut c, work);
+    extract(b"column 3 twice", plain(0), v, &[0], &[3, 3], &mut c, work);
+    extract(b"row 0 twice", plain(0), v, &[0, 0], &[3], &mut c, work);
+    extract(b"0 in both", plain(0), v, &[0], &[0], &mut c, work);
     extract(b"column 3", plain(0), v, &[0], &[3], &mut c, work);
     extract(b"row 1", plain(0), v, &[1], &[0], &mut c, work);
     extract(b"transposed row 1", plain(8), v, &[1], &[0], &mut c, work);

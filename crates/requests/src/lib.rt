@@ -8,6 +8,7 @@ use answers::INVALID_SECOND;
 use answers::INVALID_SHAPE;
 use answers::UNKNOWN_OPERATOR;
 use answers::WORKSPACE_TOO_SHORT;
+use bit_rows::MAP_WORDS;
 use limits::MAX_FLAGS;
 use limits::MAX_LIST;
 use matrix::layout::COLS_AT;
@@ -20,18 +21,22 @@ use operations::Shape;
 use operations::Shapes;
 ghost use mathlib.Core.Path.{_≡_};
 ghost use mathlib.Core.Bool.{true, cond};
-ghost use Prim.Native.Nat.{_<_};
+ghost use Prim.Native.Nat.{_≤_, _<_};
 ghost use lib.Dec.{eqb};
-ghost use Rattle.conditions.specs.Tests.{_and_};
+ghost use lib.ListN.{length};
+ghost use Rattle.limits.specs.Limits.{maxCols};
+ghost use Rattle.conditions.specs.Tests.{_and_, all};
 ghost use Rattle.matrix.specs.Layout.{gridOf};
 ghost use Rattle.matrix.specs.Valid.{valid};
 ghost use Rattle.matrix.specs.Facts.{Matrix};
 ghost use Rattle.operations.specs.Calls.{flagSet, transposeFirst, transposeSecond, hasSecond, hasLists, callShapes};
-ghost use Rattle.operations.specs.Calls.{listValid, listsValid, matches, inputsAgree, shapesMeet};
+ghost use Rattle.operations.specs.Calls.{indexFits, listValid, listsValid, matches, inputsAgree, shapesMeet};
+ghost use Rattle.operations.specs.Lists.{Small};
 ghost use Rattle.operations.specs.GridOperations.{oriented, shapeOf, noShape};
 ghost use Rattle.refusals.specs.Cases.{numbersRefusal, agreementRefusal};
 ghost use Rattle.requests.specs.Refusal.{matricesRefusal, inputRefusal};
 ghost use Rattle.requests.specs.Inputs.{Valid};
+ghost use Rattle.requests.specs.Lists.{Seen};
 
 // The lowest of the refusals 1 to 9 that applies, or 0.
 pub fn input_refusal(
@@ -186,8 +191,9 @@ fn mask_valid(call: Call, mask: &[u32]) -> bool
     matrix::is_valid(mask)
 }
 
-// Each index is below n, and there are 1 to MAX_LIST of them.
+// Each index is below n, there are 1 to MAX_LIST of them, and none stands twice.
 fn list_valid(list: &[u32], n: usize) -> bool
+    requires { ⌜ n ≤ maxCols ⌝ }
     ensures { λ r. ⌜ r ≡ listValid n (now (list .entry)) ⌝ }
 {
     if list.len() < 1 {
@@ -196,11 +202,26 @@ fn list_valid(list: &[u32], n: usize) -> bool
     if MAX_LIST < list.len() {
         return false;
     }
-    let mut k = 0;
+    let mut seen = [0u64; MAP_WORDS];
+    indexes_distinct(list, n, &mut seen)
+}
+
+// Each index is below n, and none stands twice: `seen` gets a mark for each, and has none at first.
+fn indexes_distinct(list: &[u32], n: usize, seen: &mut [u64; MAP_WORDS]) -> bool
+    requires { ⌜ n ≤ maxCols ⌝ ∗ ⌜ Seen (now list) 0 0 (now seen) ⌝ }
+    ensures { λ r. ⌜ r ≡ all (length (now (list .entry))) (indexFits n (now (list .entry))) ⌝ }
+{
+    let mut top: u64 = 0;
+    let mut k: usize = 0;
     while k < list.len() {
-        if n <= list[k] as usize {
+        let j = list[k] as usize;
+        if n <= j {
             return false;
         }
+        if bit_rows::mark_at(seen, j) != 0 {
+            return false;
+        }
+        top = bit_rows::mark_column(top, seen, j);
         k += 1;
     }
     true
@@ -208,6 +229,7 @@ fn list_valid(list: &[u32], n: usize) -> bool
 
 // The index lists, where the operation has them, stay below their bounds.
 fn indexes_valid(operation: Operation, needs: Needs, is: &[u32], js: &[u32]) -> bool
+    requires { ⌜ Small maxCols (needs .bounds) ⌝ }
     ensures { λ r. ⌜ r ≡ listsValid operation (needs .bounds) (now (is .entry)) (now (js .entry)) ⌝ }
 {
     if !has_lists(operation) {
@@ -218,6 +240,7 @@ fn indexes_valid(operation: Operation, needs: Needs, is: &[u32], js: &[u32]) -> 
 }
 
 fn lists_valid(bounds: Shape, is: &[u32], js: &[u32]) -> bool
+    requires { ⌜ Small maxCols bounds ⌝ }
     ensures { λ r. ⌜ r ≡ (listValid (bounds .rows) (now (is .entry)) and listValid (bounds .cols) (now (js .entry))) ⌝ }
 {
     if !list_valid(is, bounds.rows) {

@@ -227,7 +227,7 @@ fn several_roles(work: &mut Workspace) {
     product(&mut words, masked(0), 7, 7, 7, 7, work);
     product(&mut words, plain(0), 7, 7, 9, 7, work);
     intersection(&mut words, plain(8), 4, 7, 7, 7, work);
-    extract(&mut words, 7, &[1, 1], &[0, 1], 7, work);
+    extract(&mut words, 7, &[1, 0], &[0, 1], 7, work);
 }
 
 // Several refusals apply to each call; the first of 12, 1, 2, 13, 7, 8, 9, 10, 11 is given.
@@ -242,6 +242,7 @@ fn refusals_in_order(work: &mut Workspace) {
     union(&mut words, plain(0), 8, 2, 2, 1, work);
     union(&mut words, plain(0), 3, 2, 2, 1, work);
     extract_in(&mut words, 0, &[2], &[], 0, 9, work);
+    extract_in(&mut words, 0, &[1, 0], &[1, 1], 0, 9, work);
     extract_in(&mut words, 0, &[1], &[1], 0, 9, work);
     extract_in(&mut words, 0, &[1], &[1], 1, 15308, work);
     extract(&mut words, 0, &[0], &[0], 1, work);

@@ -9,7 +9,7 @@ use ostrubel::MAX_ENTRIES;
 pub struct Size {
     pub entries: usize,
     pub side: usize,
-    /// The entries are those of so many times fewer rows and columns, each row and column number so many times as large.
+    /// The entries are those of so many times fewer rows and columns, with numbers so many times as large.
     pub spread: usize,
 }
 

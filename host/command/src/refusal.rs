@@ -4,6 +4,7 @@ use crate::call::{Call, Kind, Operation, Role};
 use crate::carry_out::{self, counted};
 use crate::names::{IndexList, Whole};
 use ostrubel::{Error, Store, MAX_COLS, MAX_INDEXES, MAX_ROWS, MAX_STORE_WORDS, MIN_STORE_WORDS, SLOTS};
+use std::collections::BTreeSet;
 use std::fmt;
 use std::path::Path;
 
@@ -216,7 +217,9 @@ fn index_list(option: &str, list: &IndexList, limit: u32) -> Option<String> {
     } else if indexes.len() > MAX_INDEXES {
         Some(format!("{option} has more than {MAX_INDEXES} indexes"))
     } else {
-        None
+        let mut seen = BTreeSet::new();
+        let twice = indexes.iter().find(|index| !seen.insert(index.index()));
+        twice.map(|index| format!("{option} has {index} twice"))
     }
 }
 

@@ -151,8 +151,8 @@ fn index_operators_after_transposing() {
 fn extract_by_lists() {
     let folder = worked_example();
     folder.script("s", "lay 4 3 2\nlay 5 4 3\nlay 6 3 4\n");
-    folder.prints("extract s 4 1 --rows 3,0..1 --cols 1,1", "place 4: 6 entries\n");
-    folder.prints("show s 4", "   0  1\n0  5  5\n1  3  3\n2  6  6\n");
+    folder.prints("extract s 4 1 --rows 3,0..1 --cols 1,0", "place 4: 5 entries\n");
+    folder.prints("show s 4", "   0  1\n0  5  0\n1  3  .\n2  6  9\n");
     folder.prints("extract s 5 1 --rows all --cols ALL", "place 5: 8 entries\n");
     assert_eq!(folder.accept("show s 5"), folder.accept("show s 1"));
     folder.prints("extract s 6 1 --rows all --cols all --transpose-a", "place 6: 8 entries\n");
@@ -246,7 +246,7 @@ fn what_the_help_says() {
             ][..],
         ),
         ("lay", &["ROWS 1 to 1000 COLS 1 to 1000", "A sheet has at most 2048 entries."]),
-        ("extract", &["A LIST has 1 to 1000 numbers."]),
+        ("extract", &["No row and no column is chosen twice.", "A LIST has 1 to 1000 numbers."]),
         ("mxm", &["plus.times is the ordinary product; min.plus adds the two values and keeps the smallest sum."]),
         ("options", &["Options may stand anywhere behind the command", "--mask 3 and --mask=3 are the same."]),
         ("show", &["A sheet of more than 60 rows, or one whose picture would be wider than 120 characters,"]),

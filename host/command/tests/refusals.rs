@@ -73,6 +73,8 @@ fn rows_and_columns_past_the_sheet_are_7() {
     let zeros = vec!["0"; 1_001].join(",");
     let line = format!("extract s 1 0 --rows {zeros} --cols 0");
     folder.refuses(&line, 7, "--rows has more than 1000 indexes, place 0 (A) is 2 by 3");
+    folder.refuses("extract s 1 0 --rows 0,0 --cols 0", 7, "--rows has 0 twice, place 0 (A) is 2 by 3");
+    folder.refuses("extract s 1 0 --rows 1,0 --cols 2,0..2", 7, "--cols has 2 twice, place 0 (A) is 2 by 3");
 }
 
 #[test]

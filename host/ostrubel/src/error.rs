@@ -35,7 +35,8 @@ pub enum Error {
     InvalidMask = 5,
     /// 6: the output is no valid matrix.
     InvalidOutput = 6,
-    /// 7: an index, row or column past the matrix, or an index list that is empty or has over [`MAX_INDEXES`] indexes.
+    /// 7: an index, row or column past the matrix, or an index list that is empty, has over [`MAX_INDEXES`] indexes or
+    /// has one of them twice.
     IndexOutOfBounds = 7,
     /// 8: rows or columns outside 1 to [`MAX_ROWS`] and [`MAX_COLS`], shapes that disagree, or more than one row where a
     /// vector is due.
@@ -103,7 +104,7 @@ impl Error {
             }
             Error::IndexOutOfBounds => format!(
                 "A row or column lies past the edge of the sheet, or a list of them does not have 1 to {MAX_INDEXES} \
-                 numbers: count rows and columns from 0, and stay within the sheet."
+                 numbers, each once: count rows and columns from 0, stay within the sheet, and name none twice."
             )
             .into(),
             Error::InvalidShape => format!(

@@ -132,18 +132,19 @@ impl Matrix {
         })
     }
 
-    /// At (i, j) the cell of A at row `rows[i]` and column `cols[j]`. An index may repeat.
+    /// At (i, j) the cell of A at row `rows[i]` and column `cols[j]`. The same index may stand in both lists.
     ///
-    /// `IndexOutOfBounds` where a list is empty or has over [`MAX_INDEXES`](crate::MAX_INDEXES) indexes, or an index is
-    /// outside A (as transposed).
+    /// `IndexOutOfBounds` where a list is empty, has over [`MAX_INDEXES`](crate::MAX_INDEXES) indexes or has one of them
+    /// twice, or an index is outside A (as transposed).
     ///
     /// ```
     /// use ostrubel::{Error, Matrix, Options};
     ///
     /// let a = Matrix::from_triples(3, 2, [(0, 0, 1), (1, 1, 2), (2, 0, 3)])?;
-    /// let mut c = Matrix::new(2, 3)?;
-    /// c.extract(&a, &[2, 1], &[0, 1, 0], &Options::new())?;
-    /// assert_eq!(c.to_triples(), [(0, 0, 3), (0, 2, 3), (1, 1, 2)]);
+    /// let mut c = Matrix::new(2, 2)?;
+    /// c.extract(&a, &[2, 1], &[1, 0], &Options::new())?;
+    /// assert_eq!(c.to_triples(), [(0, 1, 3), (1, 0, 2)]);
+    /// assert_eq!(c.extract(&a, &[2, 2], &[1, 0], &Options::new()), Err(Error::IndexOutOfBounds));
     /// # Ok::<(), Error>(())
     /// ```
     pub fn extract(

@@ -81,10 +81,10 @@ impl Store {
         })
     }
 
-    /// At (i, j) the cell of A at row `rows[i]` and column `cols[j]`. An index may repeat.
+    /// At (i, j) the cell of A at row `rows[i]` and column `cols[j]`. The same index may stand in both lists.
     ///
-    /// `IndexOutOfBounds` where a list is empty or has over [`MAX_INDEXES`](crate::MAX_INDEXES) indexes, or an index is
-    /// outside A (as transposed).
+    /// `IndexOutOfBounds` where a list is empty, has over [`MAX_INDEXES`](crate::MAX_INDEXES) indexes or has one of them
+    /// twice, or an index is outside A (as transposed).
     pub fn extract(
         &mut self,
         c: usize,

@@ -76,11 +76,13 @@ fn index_operators() -> Result<(), Error> {
 }
 
 #[test]
-fn extract_with_repeated_and_transposed_indexes() -> Result<(), Error> {
+fn extract_from_a_transposed_input() -> Result<(), Error> {
     let a = Matrix::from_triples(2, 3, [(0, 1, 4), (1, 2, 5)])?;
-    let mut c = Matrix::new(3, 1)?;
-    assert_eq!(c.extract(&a, &[2, 1, 2], &[1], &Options::new().transpose_first())?, 2);
-    assert_eq!(c.to_triples(), [(0, 0, 5), (2, 0, 5)]);
+    let mut c = Matrix::new(3, 2)?;
+    let transposed = Options::new().transpose_first();
+    // The same index in both lists is fine.
+    assert_eq!(c.extract(&a, &[2, 1, 0], &[1, 0], &transposed)?, 2);
+    assert_eq!(c.to_triples(), [(0, 0, 5), (1, 1, 4)]);
     Ok(())
 }
 

@@ -75,8 +75,10 @@ fn r7_cells_and_rows_outside() -> Result<(), Error> {
 fn r7_index_lists() -> Result<(), Error> {
     let a = matrix()?;
     let mut c = a.clone();
-    let too_long = [0; 1_001];
-    for (rows, cols) in [(&[3][..], &[0][..]), (&[0], &[2]), (&[], &[0]), (&[0], &[]), (&too_long, &[0])] {
+    let too_long: Vec<u32> = (0..1_001).collect();
+    let twice = [(&[0, 1, 0][..], &[0, 1][..]), (&[0, 1, 2], &[1, 1]), (&[2, 2], &[0])];
+    let other = [(&[3][..], &[0][..]), (&[0], &[2]), (&[], &[0]), (&[0], &[]), (&too_long, &[0])];
+    for (rows, cols) in twice.into_iter().chain(other) {
         refused(&mut c, Error::IndexOutOfBounds, |c| c.extract(&a, rows, cols, &Options::new()));
         refused(&mut store()?, Error::IndexOutOfBounds, |store| store.extract(0, 1, rows, cols, &Options::new()));
     }
@@ -222,7 +224,7 @@ fn errors_have_numbers_and_sentences() {
 #[test]
 fn sentences_have_the_limits() {
     for (error, part) in [
-        (Error::IndexOutOfBounds, "does not have 1 to 1000 numbers: "),
+        (Error::IndexOutOfBounds, "does not have 1 to 1000 numbers, each once: "),
         (Error::InvalidShape, "a sheet has 1 to 1000 rows and 1 to 1000 columns, "),
         (Error::WorkspaceTooShort, "at least 15309 words."),
         (Error::TooManyEntries, "more than 2048 entries: "),

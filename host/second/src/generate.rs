@@ -122,12 +122,27 @@ pub fn operation(rng: &mut Rng) -> Operation {
     }
 }
 
-/// An index list of this length into this many rows or columns, at times in order.
+/// An index list of this length into this many rows or columns, at times in order. An index occurs twice in one list of
+/// twenty, and where the list is longer than `side`.
 pub fn index_list(rng: &mut Rng, length: usize, side: u32) -> Vec<u32> {
-    if rng.percent(15) {
-        return (0..length as u32).map(|index| index % side).collect();
+    let mut list: Vec<u32> = (0..side.max(length as u32)).map(|index| index % side).collect();
+    if rng.percent(85) {
+        for at in 0..length {
+            let other = at + rng.below(list.len() - at);
+            list.swap(at, other);
+        }
     }
-    (0..length).map(|_| rng.below(side as usize) as u32).collect()
+    list.truncate(length);
+    if length > 1 && rng.once_in(20) {
+        repeat_index(rng, &mut list);
+    }
+    list
+}
+
+/// One index of a list in the place of another.
+fn repeat_index(rng: &mut Rng, list: &mut [u32]) {
+    let (from, to) = (rng.below(list.len()), rng.below(list.len()));
+    list[to] = list[from];
 }
 
 pub fn work(rng: &mut Rng) -> Work {
@@ -176,11 +191,12 @@ fn spoil_operation(rng: &mut Rng, operation: &mut Operation) {
         },
         Operation::Extract { rows, cols } => {
             let list = if rng.percent(50) { rows } else { cols };
-            match rng.below(6) {
+            match rng.below(7) {
                 0 => list.clear(),
                 1 => list.resize(MAX_LIST + 1, 0),
-                2 => list.resize(MAX_LIST, 0),
+                2 => *list = (0..MAX_LIST as u32).collect(),
                 3 => list.push(0),
+                4 if !list.is_empty() => repeat_index(rng, list),
                 _ if list.is_empty() => list.push(rng.pick(&[1, MAX_SIDE, u32::MAX])),
                 _ => {
                     let at = rng.below(list.len());

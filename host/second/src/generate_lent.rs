@@ -110,7 +110,8 @@ fn fit(rng: &mut Rng, operation: &mut Operation, options: &Options, [m, k, n]: [
         }
         Operation::Apply { .. } => Shapes { a: turned((m, n), first), b: (1, 1), c: (m, n) },
         Operation::Extract { rows, cols } => {
-            let (height, width) = (k, side(rng));
+            // No index occurs twice in lists that are no longer than A's sides.
+            let (height, width) = (k.max(m), side(rng).max(n));
             *rows = index_list(rng, m as usize, height);
             *cols = index_list(rng, n as usize, width);
             Shapes { a: turned((height, width), first), b: (1, 1), c: (m, n) }

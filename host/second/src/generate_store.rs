@@ -230,8 +230,8 @@ fn operation_calls(rng: &mut Rng, grids: Option<&StoreGrids>) -> Vec<StoreCall> 
     if let (Operation::Extract { rows, cols }, Some(grid)) = (&mut operation, grid_in(grids, a)) {
         let shape = grid_in(grids, c).map_or((2, 2), Grid::shape);
         let (height, width) = grid.transposed_if(options.has(TRANSPOSE_FIRST)).shape();
-        *rows = index_list(rng, shape.0 as usize, height);
-        *cols = index_list(rng, shape.1 as usize, width);
+        *rows = index_list(rng, shape.0.min(height) as usize, height);
+        *cols = index_list(rng, shape.1.min(width) as usize, width);
     }
     if let (Some(grids), Some(shape)) = (grids, shape_of_t(grids, &operation, &options, a, b)) {
         let fitting: Vec<usize> =

@@ -238,14 +238,23 @@ impl Model {
             return false;
         };
         let a = a.transposed_if(options.has(TRANSPOSE_FIRST) && !self.has(Fault::IndexAsStored));
-        let longest = match self.fault {
-            Fault::LongestListRefused => MAX_LIST - 1,
-            Fault::LongerListAccepted => MAX_LIST + 1,
-            _ => MAX_LIST,
+        let longest = MAX_LIST - usize::from(self.has(Fault::LongestListRefused));
+        let bad = |list: &[u32], side: u32| {
+            let past = list.iter().any(|&index| index >= side);
+            !(1..=longest).contains(&list.len()) || past || self.has_repeat(list)
         };
-        let bad =
-            |list: &[u32], side: u32| !(1..=longest).contains(&list.len()) || list.iter().any(|&index| index >= side);
-        bad(rows, a.rows) || bad(cols, a.cols)
+        let shared = self.has(Fault::SharedIndexRefused) && rows.iter().any(|index| cols.contains(index));
+        bad(rows, a.rows) || bad(cols, a.cols) || shared
+    }
+
+    /// Document 02, A9: "Extract now refuses 7 if an index occurs twice in the same list."
+    fn has_repeat(&self, list: &[u32]) -> bool {
+        match self.fault {
+            Fault::RepeatAccepted => false,
+            Fault::NeighboursComparedOnly => list.windows(2).any(|pair| pair[0] == pair[1]),
+            Fault::FirstComparedOnly => list.iter().skip(1).any(|index| *index == list[0]),
+            _ => list.iter().collect::<BTreeSet<_>>().len() < list.len(),
+        }
     }
 
     /// Whether refusal 8 applies to an operation whose sheets are all there.

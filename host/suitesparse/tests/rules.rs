@@ -1,4 +1,4 @@
-//! By which rules SuiteSparse computes, found by running. The first three tests are the differences from the papers,
+//! By which rules SuiteSparse computes, found by running. The first four tests are the differences from the papers,
 //! the others what both have in common.
 
 use suitesparse::{
@@ -89,6 +89,13 @@ fn the_index_of_a_vector_is_its_row() {
     let index = |op| applied(Apply::IndexUnary(op, 5), 0, &a, (1, 4)).unwrap();
     assert_eq!(index(IndexUnary::RowIndex), [(0, 0, 5), (0, 1, 5), (0, 3, 5)]);
     assert_eq!(index(IndexUnary::ColIndex), [(0, 0, 5), (0, 1, 6), (0, 3, 8)]);
+}
+
+#[test]
+fn an_index_may_repeat() {
+    let (c, descriptor) = (Matrix::new(2, 3).unwrap(), Descriptor::new(TRANSPOSE_FIRST).unwrap());
+    extract(&c, plain(&descriptor), &matrix(2, 3, &[(0, 2, 7), (1, 2, 0)]), &[2, 2], &[1, 0, 1]).unwrap();
+    assert_eq!(c.triples().unwrap(), [(0, 0, 0), (0, 1, 7), (0, 2, 0), (1, 0, 0), (1, 1, 7), (1, 2, 0)]);
 }
 
 // What is the same.
@@ -261,11 +268,4 @@ fn a_transpose_flag_with_nothing_to_act_on_is_ignored() {
     let (c, descriptor) = (Matrix::new(1, 1).unwrap(), Descriptor::new(TRANSPOSE_SECOND).unwrap());
     extract(&c, plain(&descriptor), &a, &[0], &[2]).unwrap();
     assert_eq!(values(&c), [7]);
-}
-
-#[test]
-fn an_index_may_repeat() {
-    let (c, descriptor) = (Matrix::new(2, 3).unwrap(), Descriptor::new(TRANSPOSE_FIRST).unwrap());
-    extract(&c, plain(&descriptor), &matrix(2, 3, &[(0, 2, 7), (1, 2, 0)]), &[2, 2], &[1, 0, 1]).unwrap();
-    assert_eq!(c.triples().unwrap(), [(0, 0, 0), (0, 1, 7), (0, 2, 0), (1, 0, 0), (1, 1, 7), (1, 2, 0)]);
 }

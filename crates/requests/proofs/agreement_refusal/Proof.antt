@@ -5,6 +5,7 @@ use denote.Ref.{now}
 use Rattle.conditions.proofs.Tests.{said-no, said-yes}
 use Rattle.matrix.specs.Layout.{gridOf}
 use Rattle.operations.specs.Calls.{indexesValid, shapesAgree}
+use Rattle.requests.proofs.Lists.{lists-within}
 use Rattle.requests.proofs.Refusals.{
   lists-tested,
   shapes-tested,
@@ -45,7 +46,10 @@ needs-of-requires : tie.Need-needs-of-requires
 needs-of-requires c κs = search needs
 
 indexes-valid-requires : tie.Need-indexes-valid-requires
-indexes-valid-requires c κs = search needs
+indexes-valid-requires c κs =
+    let x = start c .args in
+    lists-within _ _ _ _ _ (now (x .is)) (now (x .js)) (start c .pre) _ _ (c .before .shapes-of .ensures)
+    (c .needs-of .ensures)
 
 returns : tie.Need-returns
 returns c =

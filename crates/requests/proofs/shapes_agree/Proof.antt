@@ -20,7 +20,10 @@ returns-2 : tie.Need-returns-2
 unfolding _and_
 returns-2 c =
     let v = c .before .before in
-    rw (said-yes (v .before .vector-agrees .ensures) (v .if1 .left), said-no (c .before .inputs-agree .ensures) (c .if2 .taken))
+    rw (
+      said-yes (v .before .vector-agrees .ensures) (v .if1 .left),
+      said-no (c .before .inputs-agree .ensures) (c .if2 .taken),
+    )
 
 same-shape-requires : tie.Need-same-shape-requires
 same-shape-requires c κs = search needs

@@ -27,7 +27,7 @@ pub fn compute<'w>(request: &Request, inputs: &Inputs, work: &'w mut [u32]) -> R
         Operation::Apply(op) => write.rows(result, |i, t| apply_row(op, i as u32, a.row(i), t)),
         Operation::Extract { rows, cols } => {
             let mut dense = DenseRow::new();
-            let positions = Positions::new(cols, a.cols);
+            let positions = Positions::new(cols);
             write.rows(result, |i, t| extract_row(a.row(rows[i] as usize), &positions, &mut dense, t))
         }
     }
@@ -117,42 +117,30 @@ fn apply_row(op: ApplyOp, i: u32, a: Row, t: &mut RowBuffer) {
     }
 }
 
-/// For each column of A the positions in the index list at which it is named.
+/// For each column of A the position in the index list at which it is named, if it is.
 struct Positions {
-    starts: [u32; MAX_SIDE + 1],
     positions: [u32; MAX_SIDE],
     count: usize,
 }
 
-impl Positions {
-    fn new(list: &[u32], cols: usize) -> Self {
-        let mut starts = [0; MAX_SIDE + 1];
-        for &column in list {
-            starts[column as usize + 1] += 1;
-        }
-        for column in 0..cols {
-            starts[column + 1] += starts[column];
-        }
-        let mut next = starts;
-        let mut positions = [0; MAX_SIDE];
-        for (at, &column) in list.iter().enumerate() {
-            let next = &mut next[column as usize];
-            positions[*next as usize] = at as u32;
-            *next += 1;
-        }
-        Positions { starts, positions, count: list.len() }
-    }
+/// Of a column that the list does not name.
+const NOT_NAMED: u32 = u32::MAX;
 
-    fn of(&self, column: u32) -> &[u32] {
-        let column = column as usize;
-        &self.positions[self.starts[column] as usize..self.starts[column + 1] as usize]
+impl Positions {
+    fn new(list: &[u32]) -> Self {
+        let mut positions = [NOT_NAMED; MAX_SIDE];
+        for (at, &column) in list.iter().enumerate() {
+            positions[column as usize] = at as u32;
+        }
+        Positions { positions, count: list.len() }
     }
 }
 
-/// Puts each entry of a row at every position that names its column.
+/// Puts each entry of a row at the position that names its column.
 fn extract_row(a: Row, positions: &Positions, dense: &mut DenseRow, t: &mut RowBuffer) {
     for (k, x) in a.iter() {
-        for &j in positions.of(k) {
+        let j = positions.positions[k as usize];
+        if j != NOT_NAMED {
             dense.put(j, x);
         }
     }

@@ -126,6 +126,12 @@ fn oriented(shape: (usize, usize), transposed: bool) -> (usize, usize) {
     }
 }
 
+/// Whether a list has a right length and each of its indexes is below `side` and occurs once.
 fn list_valid(list: &[u32], side: usize) -> bool {
-    (1..=MAX_SIDE).contains(&list.len()) && list.iter().all(|&index| (index as usize) < side)
+    let mut marks = [false; MAX_SIDE];
+    let mut is_new = |index: u32| match marks[..side].get_mut(index as usize) {
+        None => false,
+        Some(mark) => !std::mem::replace(mark, true),
+    };
+    (1..=MAX_SIDE).contains(&list.len()) && list.iter().all(|&index| is_new(index))
 }
