@@ -1,8 +1,10 @@
 #!/bin/sh
-# The tests of what is in host/: the C test, the tests of the Rust programs, and the second program on random calls.
+# Where column numbers are read, and the tests of what is in host/: the C test, the tests of the Rust programs, and the
+# second program on random calls.
 set -e
 cd "$(dirname "$0")/.."
 PATH=$PATH:${CARGO_HOME:-$HOME/.cargo}/bin # where cargo is by default, though the PATH may lack it
+sh host/column_reads.sh
 sh host/library.sh
 sh host/c/run.sh
 # The archive that was just tested, and no earlier copy of it.

@@ -5,11 +5,13 @@ use answers::INVALID_FIRST;
 use grid::Cell;
 use matrix::layout::COLS_AT;
 use matrix::layout::ROWS_AT;
+use rows::FoundCell;
 ghost use mathlib.Core.Path.{_≡_};
-ghost use Rattle.matrix.specs.Layout.{cellOf, rowColumns};
-ghost use Rattle.matrix.specs.Facts.{Header, RowSpan};
-ghost use Rattle.rows.specs.Row.{Rises};
+ghost use Prim.Native.Nat.{_≤_, _<_};
 ghost use Rattle.answers.specs.Reads.{foundAnswer, refusedRead};
+ghost use Rattle.matrix.specs.Layout.{rows, rowColumns, cellOf};
+ghost use Rattle.matrix.specs.Facts.{Matrix};
+ghost use Rattle.rows.specs.Looks.{looksFor, mostLooks};
 ghost use Rattle.cells.specs.Read.{readAnswer};
 
 // The cell at row i and column j. INVALID_FIRST where the words are no valid matrix, INDEX_OUT_OF_BOUNDS where the row
@@ -26,13 +28,16 @@ pub fn read_cell(words: &[u32], i: u32, j: u32) -> CellAnswer
     if words[COLS_AT] <= j {
         return refused(INDEX_OUT_OF_BOUNDS);
     }
-    found(cell_at(words, i as usize, j))
+    let read = cell_at(words, i as usize, j);
+    let cell = read.cell;
+    found(cell)
 }
 
-// The cell at row i and column j of a valid matrix.
-pub fn cell_at(words: &[u32], i: usize, j: u32) -> Cell
-    requires { ⌜ Header (now words) ⌝ ∗ ⌜ RowSpan (now words) i ⌝ ∗ ⌜ Rises (rowColumns (now words) i) ⌝ }
-    ensures { λ r. ⌜ r ≡ cellOf (now (words .entry)) i j ⌝ }
+// The cell at row i and column j of a valid matrix, and how many column numbers were looked at: at most eleven.
+pub fn cell_at(words: &[u32], i: usize, j: u32) -> FoundCell
+    requires { ⌜ Matrix (now words) ⌝ ∗ ⌜ i < rows (now words) ⌝ }
+    ensures { λ r. ⌜ r .cell ≡ cellOf (now (words .entry)) i j ⌝
+        ∗ ⌜ r .looks ≡ looksFor j (rowColumns (now (words .entry)) i) ⌝ ∗ ⌜ r .looks ≤ mostLooks ⌝ }
 {
     rows::find_cell(
         matrix::row_columns(words, i),

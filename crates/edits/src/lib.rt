@@ -5,6 +5,7 @@ use matrix::layout::COUNT_PAST;
 use matrix::layout::ROWS_AT;
 use matrix::layout::STARTS_AT;
 use matrix::layout::VALUES_PAST;
+use rows::ColumnAt;
 ghost use mathlib.Core.Path.{_≡_};
 ghost use Prim.Native.Nat.{_<_};
 ghost use Rattle.limits.specs.Limits.{maxEntries};
@@ -30,16 +31,13 @@ pub fn find_entry(words: &[u32], i: usize, j: u32) -> EntryAt
     requires { ⌜ Matrix (now words) ⌝ ∗ ⌜ i < rows (now words) ⌝ }
     ensures { λ r. ⌜ r ≡ entryAt (gridOf (now (words .entry))) i j ⌝ }
 {
-    let columns = matrix::row_columns(words, i);
-    let k = rows::find_column(columns, j);
-    let p = words[i + STARTS_AT] as usize + k;
-    if columns.len() <= k {
-        return EntryAt::Absent(p);
+    let found = rows::find_column(matrix::row_columns(words, i), j);
+    let start = words[i + STARTS_AT] as usize;
+    let place = found.place;
+    match place {
+        ColumnAt::Present(k) => EntryAt::Present(start + k),
+        ColumnAt::Absent(k) => EntryAt::Absent(start + k),
     }
-    if columns[k] != j {
-        return EntryAt::Absent(p);
-    }
-    EntryAt::Present(p)
 }
 
 // The entry of row i and column j, at position p, takes the value v.

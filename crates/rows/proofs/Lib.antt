@@ -6,3 +6,5 @@ pub mod Lookup
 pub mod Holds
 pub mod Walk
 pub mod Cursors
+pub mod Halving
+pub mod Places

@@ -84,3 +84,11 @@ rises-rising bound low (c ∷ cs) r a b =
     (record { up = λ k m l h. r .up (suc k) (suc m) (omega arith) (omega arith) })
     (λ m h. let u : c < at cs m = r .up 0 (suc m) (omega arith) (omega arith) in omega arith)
     (λ m h. b (suc m) (omega arith))))
+
+-- columns that rise strictly below a bound are no more than the bound
+pub rising-few : (bound low : ℕ) (l : List ℕ) → rising bound low l ≡ true → low ≤ bound → low + length l ≤ bound
+rising-few bound low [] h b = omega arith
+rising-few bound low (c ∷ l) h b =
+    let s = step bound low c l h in
+    let u = rising-few bound (c + 1) l (s .rest) (omega arith) in
+    omega arith

@@ -195,7 +195,9 @@ pub fn read_cell(store: &[u32], slot: usize, i: u32, j: u32) -> CellAnswer
     if code != 0 {
         return cells::refused(code);
     }
-    cells::found(cells::cell_at(slots::contents(store, slot), i as usize, j))
+    let read = cells::cell_at(slots::contents(store, slot), i as usize, j);
+    let cell = read.cell;
+    cells::found(cell)
 }
 
 // 12, 13 and 7 of a call that names a cell.

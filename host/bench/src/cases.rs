@@ -6,7 +6,7 @@ use crate::jobs::{
     STORE_WORDS, STRUCTURAL, TRANSPOSE_FIRST, WORK_WORDS,
 };
 use crate::peer::{self, Peer};
-use crate::scene::{Scene, Size, SIZES};
+use crate::scene::{full_row, Scene, Size, SIZES};
 use crate::timing::Subject;
 use ostrubel::calls::OptionNumbers;
 use ostrubel::SLOTS;
@@ -16,6 +16,8 @@ use std::rc::Rc;
 #[derive(Clone, Copy, Debug, PartialEq, Eq)]
 pub enum Section {
     Parts,
+    /// The cells of one row, read one by one.
+    Row,
     Lent(Size),
     Store(Size),
 }
@@ -54,6 +56,7 @@ const EVERYTHING_TEXT: &str = "mask, accumulator, replace";
 pub fn all_cases() -> Result<Vec<Case>, String> {
     let scenes: Vec<Scene> = SIZES.into_iter().map(Scene::new).collect();
     let mut cases = part_cases(&scenes)?;
+    cases.push(row_case()?);
     for scene in &scenes {
         cases.extend(lent_cases(scene)?);
     }
@@ -83,6 +86,18 @@ fn part_case(call: &'static str, variant: &str, job: Job) -> Result<Case, String
     let Agreed { subjects: [library, ordinary], .. } = agree(job, call, variant)?;
     let subjects = [Some(library), Some(ordinary), None];
     Ok(Case { section: Section::Parts, call, variant: variant.to_string(), entries: None, subjects })
+}
+
+/// Reads of each cell of a row with 400 entries. The call is a read of one cell; all of them are timed together.
+fn row_case() -> Result<Case, String> {
+    let (call, variant) = ("`read_cell`", "each of the 512 cells of a row with 400 entries, 512 calls");
+    let vector = full_row();
+    let words = vector.words();
+    let peer = agree_peer(peer::row(&vector), &words, call, variant)?;
+    let job = Job::ReadRow { words, cols: vector.cols as u32 };
+    let Agreed { subjects: [library, ordinary], .. } = agree(job, call, variant)?;
+    let subjects = [Some(library), Some(ordinary), peer];
+    Ok(Case { section: Section::Row, call, variant: variant.to_string(), entries: None, subjects })
 }
 
 /// The two programs for a job on which they agree, and what they left.

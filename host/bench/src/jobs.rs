@@ -66,6 +66,11 @@ pub enum Job {
     Check(Vec<u32>),
     /// Zeros over the workspace, by no call.
     Fill,
+    /// Each cell of a lent vector, read one by one.
+    ReadRow {
+        words: Vec<u32>,
+        cols: u32,
+    },
     Lent(LentJob),
     /// A call on a store with these words.
     Store(StoreCall, Vec<u32>),
@@ -75,14 +80,14 @@ impl Job {
     /// Old C or the old store into their buffer. The workspace is as the last call left it: zeros.
     pub fn restore(&self, buffers: &mut Buffers) {
         match self {
-            Job::Check(_) | Job::Fill => {}
+            Job::Check(_) | Job::Fill | Job::ReadRow { .. } => {}
             Job::Lent(job) => buffers.c[..job.c.len()].copy_from_slice(&job.c),
             Job::Store(_, store) => buffers.store.copy_from_slice(store),
         }
     }
 
     pub fn repeats(&self) -> bool {
-        matches!(self, Job::Check(_) | Job::Fill | Job::Store(StoreCall::ReadCell { .. }, _))
+        matches!(self, Job::Check(_) | Job::Fill | Job::ReadRow { .. } | Job::Store(StoreCall::ReadCell { .. }, _))
     }
 }
 
@@ -102,6 +107,9 @@ macro_rules! program {
                         buffers.work.fill(0);
                         0
                     }
+                    Job::ReadRow { words, cols } => (0..*cols).fold(0, |answers: u64, j| {
+                        answers.wrapping_mul(31) ^ $calls::read_cell(0, j, black_box(words))
+                    }),
                     Job::Lent(job) => lent(job, &mut buffers.c, &mut buffers.work),
                     Job::Store(call, _) => store(call, &mut buffers.store, &mut buffers.work),
                 }

@@ -77,3 +77,8 @@ impl Scene {
 fn with_words((a, b): (Entries, Entries), words: &'static str) -> (Entries, Entries, &'static str) {
     (a, b, words)
 }
+
+/// A vector of 512 columns with 400 entries.
+pub fn full_row() -> Entries {
+    Entries::random(&mut Rng::new(SEED), 1, 512, 400)
+}

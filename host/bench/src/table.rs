@@ -32,6 +32,7 @@ fn title(section: Section) -> String {
     let size = |Size { entries, side, .. }: Size| format!("{entries} entries in {side} rows and columns");
     match section {
         Section::Parts => "Validating and clearing alone".to_string(),
+        Section::Row => "The cells of a row".to_string(),
         Section::Lent(of) => format!("{}: lent matrices", size(of)),
         Section::Store(of) => format!("{}: a store of {STORE_WORDS} words", size(of)),
     }

@@ -3,14 +3,15 @@
 //! and every word of every lent buffer are held against the model's.
 //!
 //! `calls` says what a call is; `operators`, `grid`, `model`, `lent` and `store_grids` are the model, with
-//! places for the planted faults of `fault`; `generate*` makes calls; `ffi` and `library` carry them
-//! out; `compare` finds differences; `shrink` and `describe` show a small failing case.
+//! places for the planted faults of `fault`; `generate*` makes calls, `full_rows` those on each cell of a row; `ffi` and
+//! `library` carry them out; `compare` finds differences; `shrink` and `describe` show a small failing case.
 
 pub mod calls;
 pub mod compare;
 pub mod describe;
 pub mod fault;
 mod ffi;
+pub mod full_rows;
 mod generate;
 pub mod generate_lent;
 pub mod generate_store;

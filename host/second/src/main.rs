@@ -7,7 +7,7 @@ use second::compare::{judge_lent, judge_list, see_lent, see_list, Seen};
 use second::fault::{self, Fault};
 use second::model::{Model, SOUND};
 use second::rng::Rng;
-use second::{describe, generate_lent, generate_store, shrink};
+use second::{describe, full_rows, generate_lent, generate_store, shrink};
 use std::collections::{BTreeMap, BTreeSet};
 use std::process::ExitCode;
 use std::time::Instant;
@@ -15,7 +15,7 @@ use std::time::Instant;
 const USAGE: &str = "\
 second [--seed N] [--calls N] [--lists N] [--faults] [--fault N]
 
-Compares the library with a model on random calls.
+Compares the library with a model on each cell of some rows, and on random calls.
   --seed N    the seed of all random choices (1)
   --calls N   calls on lent sheets (200000; 40000 with --faults)
   --lists N   lists of calls on a store, of about 15 calls (a twentieth of the calls)
@@ -125,51 +125,89 @@ impl Counts {
     }
 }
 
-fn compare_all(arguments: &Arguments) -> ExitCode {
-    let &Arguments { seed, calls, lists, fault, .. } = arguments;
-    let model = Model { fault };
-    let begin = Instant::now();
-    let mut counts = Counts::default();
-    for number in 0..calls {
-        let call = make_call(seed, number);
+/// Compares calls and lists with a model, counting the answers. A disagreement is shown, and is the error.
+struct Comparison {
+    model: Model,
+    counts: Counts,
+}
+
+struct Disagreement;
+
+impl Comparison {
+    fn call(&mut self, case: &str, call: LentCall) -> Result<(), Disagreement> {
         let seen = see_lent(&call);
-        if !judge_lent(model, &call, &seen).is_empty() {
-            report_call(model, seed, number, call);
-            return ExitCode::FAILURE;
+        if !judge_lent(self.model, &call, &seen).is_empty() {
+            report_call(self.model, case, call);
+            return Err(Disagreement);
         }
-        counts.add(&seen);
+        self.counts.add(&seen);
+        Ok(())
+    }
+
+    fn list(&mut self, case: &str, list: StoreList) -> Result<(), Disagreement> {
+        let seen = see_list(&list);
+        if judge_list(self.model, &list, &seen).is_some() {
+            report_list(self.model, case, list);
+            return Err(Disagreement);
+        }
+        seen.iter().for_each(|seen| self.counts.add(seen));
+        Ok(())
+    }
+}
+
+fn compare_all(arguments: &Arguments) -> ExitCode {
+    match compare_rows(arguments).and_then(|()| compare_random(arguments)) {
+        Ok(()) => ExitCode::SUCCESS,
+        Err(Disagreement) => ExitCode::FAILURE,
+    }
+}
+
+/// Each cell of rows with few, many and all columns.
+fn compare_rows(arguments: &Arguments) -> Result<(), Disagreement> {
+    let mut comparison = Comparison { model: Model { fault: arguments.fault }, counts: Counts::default() };
+    for (number, call) in full_rows::reads().into_iter().enumerate() {
+        comparison.call(&format!("rows, read {number}"), call)?;
+    }
+    for (row, list) in full_rows::lists().into_iter().enumerate() {
+        comparison.list(&format!("rows, row {row} in a store"), list)?;
+    }
+    comparison.counts.print();
+    println!("each cell of the rows, {} calls: no disagreement", comparison.counts.total());
+    Ok(())
+}
+
+fn compare_random(arguments: &Arguments) -> Result<(), Disagreement> {
+    let &Arguments { seed, calls, lists, fault, .. } = arguments;
+    let mut comparison = Comparison { model: Model { fault }, counts: Counts::default() };
+    let begin = Instant::now();
+    for number in 0..calls {
+        comparison.call(&format!("seed {seed}, call {number}"), make_call(seed, number))?;
     }
     let lent_seconds = begin.elapsed().as_secs_f64();
     for number in 0..lists {
-        let list = make_list(seed, number);
-        let seen = see_list(&list);
-        if judge_list(model, &list, &seen).is_some() {
-            report_list(model, seed, number, list);
-            return ExitCode::FAILURE;
-        }
-        seen.iter().for_each(|seen| counts.add(seen));
+        comparison.list(&format!("seed {seed}, list {number}"), make_list(seed, number))?;
     }
-    counts.print();
-    let total = counts.total();
+    comparison.counts.print();
+    let total = comparison.counts.total();
     println!("seed {seed}: {calls} calls on lent sheets in {lent_seconds:.1} s,");
     println!(
         "{lists} lists with {} calls on a store in {:.1} s: no disagreement",
         total - calls,
         begin.elapsed().as_secs_f64() - lent_seconds
     );
-    ExitCode::SUCCESS
+    Ok(())
 }
 
-fn report_call(model: Model, seed: u64, number: u64, call: LentCall) {
-    println!("seed {seed}, call {number}: the model and the library disagree; the case, made small:");
+fn report_call(model: Model, case: &str, call: LentCall) {
+    println!("{case}: the model and the library disagree; the case, made small:");
     let fails = |call: &LentCall| !judge_lent(model, call, &see_lent(call)).is_empty();
     let small = shrink::lent_call(call, fails);
     describe::lent_call(&small).iter().for_each(|line| println!("{line}"));
     judge_lent(model, &small, &see_lent(&small)).iter().for_each(|line| println!("{line}"));
 }
 
-fn report_list(model: Model, seed: u64, number: u64, list: StoreList) {
-    println!("seed {seed}, list {number}: the model and the library disagree; the case, made small:");
+fn report_list(model: Model, case: &str, list: StoreList) {
+    println!("{case}: the model and the library disagree; the case, made small:");
     let fails = |list: &StoreList| judge_list(model, list, &see_list(list)).is_some();
     let small = shrink::store_list(list, fails);
     describe::store_list(&small).iter().for_each(|line| println!("{line}"));

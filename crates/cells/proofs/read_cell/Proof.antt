@@ -4,10 +4,9 @@ use mathlib.Core.Path.{_≡_, ap, _∙_}
 use mathlib.Core.Bool.{true}
 use denote.Ref.{now}
 use Rattle.conditions.proofs.Tests.{said-no, said-yes}
-use Rattle.rows.proofs.Rising.{rising-rises}
 use Rattle.matrix.specs.Valid.{valid}
 use Rattle.matrix.specs.Facts.{Matrix}
-use Rattle.matrix.proofs.Facts.{matrix-facts, row-span}
+use Rattle.matrix.proofs.Facts.{matrix-facts}
 use Rattle.answers.specs.Reads.{foundAnswer}
 use Rattle.cells.proofs.Cases.{read-invalid, read-past-rows, read-past-cols, read-found}
 use borrow.Author.Needs.{needs}
@@ -52,12 +51,7 @@ returns-3 c =
     c .refused3 .ensures ∙ read-past-cols _ _ _ (held (q .before .before)) (q .if2 .left) (c .before .if3 .taken)
 
 cell-at-requires : tie.Need-cell-at-requires
-cell-at-requires c κs =
-    let q = c .before .before in
-    let m = facts (q .before .before) in (
-      m .header,
-      (row-span _ (m .starts) _ (q .if2 .left), rising-rises _ _ _ (m .rising _ (q .if2 .left))),
-    )
+cell-at-requires c κs = let q = c .before .before in (facts (q .before .before), q .if2 .left)
 
 found-requires : tie.Need-found-requires
 found-requires c κs = search needs
@@ -65,7 +59,7 @@ found-requires c κs = search needs
 returns-4 : tie.Need-returns-4
 returns-4 c =
     let q = c .before .before .before .before in
-    c .found .ensures ∙ ap foundAnswer (c .before .cell-at .ensures)
+    c .found .ensures ∙ ap foundAnswer (c .before .cell-at .ensures .0)
     ∙ read-found _ _ _ (held (q .before .before)) (q .if2 .left) (c .before .before .if3 .left)
 
 pub read-cell-spec : {M : Type 1} → statement M

@@ -1,67 +1,72 @@
--- `find_entry` finds `entryAt`.
+-- `find_entry` finds `entryAt`: the place in the row, behind the start of the row.
 use native.Mathlib.Omega.{arith}
-use Rattle.edits.proofs.Found.{span, row, found-fits, found-absent, found-present}
+use Rattle.edits.proofs.Found.{span, row, present-fits, present-entry, absent-fits, absent-entry}
 use borrow.Author.Needs.{needs}
 use Rattle.edits.proofs.find_entry.Statement.{statement}
 use Rattle.edits.proofs.find_entry.Tie as tie
+
+-- where the row's columns were taken, from the search
+abbrev taken : tie.After-find-column → tie.After-row-columns
+taken c = c .before
+
+-- where the function starts
+abbrev start : tie.After-row-columns → tie.Start
+start c = c .before .before
 
 row-columns-requires : tie.Need-row-columns-requires
 row-columns-requires c κs = let a = c .before .pre in (a .0 .header, span (a .0) (a .1))
 
 find-column-requires : tie.Need-find-column-requires
-find-column-requires c κs =
-    let a = c .before .before .pre in rw (c .row-columns .ensures .words) (row (a .0) (a .1) .rises)
+find-column-requires c κs = let a = start c .pre in rw (c .row-columns .ensures .words) (row (a .0) (a .1) .rises)
 
-add-p : tie.Need-add-p
-add-p c = search needs
+add-start : tie.Need-add-start
+add-start c = search needs
 
-mul-p : tie.Need-mul-p
-mul-p c = search needs
+mul-start : tie.Need-mul-start
+mul-start c = search needs
 
-shared-slice-read-p : tie.Need-shared-slice-read-p
-shared-slice-read-p c = search needs
+shared-slice-read-start : tie.Need-shared-slice-read-start
+shared-slice-read-start c = search needs
 
-cast-p : tie.Need-cast-p
-cast-p c =
-    let a = c .before .before .before .before .pre in let b = span (a .0) (a .1) in omega arith
+cast-start : tie.Need-cast-start
+cast-start c =
+    let a = start (taken (c .before)) .pre in let b = span (a .0) (a .1) in omega arith
 
-add-p-2 : tie.Need-add-p-2
-add-p-2 c =
-    let q = c .before in
-    let r = q .before in
-    let a = r .before .before .pre in
-    let l = found-fits (a .0) (a .1) _ _ _ (r .row-columns .ensures .words) (q .find-column .ensures) in
+enum-known-place : tie.Need-enum-known-place
+enum-known-place c = search needs
+
+add-t15 : tie.Need-add-t15
+add-t15 c =
+    let f = c .before .before .before .before in
+    let a = start (taken f) .pre in
+    let l = present-fits (a .0) (a .1) _ _ _ (taken f .row-columns .ensures .words) (f .find-column .ensures .0) _
+    (c .before .place .given .1) in
+    omega arith
+
+enum-known-place-2 : tie.Need-enum-known-place-2
+enum-known-place-2 c = search needs
+
+add-t16 : tie.Need-add-t16
+add-t16 c =
+    let f = c .before .before .before .before in
+    let a = start (taken f) .pre in
+    let l = absent-fits (a .0) (a .1) _ _ _ (taken f .row-columns .ensures .words) (f .find-column .ensures .0) _
+    (c .before .place2 .given .1) in
     omega arith
 
 returns : tie.Need-returns
 returns c =
-    let q = c .before .before in
-    let r = q .before in
-    let a = r .before .before .pre in
-    found-absent (a .0) (a .1) _ _ _ (r .row-columns .ensures .words) (q .find-column .ensures)
-    (λ l e. absurd (omega arith))
-
-mul-if2 : tie.Need-mul-if2
-mul-if2 c = search needs
-
-shared-slice-read-if2 : tie.Need-shared-slice-read-if2
-shared-slice-read-if2 c = search needs
+    let f = c .before .before .before .before in
+    let a = start (taken f) .pre in
+    present-entry (a .0) (a .1) _ _ _ (taken f .row-columns .ensures .words) (f .find-column .ensures .0) _
+    (c .before .place .given .1)
 
 returns-2 : tie.Need-returns-2
 returns-2 c =
-    let q = c .before .before .before .before in
-    let r = q .before in
-    let a = r .before .before .pre in
-    found-absent (a .0) (a .1) _ _ _ (r .row-columns .ensures .words) (q .find-column .ensures)
-    (λ l e. absurd (omega arith))
-
-returns-3 : tie.Need-returns-3
-returns-3 c =
-    let q = c .before .before .before .before in
-    let r = q .before in
-    let a = r .before .before .pre in
-    found-present (a .0) (a .1) _ _ _ (r .row-columns .ensures .words) (q .find-column .ensures)
-    (omega arith) (omega arith)
+    let f = c .before .before .before .before in
+    let a = start (taken f) .pre in
+    absent-entry (a .0) (a .1) _ _ _ (taken f .row-columns .ensures .words) (f .find-column .ensures .0) _
+    (c .before .place2 .given .1)
 
 pub find-entry-spec : {M : Type 1} → statement M
 find-entry-spec =
@@ -69,13 +74,13 @@ find-entry-spec =
     (tie.spec
     row-columns-requires
     find-column-requires
-    add-p
-    mul-p
-    shared-slice-read-p
-    cast-p
-    add-p-2
+    add-start
+    mul-start
+    shared-slice-read-start
+    cast-start
+    enum-known-place
+    add-t15
+    enum-known-place-2
+    add-t16
     returns
-    mul-if2
-    shared-slice-read-if2
-    returns-2
-    returns-3)
+    returns-2)

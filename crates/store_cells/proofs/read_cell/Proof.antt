@@ -3,11 +3,8 @@ use Prim.Native.Nat.{ℕ}
 use mathlib.Core.Path.{ap, _∙_}
 use mathlib.Core.List.{List}
 use denote.Ref.{now}
-use Rattle.rows.proofs.Rising.{rising-rises}
-use Rattle.matrix.specs.Layout.{rowColumns, cellOf}
-use Rattle.matrix.proofs.Facts.{row-span}
+use Rattle.matrix.specs.Layout.{cellOf}
 use Rattle.answers.specs.Reads.{foundAnswer}
-use Rattle.slots.specs.Sections.{slotAt}
 use Rattle.model.specs.Effects.{found}
 use Rattle.store_cells.proofs.Checks.{unchecked, Checked, checked}
 use Rattle.store_cells.proofs.Refusals.{Reached, reached}
@@ -57,13 +54,7 @@ contents-requires c κs = let h = there c .cell in (h .store .sections, h .slot)
 
 cell-at-requires : tie.Need-cell-at-requires
 cell-at-requires c κs =
-    let e = c .before in
-    let h = there e .cell in
-    let m = h .held .matrix in
-    let p = start (e .before .before) .args in
-    let columns = rowColumns (slotAt (now (p .store)) (p .slot)) (p .i) in
-    rw (c .contents .ensures .words)
-    (m .header, (row-span _ (m .starts) (p .i) (h .row), rising-rises _ _ columns (m .rising (p .i) (h .row))))
+    let h = there (c .before) .cell in rw (c .contents .ensures .words) (h .held .matrix, h .row)
 
 found-requires : tie.Need-found-requires
 found-requires c κs = search needs
@@ -73,7 +64,7 @@ returns-3 c =
     let q = c .before .before in
     let e = q .before in
     let p = start (e .before .before) .args in
-    ap found (c .found .ensures ∙ ap foundAnswer (c .before .cell-at .ensures
+    ap found (c .found .ensures ∙ ap foundAnswer (c .before .cell-at .ensures .0
     ∙ ap (λ (x : List ℕ). cellOf x (p .i) (p .j)) (q .contents .ensures .words)))
     ∙ read-found _ _ _ _ (there e)
 

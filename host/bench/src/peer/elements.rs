@@ -24,6 +24,36 @@ pub fn element(call: &StoreCall, matrix: &Entries) -> Option<Box<dyn Peer>> {
     Some(Box::new(call))
 }
 
+/// Reads of each cell of a vector.
+pub fn row(vector: &Entries) -> Option<Box<dyn Peer>> {
+    suitesparse::version().expect("SuiteSparse starts");
+    Some(Box::new(RowRead { matrix: objects::Matrix::new(vector) }))
+}
+
+struct RowRead {
+    matrix: objects::Matrix,
+}
+
+impl Subject for RowRead {
+    fn restore(&mut self, _: &mut Buffers) {}
+
+    fn call(&mut self, _: &mut Buffers) {
+        for j in 0..self.matrix.cols as u64 {
+            black_box(self.matrix.get(0, j));
+        }
+    }
+
+    fn repeats(&self) -> bool {
+        true
+    }
+}
+
+impl Peer for RowRead {
+    fn result(&self) -> Entries {
+        self.matrix.entries(self.matrix.rows, self.matrix.cols)
+    }
+}
+
 enum Change {
     Nothing,
     Set(i32),
@@ -79,6 +109,8 @@ mod objects {
     type Handle = *mut c_void;
 
     const MATERIALIZE: c_int = 1;
+    /// The info of an element that is not present.
+    const NO_VALUE: c_int = 1;
 
     extern "C" {
         static GrB_INT32: Handle;
@@ -142,15 +174,24 @@ mod objects {
             value
         }
 
+        /// The value of an element, if it is present.
+        pub fn get(&self, i: u64, j: u64) -> Option<i32> {
+            let mut value = 0;
+            match unsafe { GrB_Matrix_extractElement_INT32(&mut value, self.handle, i, j) } {
+                NO_VALUE => None,
+                info => {
+                    checked(info);
+                    Some(value)
+                }
+            }
+        }
+
         /// All entries, found one by one.
         pub fn entries(&self, rows: usize, cols: usize) -> Entries {
             let mut entries = Entries::new(rows, cols);
             for i in 0..rows as u32 {
                 for j in 0..cols as u32 {
-                    let mut value = 0;
-                    let info =
-                        unsafe { GrB_Matrix_extractElement_INT32(&mut value, self.handle, u64::from(i), u64::from(j)) };
-                    if info == 0 {
+                    if let Some(value) = self.get(u64::from(i), u64::from(j)) {
                         entries.cells.insert((i, j), value);
                     }
                 }

@@ -11,7 +11,7 @@ use crate::entries::Entries;
 use crate::jobs::{LentJob, StoreCall};
 use crate::timing::Subject;
 #[cfg(feature = "suitesparse")]
-pub use elements::element;
+pub use elements::{element, row};
 #[cfg(feature = "suitesparse")]
 pub use operations::operation;
 
@@ -30,6 +30,12 @@ pub fn operation(_: &LentJob) -> Option<Box<dyn Peer>> {
 /// A call on one cell of a slot's matrix.
 #[cfg(not(feature = "suitesparse"))]
 pub fn element(_: &StoreCall, _: &Entries) -> Option<Box<dyn Peer>> {
+    None
+}
+
+/// Each cell of a vector, read one by one.
+#[cfg(not(feature = "suitesparse"))]
+pub fn row(_: &Entries) -> Option<Box<dyn Peer>> {
     None
 }
 

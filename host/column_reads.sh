@@ -1,0 +1,54 @@
+#!/bin/sh
+# No column number is read uncounted while a cell is found: of the functions that find one, this lists every place of lent
+# words that is read and every call into another crate, and compares the list with the one below. There the columns of a
+# row are read by `row_valid`, which checks a matrix, and by `look`, which counts; the other places are the shape, the row
+# starts, N and the values. `row_columns` and `row_values` cut the parts of a row out without reading them.
+set -eu
+cd "$(dirname "$0")/.."
+
+# list CRATE PATTERN: the functions of a crate whose names match
+list() {
+    awk -v crate="$1" -v wanted="^($2)\$" '
+        /^ *\/\// || /⌜/ { next }
+        /^(pub )?(extern "C" )?fn / { name = $0; sub(/^.*fn /, "", name); sub(/[(<].*/, "", name) }
+        name ~ wanted {
+            line = $0
+            while (match(line, /[A-Za-z_0-9)]+\[[^]]*\]?|[a-z_0-9]+::[a-z_0-9]+\(/)) {
+                print crate, name ":", substr(line, RSTART, RLENGTH)
+                line = substr(line, RSTART + RLENGTH)
+            }
+        }' "crates/$1/src/lib.rt"
+}
+
+found=$(
+    list rows '.*'
+    list cells '.*'
+    list edits 'find_entry'
+    list matrix 'row_columns|row_values'
+)
+expected='rows row_valid: columns[k]
+rows look: columns[k]
+rows cell_beside: values[p]
+cells read_cell: matrix::is_valid(
+cells read_cell: words[ROWS_AT]
+cells read_cell: words[COLS_AT]
+cells cell_at: rows::find_cell(
+cells cell_at: matrix::row_columns(
+cells cell_at: matrix::row_values(
+edits find_entry: rows::find_column(
+edits find_entry: matrix::row_columns(
+edits find_entry: words[i + STARTS_AT]
+matrix row_columns: words[ROWS_AT]
+matrix row_columns: words[i + STARTS_AT]
+matrix row_columns: words[i + 1 + STARTS_AT]
+matrix row_columns: words[from..to]
+matrix row_values: words[ROWS_AT]
+matrix row_values: words[r + COUNT_PAST]
+matrix row_values: words[i + STARTS_AT]
+matrix row_values: words[i + 1 + STARTS_AT]
+matrix row_values: words[from..to]'
+if [ "$found" != "$expected" ]; then
+    echo "column_reads: the functions that find a cell read other places than those listed in host/column_reads.sh:" >&2
+    echo "$found" >&2
+    exit 1
+fi
