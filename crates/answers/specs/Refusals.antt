@@ -26,7 +26,8 @@ invalidMask = 5
 abbrev pub invalidOutput : ℕ
 invalidOutput = 6
 
--- "an index, row or column past A (as transposed) or past the sheet named"; a list shorter than 1 or longer than 1,000
+-- "an index, row or column past A (as transposed) or past the sheet named"; a list shorter than 1 or longer than 1,000,
+-- or with an index twice (document 02, A9)
 abbrev pub indexOutOfBounds : ℕ
 indexOutOfBounds = 7
 

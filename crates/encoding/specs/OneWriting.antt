@@ -30,7 +30,7 @@ abbrev pub matrixWords : List ℕ → List ℕ
 matrixWords s = take (size s) s
 
 pub record OneWriting : Type 0 where
-  -- a grid whose "R and C are 1 to 512, N is 0 to 2,048" has a writing that is a valid matrix, whatever spare words
+  -- a grid whose "R and C are 1 to 512" (A6: 1,000), "N is 0 to 2,048" has a writing that is a valid matrix, whatever spare words
   -- follow
   pub written : (g : Grid) (spare : List ℕ) → Within g → valid (encode g ++ spare) ≡ true
   -- "Its size is R + 2N + 7 words."

@@ -43,7 +43,7 @@ use Rattle.histories.specs.Lists.{
 }
 use Rattle.histories.specs.Promise.{PossibleRun}
 use Rattle.histories.proofs.Functions.{told, possible}
-use Rattle.histories.proofs.Hosts.{HostTold, host-told}
+use Rattle.histories.proofs.Hosts.{host-told}
 use Rattle.histories.proofs.Stored.{Written, written-model, alike-written, fresh-fits, fresh-written, held-fits}
 
 -- ---- one call

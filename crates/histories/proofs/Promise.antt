@@ -1,7 +1,8 @@
 -- The promise is kept.
+use Rattle.histories.specs.Hosts.{host-functions}
 use Rattle.histories.specs.Promise.{Promise}
 use Rattle.histories.proofs.Functions.{met, known, free, cleared, told, possible}
-use Rattle.histories.proofs.Hosts.{host-met, host-known, host-free}
+use Rattle.histories.proofs.Hosts.{host-told}
 use Rattle.histories.proofs.Claim.{kept, claim, resumed, host-claim, host-resumed, every-run}
 
 pub promise : Promise
@@ -16,9 +17,9 @@ promise = record {
   every-run = every-run;
   every = claim;
   resumed = resumed;
-  host-met = host-met;
-  host-known = host-known;
-  host-free = host-free;
+  hosts = host-functions;
+  host-told = host-told;
+  host-kept = λ {s} {s′} {c} {r} t n. kept c (host-told t .performed) n;
   host-every = host-claim;
   host-resumed = host-resumed;
 }

@@ -13,7 +13,8 @@ use Rattle.model.specs.Effects.{Reply, wrote, found}
 use Rattle.model.specs.Calls.{StoreCall}
 use Rattle.model.specs.Histories.{replies, modelAfter}
 use Rattle.store_encoding.specs.Writing.{modelWriting}
-use Rattle.store_encoding.specs.Stores.{modelOf}
+use Rattle.store_encoding.specs.Stores.{modelOf, Performed}
+use Rattle.exports.specs.Packing.{packed, packedCell}
 use Rattle.exports.specs.Unpacked.{Unpacked, UnpackedCell}
 use Rattle.histories.specs.Functions.{Step}
 use Rattle.histories.specs.Hosts.{HostStep}
@@ -52,10 +53,16 @@ pub data HostRuns : List ℕ → List StoreCall → List ℕ → List ℕ → Ty
   call : {s s′ s″ : List ℕ} {c : StoreCall} {cs : List StoreCall} {r : ℕ} {rs : List ℕ}
       → HostStep s c r s′ → HostRuns s′ cs rs s″ → HostRuns s (c ∷ cs) (r ∷ rs) s″
 
--- an answer in one number, taken apart as the header says, is the reply
+-- an answer in one number is the reply packed and, taken apart as the header says, the reply
 abbrev pub TakenApart : ℕ → Reply → Type 0
-TakenApart r (wrote answer) = Unpacked r answer
-TakenApart r (found answer) = UnpackedCell r answer
+TakenApart r (wrote answer) = (r ≡ packed answer) × Unpacked r answer
+TakenApart r (found answer) = (r ≡ packedCell answer) × UnpackedCell r answer
+
+-- what a step of a host tells, of any words
+pub record HostTold (s : List ℕ) (c : StoreCall) (r : ℕ) (s′ : List ℕ) : Type 0 where
+  pub reply : Reply
+  pub apart : TakenApart r reply
+  pub performed : Performed s c reply s′
 
 -- one by one
 abbrev pub AllTakenApart : List ℕ → List Reply → Type 0

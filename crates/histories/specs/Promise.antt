@@ -1,6 +1,6 @@
 -- All that is promised of the calls on a store, of these very functions: that the code of each meets its contract and a
 -- caller learns what that says, that no call asks anything of its caller, what each contract tells for any words, and the
--- claim over every list; and the same of the calls that hosts make.
+-- claim over every list; and of the calls that hosts make.
 use Prim.Native.Nat.{ℕ}
 use mathlib.Core.Path.{_≡_}
 use mathlib.Core.List.{List}
@@ -9,8 +9,8 @@ use Rattle.model.specs.Effects.{Reply, codeOf}
 use Rattle.model.specs.Calls.{StoreCall}
 use Rattle.store_encoding.specs.Stores.{Performed}
 use Rattle.histories.specs.Functions.{Step, Met, Known, Free, Cleared}
-use Rattle.histories.specs.Hosts.{HostMet, HostKnown, HostFree}
-use Rattle.histories.specs.Lists.{Runs, Claim, Resumed, HostClaim, HostResumed}
+use Rattle.histories.specs.Hosts.{HostStep, HostFunctions}
+use Rattle.histories.specs.Lists.{Runs, Claim, Resumed, HostTold, HostClaim, HostResumed}
 
 -- a step of a call on the words s
 pub record Possible (s : List ℕ) (c : StoreCall) : Type 0 where
@@ -40,9 +40,10 @@ pub record Promise : Type 3 where
   -- every list of calls, on a fresh store and on any
   pub every : Claim
   pub resumed : Resumed
-  -- and of the calls that hosts make
-  pub host-met : HostMet
-  pub host-known : HostKnown
-  pub host-free : HostFree
+  -- and of the calls that hosts make: their functions, what each step tells of any words, every list
+  pub hosts : HostFunctions
+  pub host-told : {s s′ : List ℕ} {c : StoreCall} {r : ℕ} → HostStep s c r s′ → HostTold s c r s′
+  pub host-kept : {s s′ : List ℕ} {c : StoreCall} {r : ℕ} → (t : HostStep s c r s′)
+      → (codeOf (host-told t .reply) ≡ 0 → ⊥) → s′ ≡ s
   pub host-every : HostClaim
   pub host-resumed : HostResumed

@@ -1,1 +1,2 @@
-// Every list of calls on a store goes as the model goes: one theorem, in proofs/. There is no code here.
+// Every list of calls on a store goes as the model goes: of the functions, and of the exported ones that hosts call. The
+// theorems are in proofs/; there is no code here.

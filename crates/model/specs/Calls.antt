@@ -145,7 +145,7 @@ withValue m k i j v = withCell (gridAt m k) i j (Present v)
 abbrev pub withoutValue : Model → ℕ → ℕ → ℕ → Grid
 withoutValue m k i j = withCell (gridAt m k) i j Absent
 
--- 8: "rows or columns outside 1 to 512" (A6: 1,000), of an empty matrix for slot k
+-- 12, and 8: "rows or columns outside 1 to 512" (A6: 1,000), of an empty matrix for slot k
 abbrev pub shapeCases : ℕ → ℕ → ℕ → List Case
 shapeCases k r c = noSlot k ∷ given invalidShape (not (inRange maxRows r and inRange maxCols c)) ∷ []
 

@@ -2,7 +2,7 @@
 use Prim.Native.Nat.{ℕ, _-_}
 use mathlib.Core.Path.{_≡_, refl}
 use mathlib.Core.Bool.{Bool, true, false, cond}
-use mathlib.Core.List.{List, [], _∷_}
+use mathlib.Core.List.{List, [], _∷_, _++_}
 use lib.ListN.{replicate}
 use lib.Dec.{ltb}
 use Rattle.conditions.specs.Tests.{_and_, all}
@@ -14,11 +14,12 @@ use Rattle.grid.specs.declared.Cell.the-variants.{Absent, Present}
 use Rattle.grid.specs.Entries.{one, gather, flatten}
 use Rattle.operations.specs.Calls.{callFinal, listValid, indexesValid, shapesAgree}
 use Rattle.operations.specs.WriteBacks.{writeBack}
-use Rattle.operators.specs.Operators.{binaryWord}
-use Rattle.operator_codes.specs.Codes.{binaryNumbered}
+use Rattle.operators.specs.Operators.{binaryWord, unaryWord, entryWord}
+use Rattle.operator_codes.specs.Codes.{binaryNumbered, unaryNumbered, applyNumbered}
 use Rattle.twos_complement.specs.TwosComplement.{signed, word}
 use Rattle.call_codes.specs.declared.Options.{Options}
-use Rattle.call_codes.specs.declared.Verb.the-variants.{EwiseAdd}
+use Rattle.call_codes.specs.declared.Verb.{Verb}
+use Rattle.call_codes.specs.declared.Verb.the-variants.{EwiseAdd, Apply, Extract}
 use Rattle.model.specs.Model.{Model, vacant, holding, fresh}
 use Rattle.model.specs.Effects.{Reply, wrote, found, replyOf, nextOf}
 use Rattle.model.specs.Calls.{
@@ -60,14 +61,19 @@ roomCalls =
     ∷ readCell 0 0 0
     ∷ dropSlot 0
     ∷ newEmpty 1 1 3
+    ∷ newEmpty 1 1 4
     ∷ newEmpty 1 2 3
+    ∷ newEmpty 1 1001 1
+    ∷ setCell 0 0 0 5
     ∷ newEmpty 8 1 1
     ∷ newEmpty 1 0 1
     ∷ newEmpty 1 1 0
     ∷ readCell 1 0 2
+    ∷ readCell 1 0 3
     ∷ []
 
--- the set needs two words more than there are, counted after the call; dropped, the room serves the next
+-- the set needs two words more than there are, counted after the call; dropped, the room serves the next; what is laid over
+-- gives up its room; 8 and 13 come before 11
 room-answered : replies 16 fresh roomCalls
     ≡ entries 0
     ∷ refusal 11
@@ -77,10 +83,14 @@ room-answered : replies 16 fresh roomCalls
     ∷ readRefusal 13
     ∷ entries 0
     ∷ entries 0
+    ∷ entries 0
     ∷ refusal 11
+    ∷ refusal 8
+    ∷ refusal 13
     ∷ refusal 12
     ∷ refusal 8
     ∷ refusal 8
+    ∷ absent
     ∷ absent
     ∷ []
 unfolding effect replyOf nextOf inRange _and_ flatten gather one
@@ -134,7 +144,8 @@ cells-answered : replies 30 fresh cellCalls
 unfolding effect replyOf nextOf inRange _and_ flatten gather one
 cells-answered = refl
 
--- ---- 10: a grid of 2,048 entries and one empty column takes no entry more; 10 comes before 11
+-- ---- 10: a grid of 2,048 entries and one empty column, in a store that it fills, takes no entry more: 10 comes before 11,
+-- and a set that fits exactly is accepted
 abbrev full : Model
 full =
     holding (record { rows = 64; cols = 33; cell = λ i j. cond (ltb j 32) (Present 1) Absent })
@@ -143,7 +154,7 @@ full =
 abbrev fullCalls : List StoreCall
 fullCalls = setCell 0 5 32 7 ∷ setCell 0 5 31 7 ∷ clearCell 0 5 30 ∷ setCell 0 5 32 7 ∷ readCell 0 5 32 ∷ []
 
-full-answered : replies 4200 full fullCalls ≡ refusal 10 ∷ entries 2048 ∷ entries 2047 ∷ entries 2048 ∷ value 7 ∷ []
+full-answered : replies 4175 full fullCalls ≡ refusal 10 ∷ entries 2048 ∷ entries 2047 ∷ entries 2048 ∷ value 7 ∷ []
 unfolding effect replyOf nextOf _and_ flatten gather one
 full-answered = refl
 
@@ -166,19 +177,26 @@ laid =
     ∷ setCell 3 0 3 300
     ∷ []
 
--- the difference of two slots, under a mask or not, with as many words to work in
-abbrev difference : Bool → ℕ → ℕ → ℕ → ℕ → ℕ → StoreCall
-difference masked a b m c work =
-    operate (record { flags = 0; «has_mask» = masked; «has_accumulator» = false; accumulator = 9 }) (EwiseAdd 4)
+-- the union of two slots under an operator, with a mask or not, with as many words to work in
+abbrev united : ℕ → Bool → ℕ → ℕ → ℕ → ℕ → ℕ → StoreCall
+united op masked a b m c work =
+    operate (record { flags = 0; «has_mask» = masked; «has_accumulator» = false; accumulator = 9 }) (EwiseAdd op)
     (record { first = a; second = b; mask = m; output = c }) [] [] work
 
--- each role past the last slot, and each in an empty slot; 13 before 9; an absent mask is not looked at; the row of C
+-- under MINUS
+abbrev difference : Bool → ℕ → ℕ → ℕ → ℕ → ℕ → StoreCall
+difference masked a b m c work = united 4 masked a b m c work
+
+-- each role past the last slot, and each in an empty slot; 12 before 2, 2 before 13, 13 before 9; an absent mask is not
+-- looked at; what C then holds, and the inputs
 abbrev roleCalls : List StoreCall
 roleCalls =
     difference true 8 1 2 3 workspaceWords
     ∷ difference true 0 8 2 3 workspaceWords
     ∷ difference true 0 1 8 3 workspaceWords
     ∷ difference true 0 1 2 8 workspaceWords
+    ∷ united 8 true 0 1 2 8 workspaceWords
+    ∷ united 8 true 7 1 2 3 workspaceWords
     ∷ difference true 7 1 2 3 workspaceWords
     ∷ difference true 0 7 2 3 workspaceWords
     ∷ difference true 0 1 7 3 workspaceWords
@@ -204,6 +222,8 @@ roles-answered : replies 200 (modelAfter 200 fresh laid) roleCalls
     ∷ refusal 12
     ∷ refusal 12
     ∷ refusal 12
+    ∷ refusal 12
+    ∷ refusal 2
     ∷ refusal 13
     ∷ refusal 13
     ∷ refusal 13
@@ -227,10 +247,63 @@ unfolding effect replyOf nextOf inRange _and_ all flatten gather one callFinal i
     binaryWord binaryNumbered signed word
 roles-answered = refl
 
--- the final C does not fit: 11 after all others, and C is as it was
+-- a call by its flags, its verb and its roles, with the lists and as many words to work in
+abbrev asked : ℕ → Verb → ℕ → ℕ → ℕ → List ℕ → List ℕ → ℕ → StoreCall
+asked flags verb a b c is js work =
+    operate (record { flags = flags; «has_mask» = false; «has_accumulator» = false; accumulator = 9 }) verb
+    (record { first = a; second = b; mask = 9; output = c }) is js work
+
+-- the rest of the order: 12 before 1, 1 before 2, 13 before 7, 7 before 8, 8 before 9. An apply has no second input, and
+-- what is named for it is not looked at. The lists are those of the rows and of the columns
+abbrev orderCalls : List StoreCall
+orderCalls =
+    asked 32 (EwiseAdd 8) 8 0 0 [] [] 0
+    ∷ asked 32 (EwiseAdd 8) 7 0 0 [] [] 0
+    ∷ asked 0 Extract 7 0 4 (0 ∷ []) (4 ∷ []) 0
+    ∷ asked 0 Extract 0 0 4 (0 ∷ []) (4 ∷ []) 0
+    ∷ asked 0 Extract 0 0 4 (1 ∷ []) (0 ∷ []) 0
+    ∷ asked 0 Extract 0 0 4 (0 ∷ []) (3 ∷ []) 0
+    ∷ asked 0 (EwiseAdd 4) 0 4 3 [] [] 0
+    ∷ asked 0 (Apply 0 1 0) 0 8 3 [] [] workspaceWords
+    ∷ readCell 3 0 1
+    ∷ asked 8 Extract 0 0 4 (1 ∷ 0 ∷ []) (0 ∷ []) workspaceWords
+    ∷ readCell 4 0 0
+    ∷ readCell 4 1 0
+    ∷ []
+
+order-answered : replies 200 (modelAfter 200 fresh (laid ++ (newEmpty 4 2 1 ∷ []))) orderCalls
+    ≡ refusal 12
+    ∷ refusal 1
+    ∷ refusal 13
+    ∷ refusal 7
+    ∷ refusal 7
+    ∷ refusal 8
+    ∷ refusal 8
+    ∷ entries 2
+    ∷ value 4294967289
+    ∷ entries 2
+    ∷ value 7
+    ∷ value 5
+    ∷ []
+unfolding effect replyOf nextOf inRange _and_ all flatten gather one callFinal indexesValid listValid shapesAgree writeBack
+    binaryWord binaryNumbered applyNumbered unaryNumbered unaryWord entryWord signed word
+order-answered = refl
+
+-- the final C does not fit: 9 comes before 11, and C is as it was. It takes the room of a slot that goes
 tight-answered : replies 61 (modelAfter 61 fresh laid)
-    (difference true 0 1 2 3 workspaceWords ∷ readCell 3 0 0 ∷ dropSlot 1 ∷ difference true 0 0 2 3 workspaceWords ∷ [])
-    ≡ refusal 11 ∷ value 100 ∷ entries 0 ∷ entries 3 ∷ []
+    (difference true 0 1 2 3 (workspaceWords - 1)
+    ∷ difference true 0 1 2 3 workspaceWords
+    ∷ readCell 3 0 0
+    ∷ dropSlot 1
+    ∷ difference true 0 0 2 3 workspaceWords
+    ∷ [])
+    ≡ refusal 9 ∷ refusal 11 ∷ value 100 ∷ entries 0 ∷ entries 3 ∷ []
 unfolding effect replyOf nextOf inRange _and_ all flatten gather one callFinal indexesValid listValid shapesAgree writeBack
     binaryWord binaryNumbered signed word
 tight-answered = refl
+
+-- with one word more it fits exactly, beside all others
+exact-answered : replies 62 (modelAfter 62 fresh laid) (difference true 0 1 2 3 workspaceWords ∷ []) ≡ entries 4 ∷ []
+unfolding effect replyOf nextOf inRange _and_ all flatten gather one callFinal indexesValid listValid shapesAgree writeBack
+    binaryWord binaryNumbered signed word
+exact-answered = refl

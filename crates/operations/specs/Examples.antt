@@ -1,4 +1,4 @@
--- Computed examples: each definition beside its nearest wrong reading.
+-- Computed examples: definitions beside their nearest wrong readings.
 use Prim.Native.Nat.{ℕ, zero, suc, _+_, _*_}
 use mathlib.Core.Path.{_≡_, refl}
 use mathlib.Core.List.{List, [], _∷_, _++_}
@@ -8,20 +8,22 @@ use Rattle.limits.specs.Limits.{maxList}
 use Rattle.conditions.specs.Tests.{_and_, all}
 use Rattle.twos_complement.specs.TwosComplement.{signed, word}
 use Rattle.grid.specs.declared.Cell.{Cell}
-use Rattle.grid.specs.declared.Cell.the-variants.{Present}
+use Rattle.grid.specs.declared.Cell.the-variants.{Absent, Present}
 use Rattle.grid.specs.Grid.{Grid, emptyGrid}
-use Rattle.operators.specs.declared.ApplyOp.the-variants.{Unary, IndexUnary}
+use Rattle.operators.specs.declared.ApplyOp.the-variants.{Unary, BinaryScalarFirst, BinaryScalarSecond, IndexUnary}
 use Rattle.operators.specs.declared.BinaryOp.the-variants as binary
 use Rattle.operators.specs.declared.Monoid.the-variants as monoid
 use Rattle.operators.specs.declared.UnaryOp.the-variants.{Identity}
 use Rattle.operators.specs.declared.IndexUnaryOp.{IndexUnaryOp}
 use Rattle.operators.specs.declared.IndexUnaryOp.the-variants.{RowIndex, ColIndex, DiagIndex}
-use Rattle.operators.specs.Operators.{indexUnaryWord, entryWord}
-use Rattle.operations.specs.declared.Accumulator.the-variants.{Absent as NoAccumulator}
+use Rattle.operators.specs.Operators.{binaryWord, indexUnaryWord, entryWord}
+use Rattle.operations.specs.declared.Accumulator.the-variants.{Absent as NoAccumulator, Present as By}
 use Rattle.operations.specs.declared.Call.{Call}
 use Rattle.operations.specs.declared.Operation.{Operation}
 use Rattle.operations.specs.declared.Operation.the-variants.{Mxm, EwiseMult, EwiseAdd, Apply, Extract}
+use Rattle.operations.specs.CellOperations.{intersect, unite, dot, applyCell}
 use Rattle.operations.specs.GridOperations.{oriented}
+use Rattle.operations.specs.WriteBacks.{accumulated}
 use Rattle.operations.specs.Calls.{
   flagSet,
   transposeFirst,
@@ -33,6 +35,11 @@ use Rattle.operations.specs.Calls.{
   indexesValid,
   shapesAgree,
 }
+
+-- a row of two cells
+abbrev pick : ℕ → ℕ → ℕ → Cell
+pick x y zero = Present x
+pick x y (suc k) = Present y
 
 -- a product, an intersection, a union, an apply
 abbrev mxm : Operation
@@ -262,11 +269,11 @@ extract-next = refl
 
 -- "An entry stored at (2, 5) of a transposed input has row 5 and column 2" (document 02, A5): DIAGINDEX with 10 is
 -- 2 - 5 + 10. Not transposed it has row 2 and column 5.
-abbrev tall : Grid
-tall = record { rows = 3; cols = 6; cell = λ i j. Present 1 }
+abbrev threeBySix : Grid
+threeBySix = record { rows = 3; cols = 6; cell = λ i j. Present 1 }
 
 abbrev numbered : ℕ → IndexUnaryOp → ℕ → ℕ → ℕ → Cell
-numbered flags op s i j = callResult (plain flags (Apply (IndexUnary op s))) tall (by 1 1) (by 6 3) [] [] .cell i j
+numbered flags op s i j = callResult (plain flags (Apply (IndexUnary op s))) threeBySix (by 1 1) (by 6 3) [] [] .cell i j
 
 row-transposed : numbered 8 RowIndex 0 5 2 ≡ Present 5
 unfolding entryWord indexUnaryWord signed word
@@ -354,3 +361,53 @@ indexes-transposed = refl
 indexes-none : indexesValid (plain 0 mxm) wide (by 5 7) (by 1 1) [] [] ≡ true
 unfolding indexesValid listValid all _and_
 indexes-none = refl
+
+-- ---- which operand is first, and which operator is which
+
+-- the operator of an intersection takes the first input's value first; of a union too, and a lone value is passed
+intersect-order : intersect binary.Minus (Present 9) (Present 4) ≡ Present 5
+unfolding binaryWord signed word
+intersect-order = refl
+
+unite-order : unite binary.Minus (Present 9) (Present 4) ≡ Present 5
+unfolding binaryWord signed word
+unite-order = refl
+
+unite-lone : unite binary.Minus Absent (Present 4) ≡ Present 4
+unite-lone = refl
+
+-- old C first
+accumulated-order : accumulated (By binary.Minus) (Present 9) (Present 4) ≡ Present 5
+unfolding binaryWord signed word
+accumulated-order = refl
+
+-- the smaller of 3 + 4 and 5 + 1, and not the sum of the smaller ones; MINUS takes A's value first
+dot-sums : dot monoid.Min binary.Plus 2 (pick 3 5) (pick 4 1) ≡ Present 6
+unfolding dot binaryWord signed word
+dot-sums = refl
+
+dot-order : dot monoid.Plus binary.Minus 2 (pick 9 5) (pick 4 1) ≡ Present 9
+unfolding dot binaryWord signed word
+dot-order = refl
+
+-- the scalar first, and second
+scalar-first : applyCell (BinaryScalarFirst binary.Minus 15) 0 0 (Present 10) ≡ Present 5
+unfolding entryWord binaryWord signed word
+scalar-first = refl
+
+scalar-second : applyCell (BinaryScalarSecond binary.Minus 15) 0 0 (Present 20) ≡ Present 5
+unfolding entryWord binaryWord signed word
+scalar-second = refl
+
+-- FIRST, SECOND, and MAX by the sign: of -1 and 1
+first-value : binaryWord binary.First 3 4 ≡ 3
+unfolding binaryWord signed word
+first-value = refl
+
+second-value : binaryWord binary.Second 3 4 ≡ 4
+unfolding binaryWord signed word
+second-value = refl
+
+larger-value : binaryWord binary.Max 4294967295 1 ≡ 1
+unfolding binaryWord signed word
+larger-value = refl

@@ -14,6 +14,9 @@ use Rattle.operations.specs.declared.Inputs.{Inputs}
 use Rattle.operations.specs.declared.Shape.{Shape}
 use Rattle.operations.specs.declared.Shapes.{Shapes}
 use Rattle.operations.specs.declared.Needs.{Needs}
+use Rattle.operations.specs.declared.Part.{Part}
+use Rattle.operations.specs.declared.Part.the-variants as part
+use Rattle.operations.specs.declared.Rules.{Rules}
 
 -- a grid with rows and columns exchanged
 abbrev pub transposed : Grid → Grid
@@ -37,22 +40,39 @@ inputsOf (EwiseAdd op) = record { second = true; lists = false }
 inputsOf (Apply op) = record { second = false; lists = false }
 inputsOf Extract = record { second = false; lists = true }
 
--- the shapes that both inputs have to have, the bounds of the indexes, and T's shape
-abbrev pub asks : Shape → Shape → Shape → Shape → Needs
-asks first second bounds result = record { first = first; second = second; bounds = bounds; result = result }
+-- What it asks for: the shapes that both inputs have to have, the bounds of the indexes, and T's shape, each by what it is
+-- made of. An input that may have any shape is asked for its own; the bounds matter where there are lists.
+abbrev rules : Part → Part → Part → Part → Rules
+rules first second bounds result = record { first = first; second = second; bounds = bounds; result = result }
 
--- What it asks of the shapes of a call, which are those of the inputs as their flags ask and of the old C, and the lengths
--- of the lists. An input that may have any shape is asked for its own; the bounds matter where there are lists.
-abbrev pub needsOf : Operation → Shapes → Needs
+abbrev pub rulesOf : Operation → Rules
 -- "A(i,k) and B(k,j)": A has as many columns as B has rows
-needsOf (Mxm monoid op) s =
-    asks (s .first) (s .first .cols by s .second .cols) (s .first) (s .first .rows by s .second .cols)
+rulesOf (Mxm monoid op) = rules part.First part.Inner part.First part.Outer
 -- "where both are present": one shape
-needsOf (EwiseMult op) s = asks (s .first) (s .first) (s .first) (s .first)
-needsOf (EwiseAdd op) s = asks (s .first) (s .first) (s .first) (s .first)
-needsOf (Apply op) s = asks (s .first) (s .second) (s .first) (s .first)
+rulesOf (EwiseMult op) = rules part.First part.First part.First part.First
+rulesOf (EwiseAdd op) = rules part.First part.First part.First part.First
+rulesOf (Apply op) = rules part.First part.Second part.First part.First
 -- "T(i,j) = A(I[i], J[j])"; an index "past A (as transposed)" is refused
-needsOf Extract s = asks (s .first) (s .second) (s .first) (s .lists)
+rulesOf Extract = rules part.First part.Second part.First part.Lists
+
+-- the shape that a part names, of the shapes of a call: those of the inputs as their flags ask and of the old C, and the
+-- lengths of the lists
+abbrev pub partShape : Part → Shapes → Shape
+partShape part.First s = s .first
+partShape part.Second s = s .second
+partShape part.Inner s = s .first .cols by s .second .cols
+partShape part.Outer s = s .first .rows by s .second .cols
+partShape part.Lists s = s .lists
+partShape part.Output s = s .output
+
+-- what it asks of the shapes of a call
+abbrev pub needsOf : Operation → Shapes → Needs
+needsOf op s = record {
+  first = partShape (rulesOf op .first) s;
+  second = partShape (rulesOf op .second) s;
+  bounds = partShape (rulesOf op .bounds) s;
+  result = partShape (rulesOf op .result) s;
+}
 
 -- the cell of T at (i, j): of both inputs as their flags ask, the old C, and the index lists
 abbrev pub resultCell : Operation → Grid → Grid → Grid → List ℕ → List ℕ → ℕ → ℕ → Cell

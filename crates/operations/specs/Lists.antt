@@ -1,4 +1,4 @@
--- What the test of an index list says, as facts on numbers.
+-- What the test of an index list says of its length and its bounds, as facts on numbers.
 use Prim.Native.Nat.{ℕ, _≤_, _<_}
 use mathlib.Core.List.{List}
 use lib.ListN.{length}
@@ -6,7 +6,7 @@ use Rattle.limits.specs.Limits.{maxList}
 use Rattle.words.specs.Words.{at}
 use Rattle.operations.specs.declared.Shape.{Shape}
 
--- an index list that fits n rows or columns
+-- an index list that fits n rows or columns; that none stands twice is not used
 pub record IndexList (n : ℕ) (l : List ℕ) : Type 0 where
   pub least : 1 ≤ length l
   pub most : length l ≤ maxList

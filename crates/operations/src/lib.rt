@@ -4,7 +4,7 @@ use operators::ApplyOp;
 use operators::BinaryOp;
 use operators::Monoid;
 ghost use mathlib.Core.Path.{_≡_};
-ghost use Rattle.operations.specs.GridOperations.{inputsOf, asks, needsOf};
+ghost use Rattle.operations.specs.GridOperations.{inputsOf, rulesOf, partShape, needsOf};
 
 // Document 01's operations that give a T. A vector times a matrix is the product with a first input of one row.
 pub enum Operation {
@@ -95,37 +95,100 @@ pub fn inputs_of(operation: Operation) -> Inputs
     }
 }
 
-// What an operation asks of the shapes of its call. An input that may have any shape is asked for its own.
-pub fn needs_of(operation: Operation, shapes: Shapes) -> Needs
-    ensures { λ r. ⌜ r ≡ needsOf operation shapes ⌝ }
+// A shape that an operation asks for or gives, by what it is made of: the first input, the second, A's columns by B's
+// columns, A's rows by B's columns, the lengths of the lists, the old C.
+pub enum Part {
+    First,
+    Second,
+    Inner,
+    Outer,
+    Lists,
+    Output,
+}
+
+// What an operation asks for: the shapes of its inputs, the bounds of the indexes, and T's shape.
+pub struct Rules {
+    pub first: Part,
+    pub second: Part,
+    pub bounds: Part,
+    pub result: Part,
+}
+
+// What an operation asks for. An input that may have any shape is asked for its own.
+fn rules_of(operation: Operation) -> Rules
+    ensures { λ r. ⌜ (r .first ≡ rulesOf operation .first) × (r .second ≡ rulesOf operation .second)
+        × (r .bounds ≡ rulesOf operation .bounds) × (r .result ≡ rulesOf operation .result) ⌝ }
 {
-    let a = shapes.first;
-    let b = shapes.second;
-    let lists = shapes.lists;
-    let inner = Shape {
-        rows: a.cols,
-        cols: b.cols,
+    let product = Rules {
+        first: Part::First,
+        second: Part::Inner,
+        bounds: Part::First,
+        result: Part::Outer,
     };
-    let outer = Shape {
-        rows: a.rows,
-        cols: b.cols,
+    let same = Rules {
+        first: Part::First,
+        second: Part::First,
+        bounds: Part::First,
+        result: Part::First,
+    };
+    let single = Rules {
+        first: Part::First,
+        second: Part::Second,
+        bounds: Part::First,
+        result: Part::First,
+    };
+    let listed = Rules {
+        first: Part::First,
+        second: Part::Second,
+        bounds: Part::First,
+        result: Part::Lists,
     };
     match operation {
-        Operation::Mxm(_, _) => asking(a, inner, a, outer),
-        Operation::EwiseMult(_) => asking(a, a, a, a),
-        Operation::EwiseAdd(_) => asking(a, a, a, a),
-        Operation::Apply(_) => asking(a, b, a, a),
-        Operation::Extract => asking(a, b, a, lists),
+        Operation::Mxm(_, _) => product,
+        Operation::EwiseMult(_) => same,
+        Operation::EwiseAdd(_) => same,
+        Operation::Apply(_) => single,
+        Operation::Extract => listed,
     }
 }
 
-fn asking(first: Shape, second: Shape, bounds: Shape, result: Shape) -> Needs
-    ensures { λ r. ⌜ r ≡ asks first second bounds result ⌝ }
+// The shape that a part names.
+fn part_shape(part: Part, shapes: Shapes) -> Shape
+    ensures { λ r. ⌜ r ≡ partShape part shapes ⌝ }
 {
+    let first = shapes.first;
+    let second = shapes.second;
+    let output = shapes.output;
+    let lists = shapes.lists;
+    match part {
+        Part::First => first,
+        Part::Second => second,
+        Part::Inner => Shape {
+            rows: first.cols,
+            cols: second.cols,
+        },
+        Part::Outer => Shape {
+            rows: first.rows,
+            cols: second.cols,
+        },
+        Part::Lists => lists,
+        Part::Output => output,
+    }
+}
+
+// What an operation asks of the shapes of its call.
+pub fn needs_of(operation: Operation, shapes: Shapes) -> Needs
+    ensures { λ r. ⌜ r ≡ needsOf operation shapes ⌝ }
+{
+    let rules = rules_of(operation);
+    let first = rules.first;
+    let second = rules.second;
+    let bounds = rules.bounds;
+    let result = rules.result;
     Needs {
-        first: first,
-        second: second,
-        bounds: bounds,
-        result: result,
+        first: part_shape(first, shapes),
+        second: part_shape(second, shapes),
+        bounds: part_shape(bounds, shapes),
+        result: part_shape(result, shapes),
     }
 }

@@ -57,10 +57,13 @@ fn vector_products(work: &mut Workspace) {
     let columns: &[u32] = &[1, 2, 0, 1, 1, 2, 0, 1];
     let values: &[u32] = &[3, 2, 9, 6, 3, 1, 0, 5];
     test_support::store(&mut b, 4, 3, starts, columns, values);
+    let b: &[u32] = &b;
     create::new_empty(&mut c, 1, 4);
     vxm(b"mxv, plus_times", plain(16), 3, 5, v, &a, &mut c, work);
     create::new_empty(&mut c, 1, 3);
-    vxm(b"vxm, plus_plus", plain(0), 3, 3, v, &b, &mut c, work);
+    vxm(b"vxm, plus_plus", plain(0), 3, 3, v, b, &mut c, work);
+    create::new_empty(&mut c, 1, 3);
+    vxm(b"vxm, flag 8", plain(8), 3, 3, v, b, &mut c, work);
 }
 
 // By columns with TIMES, and to one value with MAX, scaled by 2: products with a vector of ones.
@@ -184,7 +187,8 @@ fn transposed(work: &mut Workspace) {
     apply(b"diagindex", plain(8), 3, 2, 100, a, a, &mut c, work);
 }
 
-// P7 to P12, with IDENTITY for the operation; then an accumulator that tells old C from T.
+// P7 to P12, with IDENTITY for the operation; then an accumulator that tells old C from T; and flags with nothing to act
+// on.
 fn write_backs(work: &mut Workspace) {
     test_support::heading(b"write-back");
     write_back(b"mask", masked(0), work);
@@ -194,6 +198,7 @@ fn write_backs(work: &mut Workspace) {
     write_back(b"mask, plus", accumulated(0, true, 3), work);
     write_back(b"no mask, complement, replace", plain(3), work);
     write_back(b"no mask, minus", accumulated(0, false, 4), work);
+    write_back(b"nothing for flags 4 and 16", plain(20), work);
 }
 
 fn write_back(label: &[u8], options: Options, work: &mut [u32]) {

@@ -51,3 +51,12 @@ one-column = refl
 behind-one : looksFor 6 (5 ∷ []) ≡ 1
 unfolding looksFor halvingLooks position
 behind-one = refl
+
+-- of seven, the first takes three halvings and a look; one after the other the last would take seven
+first-of-seven : looksFor 1 (1 ∷ 2 ∷ 3 ∷ 4 ∷ 5 ∷ 6 ∷ 7 ∷ []) ≡ 4
+unfolding looksFor halvingLooks position
+first-of-seven = refl
+
+last-of-seven : looksFor 7 (1 ∷ 2 ∷ 3 ∷ 4 ∷ 5 ∷ 6 ∷ 7 ∷ []) ≡ 4
+unfolding looksFor halvingLooks position
+last-of-seven = refl

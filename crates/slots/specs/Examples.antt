@@ -1,7 +1,7 @@
--- Two stores, computed.
+-- Two stores, and their nearest neighbours that are none, computed.
 use mathlib.Core.Path.{_≡_, refl}
 use mathlib.Core.List.{List, [], _∷_, _++_}
-use mathlib.Core.Bool.{true}
+use mathlib.Core.Bool.{true, false}
 use Prim.Native.Nat.{ℕ, _+_, _-_}
 use lib.ListN.{replicate}
 use Rattle.limits.specs.Limits.{slotCount}
@@ -49,3 +49,32 @@ one-vector-end = refl
 pub one-vector-written : writing (slotCount + 16) held ≡ oneVector
 unfolding writing
 one-vector-written = refl
+
+-- ---- what is no store
+-- a word short of its slots
+too-short : storeValid (replicate (slotCount - 1) 0) ≡ false
+unfolding storeValid sectioned endFrom allZero allContentsValid contentsValid slotsOf slotsFrom _and_ all
+too-short = refl
+
+-- a word behind the sections
+word-behind : storeValid (fresh ++ (1 ∷ [])) ≡ false
+unfolding storeValid sectioned endFrom allZero allContentsValid contentsValid slotsOf slotsFrom _and_ all
+word-behind = refl
+
+-- a count past the end
+count-past : storeValid ((0 ∷ 20 ∷ vectorWords) ++ replicate (6 + 2) 0) ≡ false
+unfolding storeValid sectioned endFrom allZero allContentsValid contentsValid slotsOf slotsFrom _and_ all
+    valid headerValid startsValid rowsValid inRange
+count-past = refl
+
+-- a count of a word more than the matrix has
+spare-in-slot : storeValid ((0 ∷ 15 ∷ vectorWords) ++ replicate (6 + 2) 0) ≡ false
+unfolding storeValid sectioned endFrom allZero allContentsValid contentsValid slotsOf slotsFrom _and_ all
+    valid headerValid startsValid rowsValid inRange
+spare-in-slot = refl
+
+-- words that are no matrix
+no-matrix : storeValid ((0 ∷ 1 ∷ 5 ∷ []) ++ replicate 6 0) ≡ false
+unfolding storeValid sectioned endFrom allZero allContentsValid contentsValid slotsOf slotsFrom _and_ all
+    valid headerValid startsValid rowsValid inRange
+no-matrix = refl
