@@ -1,7 +1,7 @@
 -- Grids that agree in every cell of their shape: the same entries, and as many.
 use Prim.Native.Nat.{ℕ}
 use native.Mathlib.Omega.{arith}
-use mathlib.Core.Path.{_≡_, refl, ap, _∙_}
+use mathlib.Core.Path.{_≡_, refl, sym, ap, _∙_}
 use mathlib.Core.Bool.{cond}
 use lib.ListN.{length}
 use lib.Dec.{eqb}
@@ -16,6 +16,22 @@ use Rattle.grid.proofs.Gather.{flatten-same}
 -- a grid agrees with itself
 pub same-refl : (g : Grid) → Same g g
 same-refl g = record { rows = refl; cols = refl; cell = λ i j l m. refl }
+
+-- and with what agrees with it, either way round and one after the other
+pub same-sym : {g h : Grid} → Same g h → Same h g
+same-sym s = record {
+  rows = sym (s .rows);
+  cols = sym (s .cols);
+  cell = λ i j l m. let p = s .rows in let q = s .cols in sym (s .cell i j (omega arith) (omega arith));
+}
+
+pub same-trans : {g h k : Grid} → Same g h → Same h k → Same g k
+same-trans s t = record {
+  rows = s .rows ∙ t .rows;
+  cols = s .cols ∙ t .cols;
+  cell = λ i j l m.
+      let p = t .rows in let q = t .cols in s .cell i j (omega arith) (omega arith) ∙ t .cell i j l m;
+}
 
 -- the same columns or values
 pub same-entries : (g h : Grid) → Same g h → (emit : ℕ → ℕ → ℕ)

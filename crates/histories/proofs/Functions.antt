@@ -31,8 +31,8 @@ use Rattle.model.proofs.Effects.{OfKind, reply-kind, refused-kind, effect-sound
 use Rattle.store_encoding.specs.Writing.{modelWriting}
 use Rattle.store_encoding.specs.Stores.{modelOf, effectReply, effectWords, replyOn, wordsAfter, Performed}
 use Rattle.store_encoding.proofs.Held.{model-written}
+use Rattle.words.specs.Lent.{Address}
 use Rattle.histories.specs.Functions.{
-  Address,
   Step,
   new-empty-step,
   drop-slot-step,

@@ -10,6 +10,7 @@ use denote.Ref.{RefT}
 use borrow.Fn.Picked.{KnownAs}
 use Rattle.answers.specs.declared.Answer.{Answer}
 use Rattle.answers.specs.declared.CellAnswer.{CellAnswer}
+use Rattle.words.specs.Lent.{Address, lent}
 use Rattle.call_codes.specs.declared.Options.{Options}
 use Rattle.call_codes.specs.declared.Verb.{Verb}
 use Rattle.model.specs.declared.Roles.{Roles}
@@ -33,14 +34,6 @@ use Rattle.store_cells.proofs.read_cell.Kinds as read-cell-kinds
 use Rattle.store_calls.proofs.operate.Reads as operate-reads
 use Rattle.store_calls.proofs.operate.Statement as operate-statement
 use Rattle.store_calls.proofs.operate.Kinds as operate-kinds
-
--- a lent slice: where it is, and the words that it holds. It is at the same address when the call returns.
-pub record Address : Type 0 where
-  pub pointer : ℕ × ℕ
-  pub name : ℕ
-
-abbrev pub lent : Address → List ℕ → RefT (List ℕ)
-lent p s = record { ptr = p .pointer; name = p .name; now = s }
 
 -- One call on the words s: its reply and the words s′ after it are what the contract of its function tells a caller.
 -- Index lists, and the words that a read is lent, are borrowed by `&` and stay. "Each call brings index lists and a work

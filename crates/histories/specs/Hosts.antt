@@ -53,7 +53,7 @@ use Rattle.exports.proofs.ostrubel_store_extract.Reads as extract-reads
 use Rattle.exports.proofs.ostrubel_store_extract.Statement as extract-statement
 use Rattle.exports.proofs.ostrubel_store_extract.Kinds as extract-kinds
 use Rattle.exports.proofs.ostrubel_store_extract.Met as extract-met
-use Rattle.histories.specs.Functions.{Address, lent}
+use Rattle.words.specs.Lent.{Address, lent}
 
 -- one call of a host on the words s, its answer in one number, and the words after it: what the function's contract tells
 pub data HostStep : List ℕ → StoreCall → ℕ → List ℕ → Type 0 where

@@ -40,6 +40,15 @@ Alike [] (y ∷ m′) = ⊥
 Alike (x ∷ m) [] = ⊥
 Alike (x ∷ m) (y ∷ m′) = AlikeSlots x y × Alike m m′
 
+-- a model agrees with itself
+pub alike-refl : (m : Model) → Alike m m
+alike-refl [] = tt
+alike-refl (x ∷ m) = (one x, alike-refl m)
+  where
+    one : (x : Slot) → AlikeSlots x x
+    one vacant = tt
+    one (holding g) = same-refl g
+
 alike-at : (m m′ : Model) (k : ℕ) → Alike m m′ → AlikeSlots (slotOf m k) (slotOf m′ k)
 alike-at [] [] k a = tt
 alike-at [] (y ∷ m′) k a = absurd a

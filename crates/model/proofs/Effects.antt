@@ -120,6 +120,11 @@ module _ (e : Effect) (n : ℕ) (m : Model) where
     unfolding nextOf
     refused-keeps h = rw (ne-eqb _ _ (λ z. h (reply-code ∙ z)))
 
+  -- an accepted call changes the model as its effect says
+  pub next-accepted : refusalOf e n m ≡ 0 → nextOf e n m ≡ changed m (e .change m)
+  unfolding nextOf
+  next-accepted z = rw (eq-eqb _ _ z)
+
   pub next-fits : Fitting n m → (refusalOf e n m ≡ 0 → Fitting n (changed m (e .change m))) → Fitting n (nextOf e n m)
   unfolding nextOf
   next-fits h f = go (ℕ-discrete (refusalOf e n m) 0)

@@ -2,10 +2,11 @@
 use Prim.Native.Nat.{ℕ, zero, suc, _+_, _≤_, _<_}
 use native.Mathlib.Omega.{arith}
 use native.Mathlib.Nat.{le-refl}
-use mathlib.Core.Path.{_≡_, refl, sym, _∙_}
+use mathlib.Core.Path.{_≡_, refl, sym, ap, _∙_}
 use mathlib.Core.Bool.{Bool, false, cond, false≢true}
 use mathlib.Core.List.{[], _∷_}
 use lib.ListN.{length, length-set}
+use lib.Seq.{set-getD}
 use lib.Dec.{ltb}
 use borrow.Author.Tests.{ltb-false}
 use Rattle.limits.specs.Limits.{slotCount, maxEntries}
@@ -48,10 +49,15 @@ put-within (y ∷ m) zero x f w (suc j) = f (suc j)
 put-within (y ∷ m) (suc k) x f w zero = f zero
 put-within (y ∷ m) (suc k) x f w (suc j) = put-within m k x (λ i. f (suc i)) w j
 
+-- a slot that is no smaller needs no less room
+pub sizes-more : (m : Model) (k : ℕ) (x y : Slot) → slotSize x ≤ slotSize y → sizes (put m k x) ≤ sizes (put m k y)
+sizes-more [] k x y h = le-refl 0
+sizes-more (z ∷ m) zero x y h = omega arith
+sizes-more (z ∷ m) (suc k) x y h = let i = sizes-more m k x y h in omega arith
+
 sizes-put : (m : Model) (k : ℕ) (x : Slot) → slotSize x ≤ slotSize (slotOf m k) → sizes (put m k x) ≤ sizes m
-sizes-put [] k x h = le-refl 0
-sizes-put (y ∷ m) zero x h = omega arith
-sizes-put (y ∷ m) (suc k) x h = let i = sizes-put m k x h in omega arith
+sizes-put m k x h =
+    let i = sizes-more m k x (slotOf m k) h in let e = ap sizes (set-getD m k vacant) in omega arith
 
 -- what a slot that is not empty holds
 within-grid : (x : Slot) → isVacant x ≡ false → WithinSlot x → Within (gridIn x)

@@ -247,6 +247,7 @@ fn what_the_help_says() {
         ),
         ("lay", &["ROWS 1 to 1000 COLS 1 to 1000", "A sheet has at most 2048 entries."]),
         ("extract", &["No row and no column is chosen twice.", "A LIST has 1 to 1000 numbers."]),
+        ("apply", &["may come in any order, and one of them again: C is the same."]),
         ("mxm", &["plus.times is the ordinary product; min.plus adds the two values and keeps the smallest sum."]),
         ("options", &["Options may stand anywhere behind the command", "--mask 3 and --mask=3 are the same."]),
         ("show", &["A sheet of more than 60 rows, or one whose picture would be wider than 120 characters,"]),
@@ -298,6 +299,21 @@ fn merging_keeps_the_larger_value() {
     folder.script("s", "lay 0 1 4\nset 0 0 0 1\nset 0 0 1 5\nlay 1 1 4\nset 1 0 1 4\nset 1 0 0 2\nset 1 0 3 3\n");
     folder.prints("apply s 0 1 --op identity --accum max", "place 0: 3 entries\n");
     folder.prints("show s 0", "   0  1  2  3\n0  2  5  .  3\n");
+}
+
+/// As the help about `apply` says: three late sheets in every order, and one of them again.
+#[test]
+fn merges_come_in_any_order() {
+    let orders = [[1, 2, 3], [1, 3, 2], [2, 1, 3], [2, 3, 1], [3, 1, 2], [3, 2, 1]];
+    for [first, second, third] in orders {
+        let folder = Folder::with_shelf();
+        folder.script("s", "lay 0 1 3\nlay 1 1 3\nset 1 0 0 -5\nset 1 0 2 7\nlay 2 1 3\nset 2 0 0 10\n");
+        folder.script("s", "set 2 0 1 -2147483648\nlay 3 1 3\nset 3 0 0 10\nset 3 0 2 -1\n");
+        for place in [first, second, third, first] {
+            folder.accept(&format!("apply s 0 {place} --op identity --accum max"));
+        }
+        folder.prints("show s 0", "    0            1  2\n0  10  -2147483648  7\n");
+    }
 }
 
 /// The example of the first page is run as it stands, and shows the picture that stands there.

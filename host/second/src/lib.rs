@@ -4,7 +4,8 @@
 //!
 //! `calls` says what a call is; `operators`, `grid`, `model`, `lent` and `store_grids` are the model, with
 //! places for the planted faults of `fault`; `generate*` makes calls, `full_rows` those on each cell of a row; `ffi` and
-//! `library` carry them out; `compare` finds differences; `shrink` and `describe` show a small failing case.
+//! `library` carry them out; `compare` finds differences; `shrink` and `describe` show a small failing case. `merges` merges
+//! sheets in several orders.
 
 pub mod calls;
 pub mod compare;
@@ -18,6 +19,7 @@ pub mod generate_store;
 pub mod grid;
 mod lent;
 pub mod library;
+pub mod merges;
 pub mod model;
 mod operators;
 pub mod rng;

@@ -7,7 +7,7 @@ use second::compare::{judge_lent, judge_list, see_lent, see_list, Seen};
 use second::fault::{self, Fault};
 use second::model::{Model, SOUND};
 use second::rng::Rng;
-use second::{describe, full_rows, generate_lent, generate_store, shrink};
+use second::{describe, full_rows, generate_lent, generate_store, merges, shrink};
 use std::collections::{BTreeMap, BTreeSet};
 use std::process::ExitCode;
 use std::time::Instant;
@@ -15,7 +15,7 @@ use std::time::Instant;
 const USAGE: &str = "\
 second [--seed N] [--calls N] [--lists N] [--faults] [--fault N]
 
-Compares the library with a model on each cell of some rows, and on random calls.
+Compares the library with a model on each cell of some rows, on random calls, and on sheets merged in several orders.
   --seed N    the seed of all random choices (1)
   --calls N   calls on lent sheets (200000; 40000 with --faults)
   --lists N   lists of calls on a store, of about 15 calls (a twentieth of the calls)
@@ -156,7 +156,12 @@ impl Comparison {
 }
 
 fn compare_all(arguments: &Arguments) -> ExitCode {
-    match compare_rows(arguments).and_then(|()| compare_random(arguments)) {
+    let all = || {
+        compare_rows(arguments)?;
+        compare_merges(arguments)?;
+        compare_random(arguments)
+    };
+    match all() {
         Ok(()) => ExitCode::SUCCESS,
         Err(Disagreement) => ExitCode::FAILURE,
     }
@@ -173,6 +178,20 @@ fn compare_rows(arguments: &Arguments) -> Result<(), Disagreement> {
     }
     comparison.counts.print();
     println!("each cell of the rows, {} calls: no disagreement", comparison.counts.total());
+    Ok(())
+}
+
+/// Sheets merged in several orders; as many lists of them as lists of calls.
+fn compare_merges(arguments: &Arguments) -> Result<(), Disagreement> {
+    let &Arguments { seed, lists, .. } = arguments;
+    for number in 0..lists {
+        let rng = &mut Rng::of_case(seed, 3, number);
+        if let Err(text) = merges::merges(rng).judge(rng) {
+            println!("seed {seed}, merges {number}: {text}");
+            return Err(Disagreement);
+        }
+    }
+    println!("seed {seed}: {lists} lists of sheets merged in two orders and one again: no disagreement");
     Ok(())
 }
 
