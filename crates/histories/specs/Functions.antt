@@ -71,17 +71,23 @@ pub record Met : Type 3 where
 
 -- and what a caller learns follows from what is proved of the code: the lemma that is generated for each function
 pub record Known : Type 3 where
-  pub new-empty : KnownAs 1 new-empty-kinds.ps new-empty-kinds.r new-empty-reads.Ghost new-empty-reads.requires new-empty-reads.ensures
+  pub new-empty : KnownAs 1 new-empty-kinds.ps new-empty-kinds.r new-empty-reads.Ghost
+      new-empty-reads.requires new-empty-reads.ensures
       new-empty-reads.Asked new-empty-reads.Learnt
-  pub drop-slot : KnownAs 1 drop-slot-kinds.ps drop-slot-kinds.r drop-slot-reads.Ghost drop-slot-reads.requires drop-slot-reads.ensures
+  pub drop-slot : KnownAs 1 drop-slot-kinds.ps drop-slot-kinds.r drop-slot-reads.Ghost
+      drop-slot-reads.requires drop-slot-reads.ensures
       drop-slot-reads.Asked drop-slot-reads.Learnt
-  pub set-cell : KnownAs 1 set-cell-kinds.ps set-cell-kinds.r set-cell-reads.Ghost set-cell-reads.requires set-cell-reads.ensures
+  pub set-cell : KnownAs 1 set-cell-kinds.ps set-cell-kinds.r set-cell-reads.Ghost
+      set-cell-reads.requires set-cell-reads.ensures
       set-cell-reads.Asked set-cell-reads.Learnt
-  pub clear-cell : KnownAs 1 clear-cell-kinds.ps clear-cell-kinds.r clear-cell-reads.Ghost clear-cell-reads.requires clear-cell-reads.ensures
+  pub clear-cell : KnownAs 1 clear-cell-kinds.ps clear-cell-kinds.r clear-cell-reads.Ghost
+      clear-cell-reads.requires clear-cell-reads.ensures
       clear-cell-reads.Asked clear-cell-reads.Learnt
-  pub read-cell : KnownAs 1 read-cell-kinds.ps read-cell-kinds.r read-cell-reads.Ghost read-cell-reads.requires read-cell-reads.ensures
+  pub read-cell : KnownAs 1 read-cell-kinds.ps read-cell-kinds.r read-cell-reads.Ghost
+      read-cell-reads.requires read-cell-reads.ensures
       read-cell-reads.Asked read-cell-reads.Learnt
-  pub operate : KnownAs 4 operate-kinds.ps operate-kinds.r operate-reads.Ghost operate-reads.requires operate-reads.ensures
+  pub operate : KnownAs 4 operate-kinds.ps operate-kinds.r operate-reads.Ghost
+      operate-reads.requires operate-reads.ensures
       operate-reads.Asked operate-reads.Learnt
 
 -- a caller has nothing to show

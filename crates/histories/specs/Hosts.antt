@@ -70,37 +70,60 @@ pub data HostStep : List ℕ → StoreCall → ℕ → List ℕ → Type 0 where
       → clear-cell-reads.Learnt κs (k, (i, (j, (lent p s, tt)))) answer (k, (i, (j, (lent p s′, tt))))
       → HostStep s (clearCell k i j) answer s′
   read-cell-step : (κs : Lfts 1) (p : Address) {s : List ℕ} {k i j answer : ℕ}
-      → read-cell-reads.Learnt κs (k, (i, (j, (lent p s, tt)))) answer (k, (i, (j, (lent p s, tt)))) → HostStep s (readCell k i j) answer s
+      → read-cell-reads.Learnt κs (k, (i, (j, (lent p s, tt)))) answer (k, (i, (j, (lent p s, tt))))
+      → HostStep s (readCell k i j) answer s
   mxm-step : (κs : Lfts 2) (p q : Address) (w w′ : List ℕ) {s s′ : List ℕ}
       (flags masked accumulated number monoid op a b m c : ℕ) {answer : ℕ}
-      → mxm-reads.Learnt κs (flags, (masked, (accumulated, (number, (monoid, (op, (a, (b, (m, (c, (lent p s, (lent q w, tt))))))))))))
-      answer (flags, (masked, (accumulated, (number, (monoid, (op, (a, (b, (m, (c, (lent p s′, (lent q w′, tt))))))))))))
-      → HostStep s (operate (optionsOf flags masked accumulated number) (verbs.Mxm monoid op) (rolesNamed a b m c) [] [] (length w)) answer s′
+      → mxm-reads.Learnt κs
+      (flags, (masked, (accumulated, (number, (monoid, (op, (a, (b, (m, (c, (lent p s, (lent q w, tt))))))))))))
+      answer
+      (flags, (masked, (accumulated, (number, (monoid, (op, (a, (b, (m, (c, (lent p s′, (lent q w′, tt))))))))))))
+      → HostStep s
+      (operate (optionsOf flags masked accumulated number) (verbs.Mxm monoid op) (rolesNamed a b m c) [] [] (length w))
+      answer s′
   vxm-step : (κs : Lfts 2) (p q : Address) (w w′ : List ℕ) {s s′ : List ℕ}
       (flags masked accumulated number monoid op u a m c : ℕ) {answer : ℕ}
-      → vxm-reads.Learnt κs (flags, (masked, (accumulated, (number, (monoid, (op, (u, (a, (m, (c, (lent p s, (lent q w, tt))))))))))))
-      answer (flags, (masked, (accumulated, (number, (monoid, (op, (u, (a, (m, (c, (lent p s′, (lent q w′, tt))))))))))))
-      → HostStep s (operate (optionsOf flags masked accumulated number) (verbs.Vxm monoid op) (rolesNamed u a m c) [] [] (length w)) answer s′
+      → vxm-reads.Learnt κs
+      (flags, (masked, (accumulated, (number, (monoid, (op, (u, (a, (m, (c, (lent p s, (lent q w, tt))))))))))))
+      answer
+      (flags, (masked, (accumulated, (number, (monoid, (op, (u, (a, (m, (c, (lent p s′, (lent q w′, tt))))))))))))
+      → HostStep s
+      (operate (optionsOf flags masked accumulated number) (verbs.Vxm monoid op) (rolesNamed u a m c) [] [] (length w))
+      answer s′
   ewise-mult-step : (κs : Lfts 2) (p q : Address) (w w′ : List ℕ) {s s′ : List ℕ}
       (flags masked accumulated number op a b m c : ℕ) {answer : ℕ}
-      → ewise-mult-reads.Learnt κs (flags, (masked, (accumulated, (number, (op, (a, (b, (m, (c, (lent p s, (lent q w, tt)))))))))))
+      → ewise-mult-reads.Learnt κs
+      (flags, (masked, (accumulated, (number, (op, (a, (b, (m, (c, (lent p s, (lent q w, tt)))))))))))
       answer (flags, (masked, (accumulated, (number, (op, (a, (b, (m, (c, (lent p s′, (lent q w′, tt)))))))))))
-      → HostStep s (operate (optionsOf flags masked accumulated number) (verbs.EwiseMult op) (rolesNamed a b m c) [] [] (length w)) answer s′
+      → HostStep s
+      (operate (optionsOf flags masked accumulated number) (verbs.EwiseMult op) (rolesNamed a b m c) [] [] (length w))
+      answer s′
   ewise-add-step : (κs : Lfts 2) (p q : Address) (w w′ : List ℕ) {s s′ : List ℕ}
       (flags masked accumulated number op a b m c : ℕ) {answer : ℕ}
-      → ewise-add-reads.Learnt κs (flags, (masked, (accumulated, (number, (op, (a, (b, (m, (c, (lent p s, (lent q w, tt)))))))))))
+      → ewise-add-reads.Learnt κs
+      (flags, (masked, (accumulated, (number, (op, (a, (b, (m, (c, (lent p s, (lent q w, tt)))))))))))
       answer (flags, (masked, (accumulated, (number, (op, (a, (b, (m, (c, (lent p s′, (lent q w′, tt)))))))))))
-      → HostStep s (operate (optionsOf flags masked accumulated number) (verbs.EwiseAdd op) (rolesNamed a b m c) [] [] (length w)) answer s′
+      → HostStep s
+      (operate (optionsOf flags masked accumulated number) (verbs.EwiseAdd op) (rolesNamed a b m c) [] [] (length w))
+      answer s′
   apply-step : (κs : Lfts 2) (p q : Address) (w w′ : List ℕ) {s s′ : List ℕ}
       (flags masked accumulated number kind op scalar a m c : ℕ) {answer : ℕ}
-      → apply-reads.Learnt κs (flags, (masked, (accumulated, (number, (kind, (op, (scalar, (a, (m, (c, (lent p s, (lent q w, tt))))))))))))
-      answer (flags, (masked, (accumulated, (number, (kind, (op, (scalar, (a, (m, (c, (lent p s′, (lent q w′, tt))))))))))))
-      → HostStep s (operate (optionsOf flags masked accumulated number) (verbs.Apply kind op scalar) (rolesNamed a a m c) [] [] (length w)) answer s′
+      → apply-reads.Learnt κs
+      (flags, (masked, (accumulated, (number, (kind, (op, (scalar, (a, (m, (c, (lent p s, (lent q w, tt))))))))))))
+      answer
+      (flags, (masked, (accumulated, (number, (kind, (op, (scalar, (a, (m, (c, (lent p s′, (lent q w′, tt))))))))))))
+      → HostStep s
+      (operate (optionsOf flags masked accumulated number) (verbs.Apply kind op scalar) (rolesNamed a a m c) [] [] (length w))
+      answer s′
   extract-step : (κs : Lfts 4) (p q x y : Address) (w w′ : List ℕ) {s s′ : List ℕ} (is js : List ℕ)
       (flags masked accumulated number a m c : ℕ) {answer : ℕ}
-      → extract-reads.Learnt κs (flags, (masked, (accumulated, (number, (a, (m, (c, (lent p s, (lent x is, (lent y js, (lent q w, tt)))))))))))
-      answer (flags, (masked, (accumulated, (number, (a, (m, (c, (lent p s′, (lent x is, (lent y js, (lent q w′, tt)))))))))))
-      → HostStep s (operate (optionsOf flags masked accumulated number) verbs.Extract (rolesNamed a a m c) is js (length w)) answer s′
+      → extract-reads.Learnt κs
+      (flags, (masked, (accumulated, (number, (a, (m, (c, (lent p s, (lent x is, (lent y js, (lent q w, tt)))))))))))
+      answer
+      (flags, (masked, (accumulated, (number, (a, (m, (c, (lent p s′, (lent x is, (lent y js, (lent q w′, tt)))))))))))
+      → HostStep s
+      (operate (optionsOf flags masked accumulated number) verbs.Extract (rolesNamed a a m c) is js (length w))
+      answer s′
 
 -- what that is: a call that may write; an operation, which also leaves its workspace zeros; a read, which leaves the words
 pub data Tells : List ℕ → StoreCall → ℕ → List ℕ → Type 0 where
@@ -131,19 +154,23 @@ pub record Exported (n : ℕ) {A : Lfts n → Type 0} (statement : Type 1 → Ty
 
 pub record HostFunctions : Type 3 where
   pub new-empty : Exported 1 new-empty-statement.statement (λ κs a. new-empty-reads.Asked κs a)
-      (KnownAs 1 new-empty-kinds.ps new-empty-kinds.r new-empty-reads.Ghost new-empty-reads.requires new-empty-reads.ensures new-empty-reads.Asked
+      (KnownAs 1 new-empty-kinds.ps new-empty-kinds.r new-empty-reads.Ghost
+      new-empty-reads.requires new-empty-reads.ensures new-empty-reads.Asked
       new-empty-reads.Learnt)
   pub drop : Exported 1 drop-statement.statement (λ κs a. drop-reads.Asked κs a)
       (KnownAs 1 drop-kinds.ps drop-kinds.r drop-reads.Ghost drop-reads.requires drop-reads.ensures drop-reads.Asked
       drop-reads.Learnt)
   pub set-cell : Exported 1 set-cell-statement.statement (λ κs a. set-cell-reads.Asked κs a)
-      (KnownAs 1 set-cell-kinds.ps set-cell-kinds.r set-cell-reads.Ghost set-cell-reads.requires set-cell-reads.ensures set-cell-reads.Asked
+      (KnownAs 1 set-cell-kinds.ps set-cell-kinds.r set-cell-reads.Ghost
+      set-cell-reads.requires set-cell-reads.ensures set-cell-reads.Asked
       set-cell-reads.Learnt)
   pub clear-cell : Exported 1 clear-cell-statement.statement (λ κs a. clear-cell-reads.Asked κs a)
-      (KnownAs 1 clear-cell-kinds.ps clear-cell-kinds.r clear-cell-reads.Ghost clear-cell-reads.requires clear-cell-reads.ensures clear-cell-reads.Asked
+      (KnownAs 1 clear-cell-kinds.ps clear-cell-kinds.r clear-cell-reads.Ghost
+      clear-cell-reads.requires clear-cell-reads.ensures clear-cell-reads.Asked
       clear-cell-reads.Learnt)
   pub read-cell : Exported 1 read-cell-statement.statement (λ κs a. read-cell-reads.Asked κs a)
-      (KnownAs 1 read-cell-kinds.ps read-cell-kinds.r read-cell-reads.Ghost read-cell-reads.requires read-cell-reads.ensures read-cell-reads.Asked
+      (KnownAs 1 read-cell-kinds.ps read-cell-kinds.r read-cell-reads.Ghost
+      read-cell-reads.requires read-cell-reads.ensures read-cell-reads.Asked
       read-cell-reads.Learnt)
   pub mxm : Exported 2 mxm-statement.statement (λ κs a. mxm-reads.Asked κs a)
       (KnownAs 2 mxm-kinds.ps mxm-kinds.r mxm-reads.Ghost mxm-reads.requires mxm-reads.ensures mxm-reads.Asked
@@ -152,16 +179,20 @@ pub record HostFunctions : Type 3 where
       (KnownAs 2 vxm-kinds.ps vxm-kinds.r vxm-reads.Ghost vxm-reads.requires vxm-reads.ensures vxm-reads.Asked
       vxm-reads.Learnt)
   pub ewise-mult : Exported 2 ewise-mult-statement.statement (λ κs a. ewise-mult-reads.Asked κs a)
-      (KnownAs 2 ewise-mult-kinds.ps ewise-mult-kinds.r ewise-mult-reads.Ghost ewise-mult-reads.requires ewise-mult-reads.ensures ewise-mult-reads.Asked
+      (KnownAs 2 ewise-mult-kinds.ps ewise-mult-kinds.r ewise-mult-reads.Ghost
+      ewise-mult-reads.requires ewise-mult-reads.ensures ewise-mult-reads.Asked
       ewise-mult-reads.Learnt)
   pub ewise-add : Exported 2 ewise-add-statement.statement (λ κs a. ewise-add-reads.Asked κs a)
-      (KnownAs 2 ewise-add-kinds.ps ewise-add-kinds.r ewise-add-reads.Ghost ewise-add-reads.requires ewise-add-reads.ensures ewise-add-reads.Asked
+      (KnownAs 2 ewise-add-kinds.ps ewise-add-kinds.r ewise-add-reads.Ghost
+      ewise-add-reads.requires ewise-add-reads.ensures ewise-add-reads.Asked
       ewise-add-reads.Learnt)
   pub apply : Exported 2 apply-statement.statement (λ κs a. apply-reads.Asked κs a)
-      (KnownAs 2 apply-kinds.ps apply-kinds.r apply-reads.Ghost apply-reads.requires apply-reads.ensures apply-reads.Asked
+      (KnownAs 2 apply-kinds.ps apply-kinds.r apply-reads.Ghost
+      apply-reads.requires apply-reads.ensures apply-reads.Asked
       apply-reads.Learnt)
   pub extract : Exported 4 extract-statement.statement (λ κs a. extract-reads.Asked κs a)
-      (KnownAs 4 extract-kinds.ps extract-kinds.r extract-reads.Ghost extract-reads.requires extract-reads.ensures extract-reads.Asked
+      (KnownAs 4 extract-kinds.ps extract-kinds.r extract-reads.Ghost
+      extract-reads.requires extract-reads.ensures extract-reads.Asked
       extract-reads.Learnt)
 
 pub host-functions : HostFunctions
