@@ -226,19 +226,16 @@ fn start_falls(words: &[u32]) -> u32
     falls
 }
 
-// 1 where row i has entries and its first column number is not above the word before it, else 0. Both words are read in any
-// case, so that the loop over the rows has no branch to be guessed.
+// 1 where row i has entries and its first column number is not above the word before it, else 0.
 fn start_fall(words: &[u32], i: usize) -> u32
     requires { ⌜ Header (now words) ⌝ ∗ ⌜ RowSpan (now words) i ⌝ }
     ensures { λ r. ⌜ r ≡ one (fallsAtStart (now (words .entry)) i) ⌝ }
 {
-    let at = words[ROWS_AT] as usize + COUNT_PAST + words[i + STARTS_AT] as usize;
-    let before = words[at];
-    let first = words[at + 1];
     if words[i + 1 + STARTS_AT] <= words[i + STARTS_AT] {
         return 0;
     }
-    if before < first {
+    let at = words[ROWS_AT] as usize + COUNT_PAST + words[i + STARTS_AT] as usize;
+    if words[at] < words[at + 1] {
         return 0;
     }
     1
