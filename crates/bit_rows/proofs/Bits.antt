@@ -61,7 +61,7 @@ set-bit x s = record {
 
 -- ---- the lowest set bit, and the word without it
 
-bit-and : (x y s : ℕ) → bit (bitAnd x y) s ≡ min (bit x s) (bit y s)
+pub bit-and : (x y s : ℕ) → bit (bitAnd x y) s ≡ min (bit x s) (bit y s)
 unfolding bit
 bit-and x y s = let a = x / 2 ^ s in let b = y / 2 ^ s in rw (and-shr, and-step) (omega arith)
 

@@ -1,3 +1,4 @@
 pub mod Bits
 pub mod Marks
 pub mod Collecting
+pub mod Keeping

@@ -2,7 +2,9 @@
 use Prim.Native.Nat.{ℕ, _+_, _*_, _/_, _%_, _^_, _≤_, _<_}
 use mathlib.Core.Path.{_≡_}
 use mathlib.Core.List.{List}
+use mathlib.Core.Bool.{Bool, cond, not}
 use lib.ListN.{length}
+use lib.Dec.{eqb}
 use Rattle.limits.specs.Limits.{maxCols}
 use Rattle.words.specs.Words.{at}
 use Rattle.grid.specs.declared.Cell.{Cell}
@@ -49,6 +51,20 @@ pub record Marking (j : ℕ) (map : List ℕ) (top′ : ℕ) (map′ : List ℕ)
   pub tracked : Tracked top′ map′
   pub here : mark map′ j ≡ 1
   pub other : (k : ℕ) → (k ≡ j → ⊥) → mark map′ k ≡ mark map k
+
+-- whether the mark b lets a column through: where it is 1, or with complement where it is 0
+abbrev pub lets : Bool → ℕ → Bool
+lets complement b = cond complement (eqb b 0) (not (eqb b 0))
+
+-- r has the bits of x that those of y let through
+pub record KeptBits (complement : Bool) (x y r : ℕ) : Type 0 where
+  pub bits : (s : ℕ) → bit r s ≡ cond (lets complement (bit y s)) (bit x s) 0
+  pub none : x ≡ 0 → r ≡ 0
+
+-- the map has the columns that `marks` lets through
+pub record Kept (complement : Bool) (marks map map′ : List ℕ) : Type 0 where
+  pub size : length map′ ≡ length map
+  pub word : (w : ℕ) → KeptBits complement (at map w) (at marks w) (at map′ w)
 
 -- every marked column is a place of both buffers
 pub record Room (map : List ℕ) (cols vals : ℕ) : Type 0 where

@@ -7,7 +7,7 @@ ghost use lib.ListN.{length};
 ghost use Rattle.limits.specs.Limits.{maxCols};
 ghost use Rattle.rows.specs.Row.{Holds};
 ghost use Rattle.bit_rows.specs.Bits.{SetBit, mapPlaces, mark, flagged, Tracked, Marking};
-ghost use Rattle.bit_rows.specs.Bits.{Room, WordRoom, WordCollected};
+ghost use Rattle.bit_rows.specs.Bits.{mapWords, KeptBits, Kept, Room, WordRoom, WordCollected};
 
 // The words of a map: a bit for every place of a row.
 pub const MAP_WORDS: usize = (ROW_PLACES + 63) / 64;
@@ -39,6 +39,29 @@ pub fn mark_column(top: u64, map: &mut [u64; MAP_WORDS], j: usize) -> u64
     let s = j % 64;
     map[w] = with_bit(map[w], s);
     with_bit(top, w)
+}
+
+// The bits of x that y has too, or with `complement` those that y has not.
+fn kept_bits(complement: bool, x: u64, y: u64) -> u64
+    ensures { λ r. ⌜ KeptBits complement x y r ⌝ }
+{
+    let both = x & y;
+    if complement {
+        return x ^ both;
+    }
+    both
+}
+
+// Keeps of the marked columns those that `marks` has too, or with `complement` those that it has not.
+pub fn keep_columns(complement: bool, marks: &[u64; MAP_WORDS], map: &mut [u64; MAP_WORDS])
+    requires { ⌜ length (now map) ≡ mapWords ⌝ }
+    ensures { λ _. ⌜ Kept complement (now (marks .entry)) (now (map .entry)) (now (map .exit)) ⌝ }
+{
+    let mut w: usize = 0;
+    while w < MAP_WORDS {
+        map[w] = kept_bits(complement, map[w], marks[w]);
+        w += 1;
+    }
 }
 
 // The marked columns, in order, to the front of `oc`, and their values from their places to the front of `ov`; how many

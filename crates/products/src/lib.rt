@@ -4,6 +4,9 @@ use limits::ROW_PLACES;
 use matrix::layout::COLS_AT;
 use operators::BinaryOp;
 use operators::Monoid;
+
+pub mod by_entries;
+
 ghost use mathlib.Core.Path.{_≡_};
 ghost use Prim.Native.Nat.{_≤_};
 ghost use lib.ListN.{length};
