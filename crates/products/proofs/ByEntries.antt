@@ -3,6 +3,7 @@ use Prim.Native.Nat.{ℕ, _+_, _*_, _≤_, _<_}
 use native.Mathlib.Omega.{arith}
 use mathlib.Core.Path.{_≡_, refl, ap, _∙_}
 use mathlib.Core.List.{List}
+use mathlib.Core.Bool.{Bool, true, false, cond}
 use lib.ListN.{length, set, length-set}
 use Rattle.limits.specs.Limits.{maxCols}
 use Rattle.words.specs.Words.{at}
@@ -13,10 +14,12 @@ use Rattle.grid.proofs.Gather.{gather-skip}
 use Rattle.operators.specs.declared.BinaryOp.{BinaryOp}
 use Rattle.operators.specs.declared.Monoid.{Monoid}
 use Rattle.operators.specs.Operators.{binaryWord, monoidOp}
+use Rattle.operations.specs.declared.WriteBack.{WriteBack}
 use Rattle.operations.specs.CellOperations.{unite, dot}
+use Rattle.operations.specs.WriteBacks.{inside}
 use Rattle.rows.specs.Row.{lookup, Row, Holds}
-use Rattle.rows.proofs.Holds.{holds-same}
-use Rattle.rows.proofs.Walk.{front-at, lookup-entry, absent-past, row-wider}
+use Rattle.rows.proofs.Holds.{holds-same, holds-absent}
+use Rattle.rows.proofs.Walk.{front-at, lookup-entry, absent-all, absent-past, row-wider}
 use Rattle.matrix.specs.Layout.{rows, cols, rowColumns, rowValues, cellOf}
 use Rattle.matrix.specs.Facts.{Matrix}
 use Rattle.matrix.proofs.Facts.{matrix-made}
@@ -25,8 +28,9 @@ use Rattle.dense_rows.specs.Dense.{marked}
 use Rattle.dense_rows.proofs.Sweep.{Swept, swept-start, swept-step, swept-done}
 use Rattle.bit_rows.specs.Bits.{mark, mapPlaces, flagged, Tracked, Carries, Marking, Room}
 use Rattle.bit_rows.proofs.Marks.{marked-here, marked-other, carries-room}
-use Rattle.products.specs.Products.{productRow, addedRow}
-use Rattle.products.proofs.Dot.{dot-empty}
+use Rattle.mask_rows.specs.Masks.{KeptInside}
+use Rattle.products.specs.Products.{productRow, addedRow, insideRow}
+use Rattle.products.proofs.Dot.{dot-none, dot-empty}
 use Rattle.products.proofs.Adding.{keeps}
 use Rattle.products.proofs.Sums.{Sums, sums-start, sums-step, sums-done}
 
@@ -101,6 +105,50 @@ matrix-row-in b m k l e = row-wider (valid-row b (matrix-made b m) k l) e
 
 -- ---- the row that is collected
 
+-- a row without entries from column n on, once its marked columns are collected
+collected-row : {f : ℕ → Cell} {top : ℕ} {map sums : List ℕ} → Carries f top map sums → (n : ℕ) → n ≤ mapPlaces
+    → ((j : ℕ) → n ≤ j → f j ≡ Absent) → {e : ℕ} {oc ov : List ℕ} → Holds mapPlaces (flagged map sums) e oc ov
+    → Holds n f e oc ov
+collected-row {f} h n l past c =
+    let g = holds-same c f (λ j u. h .cell j) in
+    let none : (j : ℕ) → n ≤ j → j < mapPlaces → f j ≡ Absent = λ j u v. past j u in
+    record {
+      count = g .count ∙ ap length (gather-skip column f n mapPlaces l none);
+      columns = g .columns ∙ gather-skip column f n mapPlaces l none;
+      values = g .values ∙ gather-skip value f n mapPlaces l none;
+    }
+
+-- a column without an entry has none inside the mask
+inside-none : (w : WriteBack) (m f : ℕ → Cell) (j : ℕ) → f j ≡ Absent → insideRow w m f j ≡ Absent
+unfolding insideRow
+inside-none w m f j e = go (inside w (m j))
+  where
+    go : (t : Bool) → cond t (f j) Absent ≡ Absent
+    go true = e
+    go false = refl
+
+-- a row without entries has none inside the mask
+pub inside-empty : (w : WriteBack) (m : ℕ → Cell) (monoid : Monoid) (op : BinaryOp) (columns vals b : List ℕ) (n : ℕ)
+    (oc ov : List ℕ) → length columns ≡ 0
+    → Holds n (insideRow w m (productRow monoid op (lookup columns vals) b)) 0 oc ov
+inside-empty w m monoid op columns vals b n oc ov e =
+    holds-absent n _ oc ov
+    (λ j. inside-none w m (productRow monoid op (lookup columns vals) b) j
+    (dot-none monoid op (lookup columns vals) (λ k. cellOf b k j) (rows b) (λ k l. absent-all columns vals e k)))
+
+-- what lies inside the mask
+pub carries-inside : {w : WriteBack} {m f : ℕ → Cell} {top : ℕ} {map map′ sums : List ℕ} → Carries f top map sums
+    → KeptInside w m map map′ → Carries (insideRow w m f) top map′ sums
+unfolding flagged insideRow
+carries-inside {w} {m} {f} {top} {map} {map′} {sums} h k = record {
+  tracked = k .tracked top (h .tracked);
+  cell = λ j. ap (λ (b : ℕ). marked b (at sums j)) (k .marks j) ∙ go j (inside w (m j));
+}
+  where
+    go : (j : ℕ) (b : Bool) → marked (cond b (mark map j) 0) (at sums j) ≡ cond b (f j) Absent
+    go j true = h .cell j
+    go j false = refl
+
 module _ (monoid : Monoid) (op : BinaryOp) (a : ℕ → Cell) (b : List ℕ) (m : Matrix b) where
   -- the product has no entries past the columns of b
   product-past : (j : ℕ) → cols b ≤ j → productRow monoid op a b j ≡ Absent
@@ -115,13 +163,19 @@ module _ (monoid : Monoid) (op : BinaryOp) (a : ℕ → Cell) (b : List ℕ) (m 
 
     pub product-collected : {e : ℕ} {oc ov : List ℕ} → Holds mapPlaces (flagged map sums) e oc ov
         → Holds (cols b) (productRow monoid op a b) e oc ov
-    product-collected {e} {oc} {ov} c =
-        let g = holds-same c (productRow monoid op a b) (λ j l. h .cell j) in
-        let l : cols b ≤ mapPlaces = omega (arith, m .header .col-range .most) in
-        let none : (j : ℕ) → cols b ≤ j → j < mapPlaces → productRow monoid op a b j ≡ Absent =
-        λ j u v. product-past j u in
-        record {
-          count = g .count ∙ ap length (gather-skip column (productRow monoid op a b) (cols b) mapPlaces l none);
-          columns = g .columns ∙ gather-skip column (productRow monoid op a b) (cols b) mapPlaces l none;
-          values = g .values ∙ gather-skip value (productRow monoid op a b) (cols b) mapPlaces l none;
-        }
+    product-collected c =
+        collected-row h (cols b) (omega (arith, m .header .col-range .most)) product-past c
+
+  -- the same for what lies inside the mask
+  module _ (w : WriteBack) (k : ℕ → Cell) where
+    inside-past : (j : ℕ) → cols b ≤ j → insideRow w k (productRow monoid op a b) j ≡ Absent
+    inside-past j l = inside-none w k (productRow monoid op a b) j (product-past j l)
+
+    module _ {top : ℕ} {map sums : List ℕ} (h : Carries (insideRow w k (productRow monoid op a b)) top map sums) where
+      pub inside-room : {x y : ℕ} → cols b ≤ x → cols b ≤ y → Room map x y
+      inside-room u v = carries-room h (cols b) inside-past u v
+
+      pub inside-collected : {e : ℕ} {oc ov : List ℕ} → Holds mapPlaces (flagged map sums) e oc ov
+          → Holds (cols b) (insideRow w k (productRow monoid op a b)) e oc ov
+      inside-collected c =
+          collected-row h (cols b) (omega (arith, m .header .col-range .most)) inside-past c

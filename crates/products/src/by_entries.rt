@@ -1,6 +1,7 @@
 // The product's row again, in time by entries: the sums stand in `ov` itself, each at its column, the columns are marked in
 // a map of bits, and the marked ones are collected in place. No buffer of a row's size is cleared or gone through.
 use bit_rows::MAP_WORDS;
+use operations::WriteBack;
 use operators::BinaryOp;
 use operators::Monoid;
 ghost use mathlib.Core.Path.{_≡_};
@@ -12,7 +13,8 @@ ghost use Rattle.rows.specs.Row.{lookup, Row, Holds};
 ghost use Rattle.matrix.specs.Layout.{rows, cols, rowColumns, rowValues, cellOf};
 ghost use Rattle.matrix.specs.Facts.{Header, RowSpan, Matrix};
 ghost use Rattle.bit_rows.specs.Bits.{flagged, Tracked, Carries};
-ghost use Rattle.products.specs.Products.{productRow, addedRow};
+ghost use Rattle.mask_rows.specs.Masks.{UnderMask};
+ghost use Rattle.products.specs.Products.{productRow, addedRow, insideRow};
 
 // The row of the first input times the matrix b, to the front of `oc` and `ov`; its number of entries. A row without
 // entries costs nothing.
@@ -36,6 +38,36 @@ pub fn product_row_by_entries(
     }
     let mut map = [0u64; MAP_WORDS];
     let top = sum_rows(monoid, op, columns, values, b, &mut map, ov);
+    bit_rows::collect(top, &map, oc, ov)
+}
+
+// The same, but what lies outside the mask, whose row is mc and mv, is left out.
+pub fn product_row_inside(
+    w: WriteBack,
+    mc: &[u32],
+    mv: &[u32],
+    monoid: Monoid,
+    op: BinaryOp,
+    columns: &[u32],
+    values: &[u32],
+    b: &[u32],
+    oc: &mut [u32],
+    ov: &mut [u32],
+) -> usize
+    requires { ⌜ Row (rows (now b)) (now columns) (now values) ⌝ ∗ ⌜ Matrix (now b) ⌝ }
+    requires { ⌜ (cols (now b) ≤ length (now oc)) × (cols (now b) ≤ length (now ov)) ⌝ }
+    requires { ⌜ UnderMask w (now mc) (now mv) ⌝ }
+    ensures { λ r. ⌜ Holds (cols (now (b .entry)))
+        (insideRow w (lookup (now (mc .entry)) (now (mv .entry)))
+        (productRow monoid op (lookup (now (columns .entry)) (now (values .entry))) (now (b .entry))))
+        r (now (oc .exit)) (now (ov .exit)) ⌝ }
+{
+    if columns.len() == 0 {
+        return 0;
+    }
+    let mut map = [0u64; MAP_WORDS];
+    let top = sum_rows(monoid, op, columns, values, b, &mut map, ov);
+    mask_rows::keep_inside(w, mc, mv, &mut map);
     bit_rows::collect(top, &map, oc, ov)
 }
 
