@@ -1,5 +1,5 @@
-// The product's row again, in time by entries: the sums stand in `ov` itself, each at its column, the columns are marked in
-// a map of bits, and the marked ones are collected in place. No buffer of a row's size is cleared or gone through.
+// The product's row again, in time by entries: the sums stand in `ov` itself, each at its column, the columns are marked
+// in a map of bits, and the marked ones are collected in place. No buffer of a row's size is cleared or gone through.
 use bit_rows::MAP_WORDS;
 use operations::WriteBack;
 use operators::BinaryOp;
@@ -108,7 +108,8 @@ fn sum_matrix_row(
     map: &mut [u64; MAP_WORDS],
     sums: &mut [u32],
 ) -> u64
-    requires { ⌜ Header (now b) ⌝ ∗ ⌜ RowSpan (now b) k ⌝ ∗ ⌜ Row maxCols (rowColumns (now b) k) (rowValues (now b) k) ⌝ }
+    requires { ⌜ Header (now b) ⌝ ∗ ⌜ RowSpan (now b) k ⌝ ∗ ⌜ Row maxCols (rowColumns (now b) k) (rowValues (now b) k)
+        ⌝ }
     requires { ⌜ Row (length (now sums)) (rowColumns (now b) k) (rowValues (now b) k) ⌝ ∗ ⌜ Tracked top (now map) ⌝ }
     ensures { λ r. ⌜ Carries
         (addedRow monoid op x (cellOf (now (b .entry)) k) (flagged (now (map .entry)) (now (sums .entry))))
