@@ -27,7 +27,8 @@ unmarked-new = record { tracked = tracked-none; none = mark-none }
 
 -- an entry that does not count, and one that counts
 module _ {structural : Bool} {v j : ℕ} {map : List ℕ} where
-  pub entry-left : {top : ℕ} → Tracked top map → maskHolds structural (Present v) ≡ false → EntryMarked structural v j map top map
+  pub entry-left : {top : ℕ} → Tracked top map → maskHolds structural (Present v) ≡ false
+      → EntryMarked structural v j map top map
   entry-left t e = record { tracked = t; here = λ h. rw e h; other = λ k n. refl }
 
   pub entry-taken : {top′ : ℕ} {map′ : List ℕ} → maskHolds structural (Present v) ≡ true → Marking j map top′ map′
@@ -58,7 +59,10 @@ keeps structural columns vals j e = rw e
 
 module _ {columns vals : List ℕ} (w : Row maxCols columns vals) {structural : Bool} where
   pub masking-start : {map : List ℕ} → Unmarked map → Masking structural columns vals 0 map 0
-  masking-start u = record { tracked = u .tracked; swept = swept-start w (keeps structural columns vals) (λ j. ap Present (u .none j)) }
+  masking-start u = record {
+    tracked = u .tracked;
+    swept = swept-start w (keeps structural columns vals) (λ j. ap Present (u .none j));
+  }
 
   module _ {top : ℕ} {map : List ℕ} {p : ℕ} (h : Masking structural columns vals top map p) where
     pub masking-step : {top′ : ℕ} {map′ : List ℕ} → p < length columns

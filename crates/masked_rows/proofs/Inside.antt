@@ -1,4 +1,4 @@
--- Rows that have the cells of f inside the mask: f itself, f inside the mask alone, and none where no place lies inside.
+-- Rows that have the cells of f inside the mask: f itself, f inside the mask alone, and none where no place is inside.
 use Prim.Native.Nat.{ℕ}
 use mathlib.Core.Path.{_≡_, refl, sym, _∙_}
 use mathlib.Core.List.{List}

@@ -1,4 +1,4 @@
-// A row of T as far as the mask lets it through: the write-back looks at T inside the mask only, so that what lies outside
+// A row of T as far as the mask lets it through: the write-back looks at T inside the mask only, and what lies outside
 // need not be worked out.
 use operations::Operation;
 use operations::WriteBack;

@@ -72,8 +72,8 @@ module _ {columns vals : List ℕ} (w : Row maxCols columns vals) {monoid : Mono
 
 -- ---- `sum_rows`: the rows of the matrix b that the entries before p name are added up
 
-pub record Totalling (monoid : Monoid) (op : BinaryOp) (n : ℕ) (columns vals : List ℕ) (b : ℕ → ℕ → Cell) (sums₀ : List ℕ)
-    (top : ℕ) (map sums : List ℕ) (p : ℕ) : Type 0 where
+pub record Totalling (monoid : Monoid) (op : BinaryOp) (n : ℕ) (columns vals : List ℕ) (b : ℕ → ℕ → Cell)
+    (sums₀ : List ℕ) (top : ℕ) (map sums : List ℕ) (p : ℕ) : Type 0 where
   pub tracked : Tracked top map
   pub long : length sums ≡ length sums₀
   pub totals : Sums monoid op n columns vals b (flagged map sums) p

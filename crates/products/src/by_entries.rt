@@ -1,5 +1,5 @@
-// The product's row again, in time by entries: the sums stand in `ov` itself, each at its column, the columns are marked
-// in a map of bits, and the marked ones are collected in place. No buffer of a row's size is cleared or gone through.
+// The product's row in time by entries: the sums stand in `ov` itself, each at its column, the columns are marked in a
+// map of bits, and the marked ones are collected in place. No buffer of a row's size is cleared or gone through.
 use bit_rows::MAP_WORDS;
 use operations::WriteBack;
 use operators::BinaryOp;

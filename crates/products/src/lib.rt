@@ -1,6 +1,6 @@
 // One row of the product: "over all k where A(i,k) and B(k,j) are both present, multiply, then add up with the monoid".
-// The rows of the second input that the entries of the row name are added up in rising order of k: in a dense row that is
-// gone through by its places, or by entries (`by_entries`).
+// The rows of the second input that the entries of the row name are added up in rising order of k: in a dense row, which
+// is gone through by its places, or by entries (`by_entries`).
 use limits::ROW_PLACES;
 use matrix::layout::COLS_AT;
 use operators::BinaryOp;

@@ -20,7 +20,8 @@ mark-column-requires c κs = search needs
 returns-2 : tie.Need-returns-2
 returns-2 c =
     let t = c .before .before in
-    entry-taken (sym (t .before .mask-holds .ensures) ∙ not-false (t .before .mask-holds .result) (t .if1 .left)) (c .mark-column .ensures)
+    let h = t .before .mask-holds in
+    entry-taken (sym (h .ensures) ∙ not-false (h .result) (t .if1 .left)) (c .mark-column .ensures)
 
 pub mark-entry-spec : {M : Type 1} → statement M
 mark-entry-spec = tie.close (tie.spec mask-holds-requires returns mark-column-requires returns-2)
