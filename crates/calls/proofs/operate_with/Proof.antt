@@ -1,8 +1,8 @@
--- `operate` attempts the decoded call and clears the workspace.
+-- `operate_with` attempts the decoded call and clears the workspace.
 use mathlib.Core.Path.{_∙_}
 use borrow.Author.Needs.{needs}
-use Rattle.calls.proofs.operate.Statement.{statement}
-use Rattle.calls.proofs.operate.Tie as tie
+use Rattle.calls.proofs.operate_with.Statement.{statement}
+use Rattle.calls.proofs.operate_with.Tie as tie
 
 decode-requires : tie.Need-decode-requires
 decode-requires c κs = search needs
@@ -29,7 +29,7 @@ returns c =
       cleared = t .clear .ensures ∙ rw (s .attempt .kept .1 .1 .1 .1 .1 .1 .1 .0);
     }
 
-pub operate-spec : {M : Type 1} → statement M
-operate-spec =
+pub operate-with-spec : {M : Type 1} → statement M
+operate-with-spec =
     tie.close
     (tie.spec decode-requires attempt-requires clear-requires same-length same-length-2 returns)
