@@ -1,7 +1,7 @@
 -- One row of the final C, from what is known of a call whose inputs are valid and agree.
 use Prim.Native.Nat.{ℕ, _<_}
 use native.Mathlib.Omega.{arith}
-use mathlib.Core.Path.{_≡_, refl, ap, _∙_}
+use mathlib.Core.Path.{_≡_, refl, sym, ap, _∙_}
 use mathlib.Core.List.{List, []}
 use mathlib.Core.Bool.{Bool, true, false, cond}
 use lib.ListN.{take}
@@ -36,11 +36,14 @@ use Rattle.operations.specs.Calls.{
 }
 use Rattle.requests.specs.Refusal.{lentFinal}
 use Rattle.requests.specs.Inputs.{Ready}
+use Rattle.plain_results.specs.Rows.{Inputs}
 use Rattle.result_rows.specs.RowInputs.{rowShapes, rowNeeds, RowInputs, Buffers}
 use Rattle.result_rows.proofs.Inputs.{matrix-row}
 use Rattle.masked_rows.specs.Inside.{MaskKnown, HoldsInside}
-use Rattle.compute.specs.Computing.{MaskThere, OldRow, Source, RowBuffers}
+use Rattle.sources.specs.Sources.{Source}
+use Rattle.compute.specs.Computing.{MaskThere, OldRow, plain, RowBuffers}
 use Rattle.operations.proofs.Results.{shapes-of-same, cell-same}
+use Rattle.compute.proofs.Plain.{write-plain}
 
 -- what `shapesAgree` says
 record Agreed (call : Call) (a b m c : Grid) (is js : List ℕ) : Type 0 where
@@ -137,6 +140,32 @@ module _ (call : Call) (a b m c is js x y : List ℕ) (r : Ready call a b m c is
   cols-are : rowNeeds (call .operation) x y c is js .result .cols ≡ cols c
   cols-are = rw shapes-are (shapes .result-cols)
 
+  rows-are : rowNeeds (call .operation) x y c is js .result .rows ≡ rows c
+  rows-are = rw shapes-are (shapes .result-rows)
+
+  -- what all rows of T need
+  pub all-inputs : Inputs (call .operation) x y c is js
+  all-inputs = record { output = r .inputs .output; row = row-inputs; same-rows = rows-are; same-cols = cols-are }
+
+  -- its cells are the definition's
+  result-cell : (i j : ℕ) → i < rows c → j < cols c
+      → resultGrid (call .operation) (gridOf x) (gridOf y) (gridOf c) is js .cell i j
+      ≡ callResult call (gridOf a) (gridOf b) (gridOf c) is js .cell i j
+  result-cell i j l k =
+      cell-same (gridOf x) A (gridOf y) B (gridOf c) (gridOf c) is js (s .same) same-refl (call .operation) second-same
+      (shapes .inputs) lists i j (rw (shapes .result-rows) l) (rw (shapes .result-cols) k)
+
+  -- where C takes T in every place, T is the final C
+  pub plain-same : plain (writeBackOf call) ≡ true
+      → Same (resultGrid (call .operation) (gridOf x) (gridOf y) (gridOf c) is js) (lentFinal call a b m c is js)
+  unfolding callFinal
+  plain-same p = record {
+    rows = rows-are;
+    cols = cols-are;
+    cell = λ i j l k. result-cell i j l k
+        ∙ sym (write-plain (writeBackOf call) (cellOf m i j) (cellOf c i j) _ p);
+  }
+
   pub row-buffers : (tc tv oc ov : List ℕ) → RowBuffers tc tv oc ov
       → Buffers (resultGrid (call .operation) (gridOf x) (gridOf y) (gridOf c) is js) tc tv
   row-buffers tc tv oc ov h =
@@ -169,9 +198,7 @@ module _ (call : Call) (a b m c is js x y : List ℕ) (r : Ready call a b m c is
     t-cell j k n =
         let p : lookup (take t tc) (take t tv) j ≡ h .row j =
         rw (held .columns, held .values) (lookup-gather (cols c) (h .row) j k) in
-        p ∙ h .same j n
-        ∙ cell-same (gridOf x) A (gridOf y) B (gridOf c) (gridOf c) is js (s .same) same-refl (call .operation) second-same
-        (shapes .inputs) lists i j (rw (shapes .result-rows) l) (rw (shapes .result-cols) k)
+        p ∙ h .same j n ∙ result-cell i j l k
 
     pub final-row : (e : ℕ) (oc ov : List ℕ)
         → Holds (cols c) (λ j. writeBack W (cellOf m i j) (cellOf c i j) (lookup (take t tc) (take t tv) j)) e oc ov

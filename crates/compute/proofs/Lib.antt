@@ -1,4 +1,4 @@
 pub mod WriteRow
-pub mod Sources
+pub mod Plain
 pub mod FinalRow
 pub mod Progress

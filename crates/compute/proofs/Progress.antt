@@ -26,8 +26,9 @@ use Rattle.results.specs.Staging.{RowBounds, ResultBounds, stagedRow, finished,
 use Rattle.results.proofs.Staged.{staged-none, staged-more}
 use Rattle.results.proofs.Finished.{finished-written}
 use Rattle.compute.specs.declared.Outcome.the-variants.{Done}
-use Rattle.compute.specs.Computing.{secondFlag, Sources, RowBuffers, Progress, Advanced, Computed}
-use Rattle.compute.proofs.Sources.{sources-kept}
+use Rattle.sources.specs.Sources.{secondFlag, Sources}
+use Rattle.compute.specs.Computing.{RowBuffers, Progress, Advanced, Computed}
+use Rattle.sources.proofs.Sources.{sources-kept}
 
 -- buffers keep their lengths
 pub buffers-kept : {tc tv oc ov : List ℕ} (tc′ tv′ oc′ ov′ : List ℕ) → RowBuffers tc tv oc ov → length tc′ ≡ length tc

@@ -2,22 +2,24 @@
 use Prim.Native.Nat.{ℕ, _+_, _*_, _≤_, _<_}
 use mathlib.Core.Path.{_≡_}
 use mathlib.Core.List.{List}
-use mathlib.Core.Bool.{Bool, true, false, cond}
+use mathlib.Core.Bool.{Bool, true, false, not}
 use lib.ListN.{length, take}
+use Rattle.conditions.specs.Tests.{_and_}
 use Rattle.limits.specs.Limits.{maxCols, maxEntries}
-use Rattle.words.specs.Words.{part}
-use Rattle.grid.specs.Grid.{Grid, Same}
+use Rattle.grid.specs.Grid.{Grid}
 use Rattle.grid.specs.Entries.{entryCount}
 use Rattle.rows.specs.Row.{Row}
-use Rattle.matrix.specs.Layout.{rows, cols, gridOf, maxMatrixWords, workspaceWords}
+use Rattle.matrix.specs.Layout.{rows, cols, maxMatrixWords, workspaceWords}
 use Rattle.matrix.specs.Facts.{Matrix}
 use Rattle.encoding.specs.Encode.{encode, gridSize}
+use Rattle.operations.specs.declared.Accumulator.{Accumulator}
+use Rattle.operations.specs.declared.Accumulator.the-variants.{Absent as NoAccumulator, Present as By}
 use Rattle.operations.specs.declared.Call.{Call}
 use Rattle.operations.specs.declared.WriteBack.{WriteBack}
-use Rattle.operations.specs.GridOperations.{oriented}
-use Rattle.operations.specs.Calls.{transposeFirst, transposeSecond, hasSecond}
+use Rattle.operations.specs.Calls.{transposeFirst}
 use Rattle.requests.specs.Refusal.{lentFinal}
 use Rattle.requests.specs.Inputs.{Ready}
+use Rattle.sources.specs.Sources.{secondFlag, Sources}
 use Rattle.results.specs.Staging.{Staged}
 use Rattle.compute.specs.declared.Outcome.{Outcome}
 use Rattle.compute.specs.declared.Outcome.the-variants.{Done, Full}
@@ -39,31 +41,17 @@ pub record OldRow (w : WriteBack) (m c tc tv : List ℕ) (i : ℕ) : Type 0 wher
   pub mask-cols : w .«has_mask» ≡ true → cols m ≡ cols c
   pub result : Row (cols c) tc tv
 
--- whether there is a second input and it is transposed
-abbrev pub secondFlag : Call → Bool
-secondFlag call = cond (hasSecond (call .operation)) (transposeSecond call) false
+-- no mask, no complement, no accumulator: C takes T in every place
+abbrev pub noAccumulator : Accumulator → Bool
+noAccumulator NoAccumulator = true
+noAccumulator (By op) = false
 
--- the regions of the workspace for the transposed inputs
-abbrev pub firstRegion : List ℕ → List ℕ
-firstRegion w = part maxMatrixWords (2 * maxMatrixWords) w
+abbrev pub plain : WriteBack → Bool
+plain w = not (w .«has_mask») and not (w .complement) and noAccumulator (w .accumulator)
 
-abbrev pub secondRegion : List ℕ → List ℕ
-secondRegion w = part (2 * maxMatrixWords) (3 * maxMatrixWords) w
-
--- the words of an input as its flag asks
-abbrev pub source : Bool → List ℕ → List ℕ → List ℕ
-source flag region s = cond flag region s
-
--- valid words with the cells of an input as its flag asks
-pub record Source (flag : Bool) (s x : List ℕ) : Type 0 where
-  pub matrix : Matrix x
-  pub same : Same (gridOf x) (oriented flag (gridOf s))
-
--- both inputs, with the regions of the workspace w
-pub record Sources (call : Call) (a b w : List ℕ) : Type 0 where
-  pub first : Source (transposeFirst call) a (source (transposeFirst call) (firstRegion w) a)
-  pub second : hasSecond (call .operation) ≡ true
-      → Source (transposeSecond call) b (source (transposeSecond call) (secondRegion w) b)
+-- and both inputs are read as they are lent
+abbrev pub straight : WriteBack → Bool → Bool → Bool
+straight w first second = not first and not second and plain w
 
 -- buffers for a row
 pub record RowBuffers (tc tv oc ov : List ℕ) : Type 0 where

@@ -1,38 +1,35 @@
 // Working out the final C of a call whose inputs are valid and agree. Inputs, mask and old C are only read; the result
-// is left at the front of the workspace. The workspace is three regions of the largest matrix each: the result, the
-// first input transposed, the second input transposed.
+// is left at the front of the workspace, whose other regions hold the inputs that are transposed.
 use limits::MAX_ENTRIES;
 use limits::ROW_PLACES;
 use matrix::layout::MAX_MATRIX_WORDS;
 use merge::Combine;
+use operations::Accumulator;
 use operations::Call;
 use operations::Operation;
 use operations::WriteBack;
 use products::Engine;
+use sources::FIRST_AT;
+use sources::REGIONS_END;
+use sources::SECOND_AT;
 ghost use mathlib.Core.Path.{_≡_};
 ghost use mathlib.Core.Bool.{true, cond};
 ghost use mathlib.Core.List.{[]};
 ghost use Prim.Native.Nat.{_≤_, _<_};
 ghost use lib.ListN.{length};
 ghost use Rattle.rows.specs.Row.{Row, Holds, lookup};
-ghost use Rattle.matrix.specs.Layout.{rows, cols, rowColumns, rowValues, cellOf, gridOf, maxMatrixWords, workspaceWords};
-ghost use Rattle.matrix.specs.Facts.{Matrix};
-ghost use Rattle.encoding.specs.Encode.{writtenOver};
-ghost use Rattle.operations.specs.GridOperations.{transposed, resultGrid};
+ghost use Rattle.matrix.specs.Layout.{rows, cols, rowColumns, rowValues, cellOf, gridOf, workspaceWords};
+ghost use Rattle.operations.specs.GridOperations.{resultGrid};
 ghost use Rattle.operations.specs.WriteBacks.{writeBack};
 ghost use Rattle.operations.specs.Calls.{transposeFirst, writeBackOf};
 ghost use Rattle.requests.specs.Refusal.{lentFinal};
 ghost use Rattle.requests.specs.Inputs.{Ready};
 ghost use Rattle.result_rows.specs.RowInputs.{RowInputs, Buffers};
 ghost use Rattle.masked_rows.specs.Inside.{HoldsInside};
-ghost use Rattle.compute.specs.Computing.{MaskRow, MaskThere, OldRow, secondFlag, Sources, RowBuffers};
-ghost use Rattle.compute.specs.Computing.{Progress, Advanced, Computed};
-
-const FIRST_AT: usize = MAX_MATRIX_WORDS;
-
-const SECOND_AT: usize = 2 * MAX_MATRIX_WORDS;
-
-const REGIONS_END: usize = 3 * MAX_MATRIX_WORDS;
+ghost use Rattle.sources.specs.Sources.{secondFlag, Sources};
+ghost use Rattle.plain_results.specs.Rows.{Inputs};
+ghost use Rattle.compute.specs.Computing.{MaskRow, MaskThere, OldRow, plain, straight, RowBuffers, Progress};
+ghost use Rattle.compute.specs.Computing.{Advanced, Computed};
 
 // Done with the number of entries, or more entries than a matrix may have.
 pub enum Outcome {
@@ -58,39 +55,10 @@ pub fn compute<'a>(
         (now (is .entry)) (now (js .entry))) (now (work .exit)) ⌝ }
 {
     let first = requests::transpose_first(call);
-    orient(first, a, &mut work[FIRST_AT..SECOND_AT]);
-    let second = second_flag(call);
-    orient(second, b, &mut work[SECOND_AT..REGIONS_END]);
+    sources::orient(first, a, &mut work[FIRST_AT..SECOND_AT]);
+    let second = sources::second_flag(call);
+    sources::orient(second, b, &mut work[SECOND_AT..REGIONS_END]);
     compute_rows(call, first, second, a, b, mask, c, is, js, work, engine)
-}
-
-// Whether there is a second input and it is transposed.
-fn second_flag(call: Call) -> bool
-    ensures { λ r. ⌜ r ≡ secondFlag call ⌝ }
-{
-    let operation = call.operation;
-    if !requests::has_second(operation) {
-        return false;
-    }
-    requests::transpose_second(call)
-}
-
-// The transpose of a matrix, where it is asked for.
-fn orient(flag: bool, a: &[u32], out: &mut [u32])
-    requires { ⌜ (flag ≡ true → Matrix (now a)) ⌝ ∗ ⌜ maxMatrixWords ≤ length (now out) ⌝ }
-    ensures { λ _. ⌜ now (out .exit) ≡ cond flag (writtenOver (transposed (gridOf (now (a .entry))))
-        (now (out .entry))) (now (out .entry)) ⌝ }
-{
-    if flag {
-        transpose::transpose(a, out);
-    }
-}
-
-// One of two slices.
-fn choose<'a>(flag: bool, x: &'a [u32], y: &'a [u32]) -> &'a [u32]
-    ensures { λ r. ⌜ now r ≡ cond flag (now (x .entry)) (now (y .entry)) ⌝ }
-{
-    if flag { x } else { y }
 }
 
 // How the call writes back.
@@ -234,8 +202,8 @@ fn final_row<'a>(
         (now (is .entry)) (now (js .entry)) .cell i)
         r (now (oc .exit)) (now (ov .exit)) ⌝ }
 {
-    let x = choose(first, &work[FIRST_AT..SECOND_AT], a);
-    let y = choose(second, &work[SECOND_AT..REGIONS_END], b);
+    let x = sources::choose(first, &work[FIRST_AT..SECOND_AT], a);
+    let y = sources::choose(second, &work[SECOND_AT..REGIONS_END], b);
     let operation = call.operation;
     let w = write_back_of(call);
     let t = row_inside(engine, w, mask, operation, x, y, c, is, js, i, tc, tv);
@@ -365,8 +333,87 @@ fn all_rows<'a>(
     Outcome::Done(n)
 }
 
-// All rows, with the buffers of a row on the stack.
+// All rows: written straight to their place where C takes T and no input stands in the workspace, else merged.
 fn compute_rows<'a>(
+    call: Call,
+    first: bool,
+    second: bool,
+    a: &'a [u32],
+    b: &'a [u32],
+    mask: &[u32],
+    c: &[u32],
+    is: &[u32],
+    js: &[u32],
+    work: &mut [u32],
+    engine: Engine,
+) -> Outcome
+    requires { ⌜ Ready call (now a) (now b) (now mask) (now c) (now is) (now js) ⌝
+        ∗ ⌜ Sources call (now a) (now b) (now work) ⌝ }
+    requires { ⌜ (first ≡ transposeFirst call) × (second ≡ secondFlag call) ⌝ ∗ ⌜ workspaceWords ≤ length (now work) ⌝ }
+    ensures { λ r. ⌜ Computed r (lentFinal call (now (a .entry)) (now (b .entry)) (now (mask .entry)) (now (c .entry))
+        (now (is .entry)) (now (js .entry))) (now (work .exit)) ⌝ }
+{
+    if is_straight(write_back_of(call), first, second) {
+        let operation = call.operation;
+        return plain_rows(operation, a, b, c, is, js, work, engine);
+    }
+    merged_rows(call, first, second, a, b, mask, c, is, js, work, engine)
+}
+
+// Whether C takes T in every place, and no input is transposed.
+fn is_straight(w: WriteBack, first: bool, second: bool) -> bool
+    ensures { λ r. ⌜ r ≡ straight w first second ⌝ }
+{
+    if first {
+        return false;
+    }
+    if second {
+        return false;
+    }
+    is_plain(w)
+}
+
+// Whether C takes T in every place: no mask, no complement, no accumulator.
+fn is_plain(w: WriteBack) -> bool
+    ensures { λ r. ⌜ r ≡ plain w ⌝ }
+{
+    if w.has_mask {
+        return false;
+    }
+    if w.complement {
+        return false;
+    }
+    let accumulator = w.accumulator;
+    match accumulator {
+        Accumulator::Absent => true,
+        Accumulator::Present(_) => false,
+    }
+}
+
+// T itself.
+fn plain_rows(
+    operation: Operation,
+    a: &[u32],
+    b: &[u32],
+    c: &[u32],
+    is: &[u32],
+    js: &[u32],
+    work: &mut [u32],
+    engine: Engine,
+) -> Outcome
+    requires { ⌜ Inputs operation (now a) (now b) (now c) (now is) (now js) ⌝ ∗ ⌜ workspaceWords ≤ length (now work) ⌝ }
+    ensures { λ r. ⌜ Computed r (resultGrid operation (gridOf (now (a .entry))) (gridOf (now (b .entry)))
+        (gridOf (now (c .entry))) (now (is .entry)) (now (js .entry))) (now (work .exit)) ⌝ }
+{
+    let n = plain_results::write_result(operation, a, b, c, is, js, work, engine);
+    if (MAX_ENTRIES as usize) < n {
+        return Outcome::Full;
+    }
+    Outcome::Done(n)
+}
+
+// All rows written back, with the buffers of a row on the stack.
+fn merged_rows<'a>(
     call: Call,
     first: bool,
     second: bool,

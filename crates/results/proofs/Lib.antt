@@ -1,2 +1,3 @@
 pub mod Staged
 pub mod Finished
+pub mod Joined

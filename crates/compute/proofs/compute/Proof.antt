@@ -7,7 +7,7 @@ use mathlib.Core.Path.{_≡_, _∙_}
 use mathlib.Core.List.{List}
 use lib.ListN.{length, take, drop}
 use Rattle.matrix.specs.Layout.{maxMatrixWords}
-use Rattle.compute.proofs.Sources.{region-long, length₁, regions-length, sources-made, second-there}
+use Rattle.sources.proofs.Sources.{region-long, length₁, regions-length, sources-made, second-there}
 use borrow.Author.Needs.{needs}
 use Rattle.compute.proofs.compute.Statement.{statement}
 use Rattle.compute.proofs.compute.Tie as tie

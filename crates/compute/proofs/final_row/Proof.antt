@@ -7,8 +7,8 @@ use denote.Ref.{now}
 use lib.ListN.{length, length-take}
 use Rattle.rows.proofs.Holds.{holds-most}
 use Rattle.operations.specs.Calls.{transposeFirst, transposeSecond, hasSecond}
-use Rattle.compute.specs.Computing.{secondRegion, Source}
-use Rattle.compute.proofs.Sources.{first-read, second-read}
+use Rattle.sources.specs.Sources.{secondRegion, Source}
+use Rattle.sources.proofs.Sources.{first-read, second-read}
 use Rattle.compute.proofs.FinalRow.{row-inputs, row-buffers, mask-there, old-row, final-row}
 use borrow.Author.Needs.{needs}
 use Rattle.compute.proofs.final_row.Statement.{statement}

@@ -19,7 +19,7 @@ use Rattle.operations.specs.declared.Call.{Call}
 use Rattle.operations.specs.GridOperations.{transposed}
 use Rattle.operations.specs.Calls.{transposeFirst, transposeSecond, hasSecond}
 use Rattle.transpose.proofs.Transposed.{transposed-within}
-use Rattle.compute.specs.Computing.{secondFlag, firstRegion, secondRegion, source, Source, Sources}
+use Rattle.sources.specs.Sources.{secondFlag, firstRegion, secondRegion, source, Source, Sources}
 
 -- the region after `orient`, or the lent words
 pub source-made : (flag : Bool) (s old new : List ℕ) → Matrix s

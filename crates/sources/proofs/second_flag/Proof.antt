@@ -2,8 +2,8 @@
 use mathlib.Core.Path.{_∙_}
 use Rattle.conditions.proofs.Tests.{said-no, said-yes}
 use borrow.Author.Needs.{needs}
-use Rattle.compute.proofs.second_flag.Statement.{statement}
-use Rattle.compute.proofs.second_flag.Tie as tie
+use Rattle.sources.proofs.second_flag.Statement.{statement}
+use Rattle.sources.proofs.second_flag.Tie as tie
 
 has-second-requires : tie.Need-has-second-requires
 has-second-requires c κs = search needs

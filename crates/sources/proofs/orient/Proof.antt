@@ -1,8 +1,8 @@
 -- `orient` writes the transpose where it is asked for.
 use mathlib.Core.Path.{_∙_}
 use borrow.Author.Needs.{needs}
-use Rattle.compute.proofs.orient.Statement.{statement}
-use Rattle.compute.proofs.orient.Tie as tie
+use Rattle.sources.proofs.orient.Statement.{statement}
+use Rattle.sources.proofs.orient.Tie as tie
 
 transpose-requires : tie.Need-transpose-requires
 transpose-requires c κs = let p = c .before .before .before .before .pre in (p .0 (c .before .if1 .taken), p .1)

@@ -1,0 +1,102 @@
+// T as a whole, for the calls whose final C is T: its rows one after another, then its words at the front of the
+// workspace.
+use limits::MAX_ENTRIES;
+use limits::MAX_ROWS;
+use limits::ROW_PLACES;
+use matrix::layout::COLUMNS_PAST;
+use operations::Operation;
+use products::Engine;
+ghost use Prim.Native.Nat.{_≤_};
+ghost use lib.ListN.{length};
+ghost use Rattle.matrix.specs.Layout.{gridOf, workspaceWords};
+ghost use Rattle.operations.specs.GridOperations.{resultGrid};
+ghost use Rattle.plain_results.specs.Rows.{Inputs, Space, AllRows, Written};
+
+// The places of a buffer for all rows: as many as a matrix may have entries, and one row more.
+const RESULT_PLACES: usize = MAX_ENTRIES as usize + ROW_PLACES;
+
+const START_PLACES: usize = MAX_ROWS as usize;
+
+// T at the front of the workspace: its column numbers are written where they stay, the starts of its rows and its values
+// are joined to them at the end. The number of entries; where it is too large, that of the rows so far.
+pub fn write_result(
+    operation: Operation,
+    a: &[u32],
+    b: &[u32],
+    c: &[u32],
+    is: &[u32],
+    js: &[u32],
+    work: &mut [u32],
+    engine: Engine,
+) -> usize
+    requires { ⌜ Inputs operation (now a) (now b) (now c) (now is) (now js) ⌝ ∗ ⌜ workspaceWords ≤ length (now work) ⌝ }
+    ensures { λ r. ⌜ Written (resultGrid operation (gridOf (now (a .entry))) (gridOf (now (b .entry)))
+        (gridOf (now (c .entry))) (now (is .entry)) (now (js .entry))) r (now (work .exit)) ⌝ }
+{
+    let mut starts = [0u32; START_PLACES];
+    let mut ov = [0u32; RESULT_PLACES];
+    let total = matrix::row_count(c) as usize;
+    let n = all_rows(
+        operation,
+        a,
+        b,
+        c,
+        is,
+        js,
+        &mut starts,
+        &mut work[total + COLUMNS_PAST..],
+        &mut ov,
+        engine,
+    );
+    if (MAX_ENTRIES as usize) < n {
+        return n;
+    }
+    let cols = matrix::col_count(c) as usize;
+    results::join(work, total, cols, &starts[..total], &ov[..n]);
+    n
+}
+
+// The rows of T: where each begins in `starts`, and their column numbers and values in `oc` and `ov`. The number of
+// entries; where it is too large, that of the rows so far.
+fn all_rows(
+    operation: Operation,
+    a: &[u32],
+    b: &[u32],
+    c: &[u32],
+    is: &[u32],
+    js: &[u32],
+    starts: &mut [u32],
+    oc: &mut [u32],
+    ov: &mut [u32],
+    engine: Engine,
+) -> usize
+    requires { ⌜ Inputs operation (now a) (now b) (now c) (now is) (now js) ⌝ }
+    requires { ⌜ Space (now starts) (now oc) (now ov) ⌝ }
+    ensures { λ r. ⌜ AllRows (resultGrid operation (gridOf (now (a .entry))) (gridOf (now (b .entry)))
+        (gridOf (now (c .entry))) (now (is .entry)) (now (js .entry)))
+        r (now (starts .exit)) (now (oc .exit)) (now (ov .exit)) ⌝ }
+{
+    let total = matrix::row_count(c) as usize;
+    let mut n: usize = 0;
+    let mut i: usize = 0;
+    while i < total {
+        starts[i] = n as u32;
+        n += result_rows::result_row(
+            engine,
+            operation,
+            a,
+            b,
+            c,
+            is,
+            js,
+            i,
+            &mut oc[n..],
+            &mut ov[n..],
+        );
+        if (MAX_ENTRIES as usize) < n {
+            return n;
+        }
+        i += 1;
+    }
+    n
+}
