@@ -153,7 +153,8 @@ pub extern "C" fn ostrubel_mxm_by_places<'a>(
     c: &mut [u32],
     work: &mut [u32],
 ) -> u64
-    ensures { λ r. ⌜ LentCompleted (decoded (optionsOf flags «has_mask» «has_accumulator» accumulator) (verbs.Mxm monoid op))
+    ensures { λ r. ⌜ LentCompleted
+        (decoded (optionsOf flags «has_mask» «has_accumulator» accumulator) (verbs.Mxm monoid op))
         (now (a .entry)) (now (b .entry)) (now (mask .entry)) (now (c .entry)) [] [] (now (work .entry))
         r (now (c .exit)) (now (work .exit)) ⌝ }
 {
@@ -188,7 +189,8 @@ pub extern "C" fn ostrubel_vxm_by_places<'a>(
     c: &mut [u32],
     work: &mut [u32],
 ) -> u64
-    ensures { λ r. ⌜ LentCompleted (decoded (optionsOf flags «has_mask» «has_accumulator» accumulator) (verbs.Vxm monoid op))
+    ensures { λ r. ⌜ LentCompleted
+        (decoded (optionsOf flags «has_mask» «has_accumulator» accumulator) (verbs.Vxm monoid op))
         (now (u .entry)) (now (a .entry)) (now (mask .entry)) (now (c .entry)) [] [] (now (work .entry))
         r (now (c .exit)) (now (work .exit)) ⌝ }
 {

@@ -1,9 +1,9 @@
--- Document 02, A10, at whole calls: for every call, any numbers and any words, the answer, every word of C's buffer or of
--- the store, spare words included, and every word of the workspace are the same with either engine.
+-- Document 02, A10, at whole calls: for every call, any numbers and any words, the answer, every word of C's buffer or
+-- of the store, spare words included, and every word of the workspace are the same with either engine.
 --
 -- What a call does is taken from the contract of `calls::operate_with` and `store_calls::operate_with`, by name, at
--- `Engine::ByPlaces` and at `Engine::ByEntries`; and from that of `calls::operate` and `store_calls::operate`, the calls
--- of hosts.
+-- `Engine::ByPlaces` and at `Engine::ByEntries`; and from that of `calls::operate` and `store_calls::operate`, the
+-- calls of hosts.
 use Prim.Native.Nat.{ℕ}
 use mathlib.Core.Path.{_≡_}
 use mathlib.Core.List.{List}
@@ -46,7 +46,7 @@ pub record CallWords : Type 0 where
   pub c : List ℕ
   pub work : List ℕ
 
--- A call of `calls::operate_with` with an engine: its answer, and the words of C's buffer and of the workspace after it.
+-- A call of `calls::operate_with` with an engine: its answer, and the words of C's buffer and of the workspace after.
 abbrev pub CallWith : Engine → CallAddresses → Lfts 6 → Options → Verb → CallWords → Answer → List ℕ → List ℕ → Type 0
 CallWith engine p κs o verb s answer c′ w′ =
     with.Learnt κs (

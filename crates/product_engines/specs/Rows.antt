@@ -1,8 +1,8 @@
--- Document 02, A10, at one row: "a second engine that takes time by entries rather than by places, and prove it equal to
--- the present one, answers and buffers, for every input".
+-- Document 02, A10, at one row: "a second engine that takes time by entries rather than by places, and prove it equal
+-- to the present one, answers and buffers, for every input".
 --
--- What an engine does is taken from its own contract, by name: `Reads.Learnt` is what a caller learns when it returns. The
--- words behind the row are scratch to both engines, and no caller reads them.
+-- What an engine does is taken from its own contract, by name: `Reads.Learnt` is what a caller learns when it returns.
+-- The words behind the row are scratch to both engines, and no caller reads them.
 use Prim.Native.Nat.{ℕ}
 use mathlib.Core.Path.{_≡_}
 use mathlib.Core.List.{List}
