@@ -176,6 +176,18 @@ uint64_t ostrubel_vxm(uint32_t flags, uint32_t has_mask, uint32_t has_accumulato
                       const uint32_t *mask, size_t mask_len, uint32_t *c, size_t c_len, uint32_t *work,
                       size_t work_len);
 
+/* ostrubel_mxm and ostrubel_vxm by the first of the library's two engines of the product, for comparison: the same answers
+ * and the same words, in more time. */
+uint64_t ostrubel_mxm_by_places(uint32_t flags, uint32_t has_mask, uint32_t has_accumulator, uint32_t accumulator,
+                                uint32_t monoid, uint32_t op, const uint32_t *a, size_t a_len, const uint32_t *b,
+                                size_t b_len, const uint32_t *mask, size_t mask_len, uint32_t *c, size_t c_len,
+                                uint32_t *work, size_t work_len);
+
+uint64_t ostrubel_vxm_by_places(uint32_t flags, uint32_t has_mask, uint32_t has_accumulator, uint32_t accumulator,
+                                uint32_t monoid, uint32_t op, const uint32_t *u, size_t u_len, const uint32_t *a,
+                                size_t a_len, const uint32_t *mask, size_t mask_len, uint32_t *c, size_t c_len,
+                                uint32_t *work, size_t work_len);
+
 /* Where both A and B have an entry: op of the two. */
 uint64_t ostrubel_ewise_mult(uint32_t flags, uint32_t has_mask, uint32_t has_accumulator, uint32_t accumulator,
                              uint32_t op, const uint32_t *a, size_t a_len, const uint32_t *b, size_t b_len,

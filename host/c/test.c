@@ -101,6 +101,19 @@ static void test_products(void) {
     SAME(c, 2, 1, 3, 2, 0, 3, 3, 0, 1, 2, 3, 69, 84, 12, 99, 0);
     CHECK(work_cleared());
 
+    /* the first engine of the product: the same answer and the same words */
+    uint32_t d[16] = {0};
+    ACCEPTED(ostrubel_new_empty(1, 3, WORDS(d)), 0);
+    d[14] = 99;
+    fill_work();
+    CHECK(ostrubel_vxm_by_places(PLAIN, OSTRUBEL_PLUS, OSTRUBEL_PLUS, WORDS(strip), WORDS(matrix), NO_MASK, WORDS(d),
+                                 WORDS(work)) == answer);
+    SAME(d, 2, 1, 3, 2, 0, 3, 3, 0, 1, 2, 3, 69, 84, 12, 99, 0);
+    CHECK(work_cleared());
+    CHECK(ostrubel_mxm_by_places(PLAIN, OSTRUBEL_PLUS, OSTRUBEL_PLUS, WORDS(strip), WORDS(matrix), NO_MASK, WORDS(d),
+                                 WORDS(work)) == answer);
+    SAME(d, 2, 1, 3, 2, 0, 3, 3, 0, 1, 2, 3, 69, 84, 12, 99, 0);
+
     /* the accumulator: PLUS of old C and the same again */
     ACCEPTED(ostrubel_mxm(0, 0, 1, OSTRUBEL_PLUS, OSTRUBEL_PLUS, OSTRUBEL_PLUS, WORDS(strip), WORDS(matrix), NO_MASK,
                           WORDS(c), WORDS(work)), 3);

@@ -150,6 +150,44 @@ operation!(
     /// C gets u times A, where u has one row.
     vxm ostrubel_vxm store_vxm ostrubel_store_vxm, [monoid, op], [u u_n, a a_n], [u, a], []
 );
+
+/// A product by the first of the library's two engines, on lent matrices: the C function and a safe function.
+macro_rules! product_by_places {
+    ($(#[$about:meta])* $lent:ident $c_lent:ident) => {
+        extern "C" {
+            fn $c_lent(
+                flags: u32, has_mask: u32, has_accumulator: u32, accumulator: u32, monoid: u32, op: u32,
+                a: *const u32, a_n: usize, b: *const u32, b_n: usize,
+                mask: *const u32, mask_n: usize, c: *mut u32, c_n: usize, work: *mut u32, work_n: usize,
+            ) -> u64;
+        }
+
+        $(#[$about])*
+        #[allow(clippy::too_many_arguments)]
+        pub fn $lent(
+            options: OptionNumbers, monoid: u32, op: u32, a: &[u32], b: &[u32],
+            mask: &[u32], c: &mut [u32], work: &mut [u32],
+        ) -> u64 {
+            let OptionNumbers { flags, has_mask, has_accumulator, accumulator } = options;
+            unsafe {
+                $c_lent(
+                    flags, has_mask, has_accumulator, accumulator, monoid, op,
+                    a.as_ptr(), a.len(), b.as_ptr(), b.len(),
+                    mask.as_ptr(), mask.len(), c.as_mut_ptr(), c.len(), work.as_mut_ptr(), work.len(),
+                )
+            }
+        }
+    };
+}
+
+product_by_places!(
+    /// `mxm` by the first engine of the product, for comparison: the same answers and words, in more time.
+    mxm_by_places ostrubel_mxm_by_places
+);
+product_by_places!(
+    /// `vxm` by the first engine, likewise.
+    vxm_by_places ostrubel_vxm_by_places
+);
 operation!(
     /// Where both A and B have an entry: op of the two.
     ewise_mult ostrubel_ewise_mult store_ewise_mult ostrubel_store_ewise_mult, [op], [a a_n, b b_n], [a, b], []

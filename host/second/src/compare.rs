@@ -33,9 +33,11 @@ fn differences(expected: &Outcome, seen: &Outcome, answers: Answers) -> Vec<Stri
     lines
 }
 
-/// A call that was carried out by the library. Operations also tell their flags and numbers.
+/// A call that was carried out by the library, a product on lent sheets also by its first engine. Operations also tell
+/// their flags and numbers.
 pub struct Seen {
     pub outcome: Outcome,
+    pub by_places: Option<Outcome>,
     pub name: &'static str,
     pub chosen: Option<(u32, (u32, u32))>,
 }
@@ -45,7 +47,7 @@ pub fn see_lent(call: &LentCall) -> Seen {
         LentCall::Operation(call) => Some((call.options.flags, call.operation.numbers())),
         _ => None,
     };
-    Seen { outcome: library::lent(call), name: call.name(), chosen }
+    Seen { outcome: library::lent(call), by_places: library::lent_by_places(call), name: call.name(), chosen }
 }
 
 pub fn see_list(list: &StoreList) -> Vec<Seen> {
@@ -55,13 +57,19 @@ pub fn see_list(list: &StoreList) -> Vec<Seen> {
             StoreCall::Operation(call) => Some((call.options.flags, call.operation.numbers())),
             _ => None,
         };
-        Seen { outcome: library::store(&mut words, call), name: call.name(), chosen }
+        Seen { outcome: library::store(&mut words, call), by_places: None, name: call.name(), chosen }
     };
     list.calls.iter().map(&mut see).collect()
 }
 
 pub fn judge_lent(model: Model, call: &LentCall, seen: &Seen) -> Vec<String> {
-    differences(&model.lent(call), &seen.outcome, answers_of(seen.name))
+    let expected = model.lent(call);
+    let mut lines = differences(&expected, &seen.outcome, answers_of(seen.name));
+    if let Some(outcome) = &seen.by_places {
+        let first = differences(&expected, outcome, answers_of(seen.name));
+        lines.extend(first.into_iter().map(|line| format!("by places: {line}")));
+    }
+    lines
 }
 
 /// The number of the first call that differs, with the differences.

@@ -3,8 +3,16 @@
 use crate::calls::{Operation, Options};
 use ostrubel::calls;
 
-/// An operation on lent sheets; `a`, `b` and `mask` may be one slice.
+/// The library's engines of the product.
+#[derive(Clone, Copy, PartialEq, Eq)]
+pub enum Engine {
+    ByPlaces,
+    ByEntries,
+}
+
+/// An operation on lent sheets; `a`, `b` and `mask` may be one slice. The engine is the product's.
 pub fn operation(
+    engine: Engine,
     operation: &Operation,
     options: &Options,
     [a, b, mask]: [&[u32]; 3],
@@ -14,6 +22,12 @@ pub fn operation(
 ) -> u64 {
     let options = options.numbers();
     match *operation {
+        Operation::Mxm { monoid, op } if engine == Engine::ByPlaces => {
+            calls::mxm_by_places(options, monoid, op, a, b, mask, c, work)
+        }
+        Operation::Vxm { monoid, op } if engine == Engine::ByPlaces => {
+            calls::vxm_by_places(options, monoid, op, a, b, mask, c, work)
+        }
         Operation::Mxm { monoid, op } => calls::mxm(options, monoid, op, a, b, mask, c, work),
         Operation::Vxm { monoid, op } => calls::vxm(options, monoid, op, a, b, mask, c, work),
         Operation::EwiseMult { op } => calls::ewise_mult(options, op, a, b, mask, c, work),

@@ -1,7 +1,7 @@
 //! Carries out calls by the library, and reports what it left in every lent word.
 
 use crate::calls::*;
-use crate::ffi;
+use crate::ffi::{self, Engine};
 use ostrubel::calls as library;
 
 const GUARD: u32 = 0xA5C3_5A3C;
@@ -76,17 +76,28 @@ pub fn lent(call: &LentCall) -> Outcome {
             let answer = library::row_view(*i, *values, first.words(), second.words());
             Outcome { answer, buffers: vec![first.returned(), second.returned()] }
         }
-        LentCall::Operation(call) => lent_operation(call),
+        LentCall::Operation(call) => lent_operation(Engine::ByEntries, call),
     }
 }
 
-fn lent_operation(call: &LentOperation) -> Outcome {
+/// A product by the library's first engine.
+pub fn lent_by_places(call: &LentCall) -> Option<Outcome> {
+    match call {
+        LentCall::Operation(call) if matches!(call.operation, Operation::Mxm { .. } | Operation::Vxm { .. }) => {
+            Some(lent_operation(Engine::ByPlaces, call))
+        }
+        _ => None,
+    }
+}
+
+fn lent_operation(engine: Engine, call: &LentOperation) -> Outcome {
     let inputs: Vec<Lent> =
         call.inputs.iter().enumerate().map(|(number, words)| Lent::new(&format!("input {number}"), words)).collect();
     let lists = lists(&call.operation);
     let mut c = Lent::new("C", &call.c);
     let mut work = Lent::new("work buffer", &call.work.words());
     let answer = ffi::operation(
+        engine,
         &call.operation,
         &call.options,
         [call.a, call.b, call.mask].map(|role| inputs[role].words()),
