@@ -81,6 +81,8 @@ impl Buffers {
             calls::row_view(999, 0, a, b),
             calls::mxm(EVERYTHING, PLUS, TIMES, a, b, mask, c, work),
             calls::vxm(TRANSPOSED, PLUS, TIMES, vector, a, mask, c_row, work),
+            calls::mxm_by_places(EVERYTHING, PLUS, TIMES, a, b, mask, c, work),
+            calls::vxm_by_places(TRANSPOSED, PLUS, TIMES, vector, a, mask, c_row, work),
             calls::ewise_mult(EVERYTHING, TIMES, a, b, mask, c, work),
             calls::ewise_add(EVERYTHING, TIMES, a, b, mask, c, work),
             calls::apply(EVERYTHING, INDEX, DIAGINDEX, 5, a, mask, c, work),
