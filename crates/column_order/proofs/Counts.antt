@@ -1,16 +1,11 @@
 -- Laws of `count`: a turn of a loop that counts, counts of two ranges, and counts that are 0.
-use Prim.Native.Nat.{ℕ, zero, suc, _+_, _≤_, _<_}
+use Prim.Native.Nat.{ℕ, zero, suc, _+_, _<_}
 use native.Mathlib.Omega.{arith}
 use native.Mathlib.Numerals.{add-one}
 use native.Mathlib.Decide.{decLt}
 use mathlib.Core.Path.{_≡_, refl}
 use mathlib.Core.Bool.{Bool, true, false}
 use Rattle.column_order.specs.Falls.{one, count}
-
--- a test is counted at most once
-pub one-most : (b : Bool) → one b ≤ 1
-one-most true = omega arith
-one-most false = omega arith
 
 -- where a loop starts
 pub count-none : (p : ℕ → Bool) → count 0 p ≡ 0

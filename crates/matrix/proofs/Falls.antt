@@ -9,13 +9,13 @@ use mathlib.Core.List.{List}
 use mathlib.Core.Bool.{Bool, true, false, false≢true}
 use lib.ListN.{length}
 use lib.Dec.{ltb, eqb}
-use borrow.Author.Tests.{eq-eqb, ne-eqb, lt-ltb, le-ltb, ltb-true, le-leb, lt-leb}
+use borrow.Author.Tests.{eq-eqb, ne-eqb, lt-ltb, le-ltb, ltb-true}
 use Rattle.words.specs.Words.{at, part}
 use Rattle.words.proofs.Parts.{length-part, part-at}
 use Rattle.conditions.specs.Tests.{_and_, all}
 use Rattle.conditions.proofs.Tests.{refuted, all-at, all-made}
 use Rattle.rows.proofs.Rising.{rising-below}
-use Rattle.column_order.specs.Falls.{allBelow, one, count, fallsAfter, falls}
+use Rattle.column_order.specs.Falls.{allBelow, count, fallsAfter, falls}
 use Rattle.column_order.proofs.Counts.{count-same}
 use Rattle.column_order.proofs.Parts.{within, first-all, none-within}
 use Rattle.column_order.proofs.Rising.{rising-falls, falls-rising}
@@ -26,23 +26,15 @@ use Rattle.matrix.specs.Falls.{fallsAtStart, startFalls}
 use Rattle.matrix.proofs.Facts.{rowRises, row-span}
 use Rattle.matrix.proofs.Rows.{columns-length}
 
--- the answers of `start_fall`: a row without entries, one whose first column number is above the word before it, any other
+-- the answers of `falls_at_start`
 module _ (s : List ℕ) (i : ℕ) where
-  abbrev before : ℕ
-  before = countAt (rows s) + start s i
-
-  pub no-entries : start s (i + 1) ≤ start s i → _≡_ {A = ℕ} 0 (one (fallsAtStart s i))
+  pub no-entries : start s (i + 1) ≤ start s i → false ≡ fallsAtStart s i
   unfolding _and_
   no-entries h = rw (le-ltb _ _ h)
 
-  module _ (l : start s i < start s (i + 1)) where
-    pub first-above : at s before < at s (before + 1) → _≡_ {A = ℕ} 0 (one (fallsAtStart s i))
-    unfolding _and_
-    first-above h = rw (lt-ltb _ _ l, lt-leb _ _ h)
-
-    pub first-falls : at s (before + 1) ≤ at s before → _≡_ {A = ℕ} 1 (one (fallsAtStart s i))
-    unfolding _and_
-    first-falls h = rw (lt-ltb _ _ l, le-leb _ _ h)
+  pub first-decides : start s i < start s (i + 1) → fallsAfter s (countAt (rows s) + start s i) ≡ fallsAtStart s i
+  unfolding _and_
+  first-decides l = rw (lt-ltb _ _ l)
 
 -- N and the column numbers, and the column numbers alone
 abbrev pub countedColumns : List ℕ → List ℕ

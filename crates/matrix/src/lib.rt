@@ -22,7 +22,6 @@ pub mod layout;
 ghost use mathlib.Core.Path.{_≡_};
 ghost use Prim.Native.Nat.{_+_};
 ghost use Rattle.words.specs.Lent.{PartOf};
-ghost use Rattle.column_order.specs.Falls.{one};
 ghost use Rattle.matrix.specs.Layout.{rows, cols, entries, columnsFrom, valuesFrom};
 ghost use Rattle.matrix.specs.Valid.{inRange, headerValid, startsValid, rowsValid, valid, checkAnswer};
 ghost use Rattle.matrix.specs.Facts.{Header, Starts, RowSpan};
@@ -220,23 +219,22 @@ fn start_falls(words: &[u32]) -> u32
     let mut falls: u32 = 0;
     let mut i = 0;
     while i < r {
-        falls = falls + start_fall(words, i);
+        if falls_at_start(words, i) {
+            falls = falls + 1;
+        }
         i += 1;
     }
     falls
 }
 
-// 1 where row i has entries and its first column number is not above the word before it, else 0.
-fn start_fall(words: &[u32], i: usize) -> u32
+// Whether row i has entries and the first of its column numbers is not above the word before it.
+fn falls_at_start(words: &[u32], i: usize) -> bool
     requires { ⌜ Header (now words) ⌝ ∗ ⌜ RowSpan (now words) i ⌝ }
-    ensures { λ r. ⌜ r ≡ one (fallsAtStart (now (words .entry)) i) ⌝ }
+    ensures { λ r. ⌜ r ≡ fallsAtStart (now (words .entry)) i ⌝ }
 {
     if words[i + 1 + STARTS_AT] <= words[i + STARTS_AT] {
-        return 0;
+        return false;
     }
     let at = words[ROWS_AT] as usize + COUNT_PAST + words[i + STARTS_AT] as usize;
-    if words[at] < words[at + 1] {
-        return 0;
-    }
-    1
+    words[at + 1] <= words[at]
 }

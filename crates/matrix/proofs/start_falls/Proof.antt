@@ -1,12 +1,12 @@
 -- `start_falls` is `startFalls`: the falls at the starts of the rows passed.
 use native.Mathlib.Omega.{arith}
-use Prim.Native.Nat.{ℕ, _-_, _≤_}
-use mathlib.Core.Path.{_≡_, sym}
-use mathlib.Core.List.{List}
+use Prim.Native.Nat.{_-_, _≤_}
+use mathlib.Core.Path.{_≡_, sym, _∙_}
+use mathlib.Core.Logic.{⊎-elim}
 use denote.Ref.{now}
 use borrow.Author.Needs.{needs}
-use Rattle.column_order.specs.Falls.{one, count}
-use Rattle.column_order.proofs.Counts.{count-none, count-next, one-most}
+use Rattle.column_order.specs.Falls.{count}
+use Rattle.column_order.proofs.Counts.{count-none, count-met, count-missed}
 use Rattle.matrix.specs.Layout.{rows}
 use Rattle.matrix.specs.Falls.{fallsAtStart, startFalls}
 use Rattle.matrix.proofs.Facts.{row-span}
@@ -29,21 +29,13 @@ cast-r c = search needs
 loop-holds : tie.Need-loop-holds Inv-loop μ-loop
 loop-holds c = (omega arith, omega arith, omega arith, sym (count-none _))
 
-start-fall-requires : tie.Need-start-fall-requires Inv-loop μ-loop
-start-fall-requires c κs =
+falls-at-start-requires : tie.Need-falls-at-start-requires Inv-loop μ-loop
+falls-at-start-requires c κs =
     let p = c .before .before .before .before .pre in
     (p .0, row-span _ (p .1) (c .before .loop .i) (omega arith))
 
--- the words, and what was counted of row i
-abbrev words-of : tie.After-start-fall Inv-loop μ-loop → List ℕ
-words-of c = now (c .before .before .before .before .before .args .words)
-
-counted : (c : tie.After-start-fall Inv-loop μ-loop)
-    → c .start-fall .result ≡ one (fallsAtStart (words-of c) (c .before .before .loop .i))
-counted c = c .start-fall .ensures
-
 add-falls : tie.Need-add-falls Inv-loop μ-loop
-add-falls c = omega (arith, counted c, one-most (fallsAtStart (words-of c) (c .before .before .loop .i)))
+add-falls c = search needs
 
 add-i : tie.Need-add-i Inv-loop μ-loop
 add-i c = search needs
@@ -53,11 +45,17 @@ loop-less c = search needs
 
 loop-again : tie.Need-loop-again Inv-loop μ-loop
 loop-again c =
-    let turn = c .before .before in
-    let e = counted c in
-    let m = one-most (fallsAtStart (words-of c) (turn .loop .i)) in
-    let n = count-next (turn .loop .i) (fallsAtStart (words-of c)) in
-    (omega arith, omega arith, omega arith, omega arith)
+    let turn = c .before .before .before in
+    let said = c .before .falls-at-start .ensures in
+    let p = fallsAtStart (now (turn .before .before .before .args .words)) in (
+      omega arith,
+      omega arith,
+      ⊎-elim (λ w. omega (arith, w .1)) (λ w. omega (arith, w .1)) (c .if1 .came),
+      ⊎-elim
+          (λ w. w .1 ∙ count-met (turn .loop .i) _ p (turn .loop .inv .3) (sym said ∙ w .0 .taken))
+          (λ w. w .1 ∙ count-missed (turn .loop .i) _ p (turn .loop .inv .3) (sym said ∙ w .0 .left))
+          (c .if1 .came),
+    )
 
 returns : tie.Need-returns Inv-loop μ-loop
 unfolding startFalls
@@ -75,7 +73,7 @@ start-falls-spec =
     shared-slice-read-r
     cast-r
     loop-holds
-    start-fall-requires
+    falls-at-start-requires
     add-falls
     add-i
     loop-less

@@ -1,9 +1,9 @@
--- `start_fall` is the test `fallsAtStart` as a number.
+-- `falls_at_start` is the test `fallsAtStart`.
 use denote.Ref.{now}
 use borrow.Author.Needs.{needs}
-use Rattle.matrix.proofs.Falls.{no-entries, first-above, first-falls}
-use Rattle.matrix.proofs.start_fall.Statement.{statement}
-use Rattle.matrix.proofs.start_fall.Tie as tie
+use Rattle.matrix.proofs.Falls.{no-entries, first-decides}
+use Rattle.matrix.proofs.falls_at_start.Statement.{statement}
+use Rattle.matrix.proofs.falls_at_start.Tie as tie
 
 add-if1 : tie.Need-add-if1
 add-if1 c = search needs
@@ -55,35 +55,29 @@ cast-at-2 c = search needs
 add-at-3 : tie.Need-add-at-3
 add-at-3 c = search needs
 
-mul-if2 : tie.Need-mul-if2
-mul-if2 c = search needs
+add-result : tie.Need-add-result
+add-result c = search needs
 
-shared-slice-read-if2 : tie.Need-shared-slice-read-if2
-shared-slice-read-if2 c = search needs
+mul-result : tie.Need-mul-result
+mul-result c = search needs
 
-add-if2 : tie.Need-add-if2
-add-if2 c = search needs
+shared-slice-read-result : tie.Need-shared-slice-read-result
+shared-slice-read-result c = search needs
 
-mul-if2-2 : tie.Need-mul-if2-2
-mul-if2-2 c = search needs
+mul-result-2 : tie.Need-mul-result-2
+mul-result-2 c = search needs
 
-shared-slice-read-if2-2 : tie.Need-shared-slice-read-if2-2
-shared-slice-read-if2-2 c = search needs
+shared-slice-read-result-2 : tie.Need-shared-slice-read-result-2
+shared-slice-read-result-2 c = search needs
 
 returns-2 : tie.Need-returns-2
 returns-2 c =
-    let filled = c .before .before .before .before .before in
+    let filled = c .before .before .before .before in
     let q = filled .before .before .before in
-    first-above (now (q .args .words)) (q .args .i) (filled .if1 .left) (c .if2 .taken)
+    first-decides (now (q .args .words)) (q .args .i) (filled .if1 .left)
 
-returns-3 : tie.Need-returns-3
-returns-3 c =
-    let filled = c .before .before .before .before .before in
-    let q = filled .before .before .before in
-    first-falls (now (q .args .words)) (q .args .i) (filled .if1 .left) (c .if2 .left)
-
-pub start-fall-spec : {M : Type 1} → statement M
-start-fall-spec =
+pub falls-at-start-spec : {M : Type 1} → statement M
+falls-at-start-spec =
     tie.close
     (tie.spec
     add-if1
@@ -102,10 +96,9 @@ start-fall-spec =
     shared-slice-read-at-2
     cast-at-2
     add-at-3
-    mul-if2
-    shared-slice-read-if2
-    add-if2
-    mul-if2-2
-    shared-slice-read-if2-2
-    returns-2
-    returns-3)
+    add-result
+    mul-result
+    shared-slice-read-result
+    mul-result-2
+    shared-slice-read-result-2
+    returns-2)
