@@ -3,8 +3,8 @@ use Prim.Native.Nat.{ℕ, _-_, _≤_}
 use mathlib.Core.Path.{_≡_}
 use lib.ListN.{length}
 use borrow.Author.Needs.{needs}
-use Rattle.store_test.proofs.fill.Statement.{statement}
-use Rattle.store_test.proofs.fill.Tie as tie
+use Rattle.store_limits_test.proofs.fill.Statement.{statement}
+use Rattle.store_limits_test.proofs.fill.Tie as tie
 
 abbrev Inv-loop : tie.InvT-loop
 Inv-loop store₀ slot n k₀ store k = (length store ≡ length store₀) × (k ≤ n)

@@ -2,8 +2,8 @@
 use native.Mathlib.Omega.{arith}
 use lib.ListN.{length-take}
 use borrow.Author.Needs.{needs}
-use Rattle.store_test.proofs.drop_in.Statement.{statement}
-use Rattle.store_test.proofs.drop_in.Tie as tie
+use Rattle.store_limits_test.proofs.drop_in.Statement.{statement}
+use Rattle.store_limits_test.proofs.drop_in.Tie as tie
 
 slice-relend-prefix-drop-slot : tie.Need-slice-relend-prefix-drop-slot
 slice-relend-prefix-drop-slot c = search needs

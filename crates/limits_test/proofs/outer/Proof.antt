@@ -2,8 +2,8 @@
 use native.Mathlib.Omega.{arith}
 use lib.ListN.{length-take}
 use borrow.Author.Needs.{needs}
-use Rattle.refusals_test.proofs.outer.Statement.{statement}
-use Rattle.refusals_test.proofs.outer.Tie as tie
+use Rattle.limits_test.proofs.outer.Statement.{statement}
+use Rattle.limits_test.proofs.outer.Tie as tie
 
 slice-relend-prefix-outer-in : tie.Need-slice-relend-prefix-outer-in
 slice-relend-prefix-outer-in c = search needs

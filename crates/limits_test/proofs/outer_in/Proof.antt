@@ -2,8 +2,8 @@
 use native.Mathlib.Omega.{arith}
 use lib.ListN.{length-take}
 use borrow.Author.Needs.{needs}
-use Rattle.refusals_test.proofs.outer_in.Statement.{statement}
-use Rattle.refusals_test.proofs.outer_in.Tie as tie
+use Rattle.limits_test.proofs.outer_in.Statement.{statement}
+use Rattle.limits_test.proofs.outer_in.Tie as tie
 
 slice-aggregate-mxm : tie.Need-slice-aggregate-mxm
 slice-aggregate-mxm c = search needs
