@@ -1,14 +1,14 @@
 -- What each operation's row needs, from what is known of the call's inputs.
 use Prim.Native.Nat.{ℕ, _≤_, _<_}
 use native.Mathlib.Omega.{arith}
-use mathlib.Core.Path.{_≡_, refl, sym, fun-ext}
+use mathlib.Core.Path.{_≡_, refl, sym, ap, _∙_, fun-ext}
 use mathlib.Core.List.{List, []}
-use mathlib.Core.Bool.{true}
+use mathlib.Core.Bool.{true, not, false≢true}
 use lib.ListN.{length}
-use borrow.Author.Tests.{eqb-true}
+use borrow.Author.Tests.{eqb-true, eq-eqb}
 use Rattle.limits.specs.Limits.{maxCols}
 use Rattle.words.specs.Words.{at}
-use Rattle.conditions.proofs.Tests.{and-left, and-right}
+use Rattle.conditions.proofs.Tests.{and-left, and-right, all-at}
 use Rattle.grid.specs.Grid.{Grid}
 use Rattle.rows.specs.Row.{Row, lookup}
 use Rattle.matrix.specs.Layout.{rows, cols, rowColumns, rowValues, cellOf}
@@ -19,6 +19,7 @@ use Rattle.operators.specs.declared.ApplyOp.{ApplyOp}
 use Rattle.operators.specs.declared.BinaryOp.{BinaryOp}
 use Rattle.operators.specs.declared.Monoid.{Monoid}
 use Rattle.operations.specs.declared.Operation.the-variants.{Mxm, EwiseMult, EwiseAdd, Apply, Extract}
+use Rattle.operations.specs.Calls.{fresh, indexFits, listValid}
 use Rattle.operations.specs.Lists.{IndexList}
 use Rattle.operations.proofs.Lists.{list-facts}
 use Rattle.extract_rows.specs.Indices.{Indices}
@@ -48,6 +49,24 @@ empty-row n = record {
 pub wider-row : {n m : ℕ} {cs vs : List ℕ} → n ≤ m → Row n cs vs → Row m cs vs
 wider-row h r = record { even = r .even; rises = r .rises; small = λ a l. let s = r .small a l in omega arith }
 
+-- an index of a valid list does not stand before
+list-once : (n : ℕ) (l : List ℕ) → listValid n l ≡ true → (a b : ℕ) → a < b → b < length l → at l a ≡ at l b → ⊥
+unfolding listValid
+list-once n l h a b m k e =
+    let fits = all-at (indexFits n l) (length l) b k (and-right _ _ (and-right _ _ h)) in
+    let new = all-at _ b a m (and-right _ _ fits) in
+    false≢true (sym (ap not (eq-eqb (at l a) (at l b) e)) ∙ new)
+
+-- a valid list of columns
+pub list-indices : (n : ℕ) (l : List ℕ) → n ≤ maxCols → listValid n l ≡ true → Indices l
+list-indices n l m h =
+    let f = list-facts n l h in
+    record {
+      few = omega (arith, f .most);
+      index = λ k b. omega (arith, f .below k b);
+      once = list-once n l h;
+    }
+
 module _ (a b c is js : List ℕ) (i : ℕ) where
   pub product-inputs : (monoid : Monoid) (op : BinaryOp) → RowInputs (Mxm monoid op) a b c is js i → ProductInputs a b i
   product-inputs monoid op h = record {
@@ -75,24 +94,16 @@ module _ (a b c is js : List ℕ) (i : ℕ) where
     row = h .row;
   }
 
-  pub list-inputs : RowInputs Extract a b c is js i → ListInputs a is js i
+  pub list-inputs : RowInputs Extract a b c is js i → ListInputs a b is js i
   list-inputs h =
       let r = list-facts _ _ (and-left _ _ (h .lists)) in
-      let c = list-facts _ _ (and-right _ _ (h .lists)) in
       record {
         first = h .first;
         row = h .row;
         listed = r .below i (h .row);
-        few = c .most;
-        below = c .below;
+        indices = list-indices _ _ (h .first .header .col-range .most) (and-right _ _ (h .lists));
+        inverse = h .inverse refl;
       }
-
--- the lists of extract, for the dense row
-pub indices : {a is js : List ℕ} {i : ℕ} → ListInputs a is js i → Indices js
-indices h = record {
-  few = omega (arith, h .few);
-  index = λ k l. let m = h .below k l in let c = h .first .header .col-range .most in omega arith;
-}
 
 -- buffers for a row of T, said of their lengths
 pub buffers : {g : Grid} {oc ov : List ℕ} → Buffers g oc ov → (g .cols ≤ length oc) × (g .cols ≤ length ov)

@@ -4,7 +4,6 @@ use mathlib.Core.Path.{_≡_}
 use mathlib.Core.List.{List}
 use mathlib.Core.Bool.{true}
 use lib.ListN.{length}
-use Rattle.limits.specs.Limits.{maxList}
 use Rattle.words.specs.Words.{at}
 use Rattle.grid.specs.declared.Cell.{Cell}
 use Rattle.grid.specs.declared.Cell.the-variants.{Absent}
@@ -13,7 +12,8 @@ use Rattle.operations.specs.declared.Operation.{Operation}
 use Rattle.operations.specs.declared.Needs.{Needs}
 use Rattle.operations.specs.declared.Shapes.{Shapes}
 use Rattle.operations.specs.GridOperations.{needsOf, shapesOf}
-use Rattle.operations.specs.Calls.{hasSecond, inputsAgree, listsValid}
+use Rattle.operations.specs.Calls.{hasSecond, hasLists, inputsAgree, listsValid}
+use Rattle.extract_rows.specs.Indices.{Indices, Inverse}
 use Rattle.matrix.specs.Layout.{rows, cols, gridOf}
 use Rattle.matrix.specs.Facts.{Matrix}
 
@@ -24,10 +24,12 @@ rowShapes op a b c is js = shapesOf op (gridOf a) (gridOf b) (gridOf c) is js
 abbrev pub rowNeeds : Operation → List ℕ → List ℕ → List ℕ → List ℕ → List ℕ → Needs
 rowNeeds op a b c is js = needsOf op (rowShapes op a b c is js)
 
--- the matrices that the operation has are valid, their shapes and the lists agree, and T has row i
+-- the matrices that the operation has are valid, their shapes and the lists agree, and T has row i; in the place of a second
+-- input that it does not have stands the inverse of its list of columns
 pub record RowInputs (op : Operation) (a b c is js : List ℕ) (i : ℕ) : Type 0 where
   pub first : Matrix a
   pub second : hasSecond op ≡ true → Matrix b
+  pub inverse : hasLists op ≡ true → Inverse js b
   pub output : Matrix c
   pub agree : inputsAgree (rowShapes op a b c is js) (rowNeeds op a b c is js) ≡ true
   pub lists : listsValid op (rowNeeds op a b c is js .bounds) is js ≡ true
@@ -51,12 +53,12 @@ pub record PairInputs (a b : List ℕ) (i : ℕ) : Type 0 where
   pub same-cols : cols a ≡ cols b
   pub row : i < rows a
 
-pub record ListInputs (a is js : List ℕ) (i : ℕ) : Type 0 where
+pub record ListInputs (a b is js : List ℕ) (i : ℕ) : Type 0 where
   pub first : Matrix a
   pub row : i < length is
   pub listed : at is i < rows a
-  pub few : length js ≤ maxList
-  pub below : (k : ℕ) → k < length js → at js k < cols a
+  pub indices : Indices js
+  pub inverse : Inverse js b
 
 -- a mask's cell where there is no mask
 abbrev pub noCell : Cell

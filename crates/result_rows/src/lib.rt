@@ -1,4 +1,5 @@
-// A row of T for any of the operations. The inputs are valid matrices, as their transpose flags ask; so is the old C.
+// A row of T for any of the operations. The inputs are valid matrices, as their transpose flags ask; so is the old C. Where
+// there are lists and no second input, the inverse of the second list stands in its place.
 use merge::Combine;
 use operations::Operation;
 use operators::ApplyOp;
@@ -44,7 +45,7 @@ pub fn result_row(
         Operation::EwiseMult(op) => pair(Combine::Intersect(op), a, b, i, oc, ov),
         Operation::EwiseAdd(op) => pair(Combine::Unite(op), a, b, i, oc, ov),
         Operation::Apply(op) => applied(op, a, i, oc, ov),
-        Operation::Extract => extracted(a, is, js, i, oc, ov),
+        Operation::Extract => extracted(a, b, is, js, i, oc, ov),
     }
 }
 
@@ -118,9 +119,17 @@ fn applied(op: ApplyOp, a: &[u32], i: usize, oc: &mut [u32], ov: &mut [u32]) -> 
     )
 }
 
-// A row of extract.
-fn extracted(a: &[u32], is: &[u32], js: &[u32], i: usize, oc: &mut [u32], ov: &mut [u32]) -> usize
-    requires { ⌜ ListInputs (now a) (now is) (now js) i ⌝ }
+// A row of extract, where b is the inverse of js.
+fn extracted(
+    a: &[u32],
+    b: &[u32],
+    is: &[u32],
+    js: &[u32],
+    i: usize,
+    oc: &mut [u32],
+    ov: &mut [u32],
+) -> usize
+    requires { ⌜ ListInputs (now a) (now b) (now is) (now js) i ⌝ }
     requires { ⌜ (length (now js) ≤ length (now oc)) × (length (now js) ≤ length (now ov)) ⌝ }
     ensures { λ r. ⌜ Holds (length (now (js .entry)))
         (λ j. cellOf (now (a .entry)) (at (now (is .entry)) i) (at (now (js .entry)) j))
@@ -131,6 +140,7 @@ fn extracted(a: &[u32], is: &[u32], js: &[u32], i: usize, oc: &mut [u32], ov: &m
         matrix::row_columns(a, row),
         matrix::row_values(a, row),
         js,
+        b,
         oc,
         ov,
     )

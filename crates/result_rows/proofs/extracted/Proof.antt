@@ -1,6 +1,6 @@
 -- `extracted` is a row of extract.
 use Rattle.matrix.specs.Layout.{cellOf}
-use Rattle.result_rows.proofs.Inputs.{matrix-row, matrix-span, wider-row, indices}
+use Rattle.result_rows.proofs.Inputs.{matrix-row, matrix-span, wider-row}
 use borrow.Author.Needs.{needs}
 use Rattle.result_rows.proofs.extracted.Statement.{statement}
 use Rattle.result_rows.proofs.extracted.Tie as tie
@@ -16,22 +16,22 @@ cast-row c = search needs
 
 row-columns-requires : tie.Need-row-columns-requires
 row-columns-requires c κs =
-    let h = c .before .before .before .before .before .before .pre .0 in
+    let h = c .before .before .before .before .before .before .before .pre .0 in
     (h .first .header, matrix-span _ (h .first) _ (h .listed))
 
 row-values-requires : tie.Need-row-values-requires
 row-values-requires c κs =
-    let h = c .before .before .before .before .before .before .before .pre .0 in
+    let h = c .before .before .before .before .before .before .before .before .pre .0 in
     (h .first .header, matrix-span _ (h .first) _ (h .listed))
 
 extract-row-requires : tie.Need-extract-row-requires
 extract-row-requires c κs =
-    let p = c .before .before .before .before .before .before .before .before .before .before .pre in
+    let p = c .before .before .before .before .before .before .before .before .before .before .before .pre in
     let h = p .0 in
     let r = c .before .before in (
       rw (r .before .row-columns .ensures .words, r .row-values .ensures .words)
           (wider-row (h .first .header .col-range .most) (matrix-row _ (h .first) _ (h .listed))),
-      (indices h, p .1),
+      (h .indices, (h .inverse, p .1)),
     )
 
 same-length : tie.Need-same-length

@@ -1,0 +1,2 @@
+pub mod Inverting
+pub mod Extracting
