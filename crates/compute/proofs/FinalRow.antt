@@ -25,6 +25,7 @@ use Rattle.operations.specs.Calls.{
   transposeSecond,
   writeBackOf,
   hasSecond,
+  hasLists,
   callShapes,
   callNeeds,
   callResult,
@@ -35,13 +36,13 @@ use Rattle.operations.specs.Calls.{
   shapesAgree,
 }
 use Rattle.requests.specs.Refusal.{lentFinal}
-use Rattle.requests.specs.Inputs.{Ready}
+use Rattle.extract_rows.specs.Indices.{Inverse}
 use Rattle.plain_results.specs.Rows.{Inputs}
 use Rattle.result_rows.specs.RowInputs.{rowShapes, rowNeeds, RowInputs, Buffers}
 use Rattle.result_rows.proofs.Inputs.{matrix-row}
 use Rattle.masked_rows.specs.Inside.{MaskKnown, HoldsInside}
 use Rattle.sources.specs.Sources.{Source}
-use Rattle.compute.specs.Computing.{MaskThere, OldRow, plain, RowBuffers}
+use Rattle.compute.specs.Computing.{Prepared, MaskThere, OldRow, plain, RowBuffers}
 use Rattle.operations.proofs.Results.{shapes-of-same, cell-same}
 use Rattle.compute.proofs.Plain.{write-plain}
 
@@ -101,7 +102,7 @@ same-refl : {g : Grid} → Same g g
 same-refl = record { rows = refl; cols = refl; cell = λ i j l m. refl }
 
 -- x and y are the inputs as they are read
-module _ (call : Call) (a b m c is js x y : List ℕ) (r : Ready call a b m c is js) (s : Source (transposeFirst call) a x)
+module _ (call : Call) (a b m c is js x y : List ℕ) (r : Prepared call a b m c is js) (s : Source (transposeFirst call) a x)
     (u : hasSecond (call .operation) ≡ true → Source (transposeSecond call) b y) where
   -- as the definition has them
   abbrev A : Grid
@@ -126,10 +127,12 @@ module _ (call : Call) (a b m c is js x y : List ℕ) (r : Ready call a b m c is
       shapes-of-same (gridOf x) A (gridOf y) B (gridOf c) (gridOf c) is js (s .same) same-refl (call .operation) second-same
 
   -- what the row of T needs
-  pub row-inputs : (i : ℕ) → i < rows c → RowInputs (call .operation) x y c is js i
-  row-inputs i l = record {
+  pub row-inputs : (hasLists (call .operation) ≡ true → Inverse js y) → (i : ℕ) → i < rows c
+      → RowInputs (call .operation) x y c is js i
+  row-inputs v i l = record {
     first = s .matrix;
     second = λ h. u h .matrix;
+    inverse = v;
     output = r .inputs .output;
     agree = ap (λ (z : Shapes). inputsAgree z (needsOf (call .operation) z)) shapes-are ∙ shapes .inputs;
     lists = rw shapes-are lists;
@@ -144,8 +147,8 @@ module _ (call : Call) (a b m c is js x y : List ℕ) (r : Ready call a b m c is
   rows-are = rw shapes-are (shapes .result-rows)
 
   -- what all rows of T need
-  pub all-inputs : Inputs (call .operation) x y c is js
-  all-inputs = record { output = r .inputs .output; row = row-inputs; same-rows = rows-are; same-cols = cols-are }
+  pub all-inputs : (hasLists (call .operation) ≡ true → Inverse js y) → Inputs (call .operation) x y c is js
+  all-inputs v = record { output = r .inputs .output; row = row-inputs v; same-rows = rows-are; same-cols = cols-are }
 
   -- its cells are the definition's
   result-cell : (i j : ℕ) → i < rows c → j < cols c

@@ -1,3 +1,4 @@
+pub mod Prepared
 pub mod WriteRow
 pub mod Plain
 pub mod FinalRow

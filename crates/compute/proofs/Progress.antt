@@ -21,13 +21,12 @@ use Rattle.encoding.proofs.Canonical.{encode-length}
 use Rattle.operations.specs.declared.Call.{Call}
 use Rattle.operations.specs.Calls.{transposeFirst, callFinal}
 use Rattle.requests.specs.Refusal.{lentFinal}
-use Rattle.requests.specs.Inputs.{Ready}
 use Rattle.results.specs.Staging.{RowBounds, ResultBounds, stagedRow, finished, Staged}
 use Rattle.results.proofs.Staged.{staged-none, staged-more}
 use Rattle.results.proofs.Finished.{finished-written}
 use Rattle.compute.specs.declared.Outcome.the-variants.{Done}
 use Rattle.sources.specs.Sources.{secondFlag, Sources}
-use Rattle.compute.specs.Computing.{RowBuffers, Progress, Advanced, Computed}
+use Rattle.compute.specs.Computing.{Prepared, RowBuffers, Progress, Advanced, Computed}
 use Rattle.sources.proofs.Sources.{sources-kept}
 
 -- buffers keep their lengths
@@ -67,7 +66,7 @@ module _ (call : Call) (a b m c is js : List ℕ) where
   unfolding callFinal
   final-cols = refl
 
-  pub progress-start : (first second : Bool) (w tc tv oc ov : List ℕ) (rows : ℕ) → Ready call a b m c is js
+  pub progress-start : (first second : Bool) (w tc tv oc ov : List ℕ) (rows : ℕ) → Prepared call a b m c is js
       → (first ≡ transposeFirst call) × (second ≡ secondFlag call) → Sources call a b w → rows ≡ layout.rows c
       → workspaceWords ≤ length w → RowBuffers tc tv oc ov → Progress call a b m c is js first second w tc tv oc ov rows 0 0
   progress-start first second w tc tv oc ov rows r f s e l b = record {

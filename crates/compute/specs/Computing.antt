@@ -9,20 +9,28 @@ use Rattle.limits.specs.Limits.{maxCols, maxEntries}
 use Rattle.grid.specs.Grid.{Grid}
 use Rattle.grid.specs.Entries.{entryCount}
 use Rattle.rows.specs.Row.{Row}
-use Rattle.matrix.specs.Layout.{rows, cols, maxMatrixWords, workspaceWords}
+use Rattle.matrix.specs.Layout.{rows, cols, gridOf, maxMatrixWords, workspaceWords}
 use Rattle.matrix.specs.Facts.{Matrix}
 use Rattle.encoding.specs.Encode.{encode, gridSize}
 use Rattle.operations.specs.declared.Accumulator.{Accumulator}
 use Rattle.operations.specs.declared.Accumulator.the-variants.{Absent as NoAccumulator, Present as By}
 use Rattle.operations.specs.declared.Call.{Call}
 use Rattle.operations.specs.declared.WriteBack.{WriteBack}
-use Rattle.operations.specs.Calls.{transposeFirst}
+use Rattle.operations.specs.Calls.{transposeFirst, hasLists, indexesValid, shapesAgree}
 use Rattle.requests.specs.Refusal.{lentFinal}
-use Rattle.requests.specs.Inputs.{Ready}
+use Rattle.requests.specs.Inputs.{Valid}
+use Rattle.extract_rows.specs.Indices.{Inverse}
 use Rattle.sources.specs.Sources.{secondFlag, Sources}
 use Rattle.results.specs.Staging.{Staged}
 use Rattle.compute.specs.declared.Outcome.{Outcome}
 use Rattle.compute.specs.declared.Outcome.the-variants.{Done, Full}
+
+-- the inputs are valid and agree, and where there are lists the words b are the inverse of the second
+pub record Prepared (call : Call) (a b m c is js : List ℕ) : Type 0 where
+  pub inputs : Valid call a b m c
+  pub indexes : indexesValid call (gridOf a) (gridOf b) (gridOf c) is js ≡ true
+  pub shapes : shapesAgree call (gridOf a) (gridOf b) (gridOf m) (gridOf c) is js ≡ true
+  pub inverse : hasLists (call .operation) ≡ true → Inverse js b
 
 -- a mask has row i
 pub record MaskRow (m : List ℕ) (i : ℕ) : Type 0 where
@@ -63,7 +71,7 @@ pub record RowBuffers (tc tv oc ov : List ℕ) : Type 0 where
 -- i rows of the final C are staged in the first region, with n entries; the other regions hold the transposed inputs
 pub record Progress (call : Call) (a b m c is js : List ℕ) (first second : Bool) (w tc tv oc ov : List ℕ)
     (total n i : ℕ) : Type 0 where
-  pub ready : Ready call a b m c is js
+  pub ready : Prepared call a b m c is js
   pub flags : (first ≡ transposeFirst call) × (second ≡ secondFlag call)
   pub sources : Sources call a b w
   pub rows-are : total ≡ rows c

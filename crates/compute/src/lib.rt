@@ -28,8 +28,8 @@ ghost use Rattle.result_rows.specs.RowInputs.{RowInputs, Buffers};
 ghost use Rattle.masked_rows.specs.Inside.{HoldsInside};
 ghost use Rattle.sources.specs.Sources.{secondFlag, Sources};
 ghost use Rattle.plain_results.specs.Rows.{Inputs};
-ghost use Rattle.compute.specs.Computing.{MaskRow, MaskThere, OldRow, plain, straight, RowBuffers, Progress};
-ghost use Rattle.compute.specs.Computing.{Advanced, Computed};
+ghost use Rattle.compute.specs.Computing.{Prepared, MaskRow, MaskThere, OldRow, plain, straight, RowBuffers};
+ghost use Rattle.compute.specs.Computing.{Progress, Advanced, Computed};
 
 // Done with the number of entries, or more entries than a matrix may have.
 pub enum Outcome {
@@ -37,7 +37,8 @@ pub enum Outcome {
     Full,
 }
 
-// The final C at the front of the workspace. The engine is the product's.
+// The final C at the front of the workspace. An operation with lists has the inverse of the second as its second input.
+// The engine is the product's.
 pub fn compute<'a>(
     call: Call,
     a: &'a [u32],
@@ -50,6 +51,33 @@ pub fn compute<'a>(
     engine: Engine,
 ) -> Outcome
     requires { ⌜ Ready call (now a) (now b) (now mask) (now c) (now is) (now js) ⌝
+        ∗ ⌜ workspaceWords ≤ length (now work) ⌝ }
+    ensures { λ r. ⌜ Computed r (lentFinal call (now (a .entry)) (now (b .entry)) (now (mask .entry)) (now (c .entry))
+        (now (is .entry)) (now (js .entry))) (now (work .exit)) ⌝ }
+{
+    let operation = call.operation;
+    let inputs = operations::inputs_of(operation);
+    if inputs.lists {
+        let mut inverse = [0u32; ROW_PLACES];
+        extract_rows::invert(js, &mut inverse);
+        return compute_prepared(call, a, &inverse, mask, c, is, js, work, engine);
+    }
+    compute_prepared(call, a, b, mask, c, is, js, work, engine)
+}
+
+// The same with a second input that can be read.
+fn compute_prepared<'a>(
+    call: Call,
+    a: &'a [u32],
+    b: &'a [u32],
+    mask: &[u32],
+    c: &[u32],
+    is: &[u32],
+    js: &[u32],
+    work: &mut [u32],
+    engine: Engine,
+) -> Outcome
+    requires { ⌜ Prepared call (now a) (now b) (now mask) (now c) (now is) (now js) ⌝
         ∗ ⌜ workspaceWords ≤ length (now work) ⌝ }
     ensures { λ r. ⌜ Computed r (lentFinal call (now (a .entry)) (now (b .entry)) (now (mask .entry)) (now (c .entry))
         (now (is .entry)) (now (js .entry))) (now (work .exit)) ⌝ }
@@ -193,7 +221,7 @@ fn final_row<'a>(
     ov: &mut [u32],
     engine: Engine,
 ) -> usize
-    requires { ⌜ Ready call (now a) (now b) (now mask) (now c) (now is) (now js) ⌝
+    requires { ⌜ Prepared call (now a) (now b) (now mask) (now c) (now is) (now js) ⌝
         ∗ ⌜ Sources call (now a) (now b) (now work) ⌝ }
     requires { ⌜ (first ≡ transposeFirst call) × (second ≡ secondFlag call) ⌝ ∗ ⌜ workspaceWords ≤ length (now work) ⌝ }
     requires { ⌜ i < rows (now c) ⌝ ∗ ⌜ RowBuffers (now tc) (now tv) (now oc) (now ov) ⌝ }
@@ -288,7 +316,7 @@ fn all_rows<'a>(
     ov: &mut [u32],
     engine: Engine,
 ) -> Outcome
-    requires { ⌜ Ready call (now a) (now b) (now mask) (now c) (now is) (now js) ⌝
+    requires { ⌜ Prepared call (now a) (now b) (now mask) (now c) (now is) (now js) ⌝
         ∗ ⌜ Sources call (now a) (now b) (now work) ⌝ }
     requires { ⌜ (first ≡ transposeFirst call) × (second ≡ secondFlag call) ⌝ ∗ ⌜ workspaceWords ≤ length (now work) ⌝ }
     requires { ⌜ RowBuffers (now tc) (now tv) (now oc) (now ov) ⌝ }
@@ -347,7 +375,7 @@ fn compute_rows<'a>(
     work: &mut [u32],
     engine: Engine,
 ) -> Outcome
-    requires { ⌜ Ready call (now a) (now b) (now mask) (now c) (now is) (now js) ⌝
+    requires { ⌜ Prepared call (now a) (now b) (now mask) (now c) (now is) (now js) ⌝
         ∗ ⌜ Sources call (now a) (now b) (now work) ⌝ }
     requires { ⌜ (first ≡ transposeFirst call) × (second ≡ secondFlag call) ⌝ ∗ ⌜ workspaceWords ≤ length (now work) ⌝ }
     ensures { λ r. ⌜ Computed r (lentFinal call (now (a .entry)) (now (b .entry)) (now (mask .entry)) (now (c .entry))
@@ -426,7 +454,7 @@ fn merged_rows<'a>(
     work: &mut [u32],
     engine: Engine,
 ) -> Outcome
-    requires { ⌜ Ready call (now a) (now b) (now mask) (now c) (now is) (now js) ⌝
+    requires { ⌜ Prepared call (now a) (now b) (now mask) (now c) (now is) (now js) ⌝
         ∗ ⌜ Sources call (now a) (now b) (now work) ⌝ }
     requires { ⌜ (first ≡ transposeFirst call) × (second ≡ secondFlag call) ⌝ ∗ ⌜ workspaceWords ≤ length (now work) ⌝ }
     ensures { λ r. ⌜ Computed r (lentFinal call (now (a .entry)) (now (b .entry)) (now (mask .entry)) (now (c .entry))
