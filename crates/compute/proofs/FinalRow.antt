@@ -102,8 +102,8 @@ same-refl : {g : Grid} → Same g g
 same-refl = record { rows = refl; cols = refl; cell = λ i j l m. refl }
 
 -- x and y are the inputs as they are read
-module _ (call : Call) (a b m c is js x y : List ℕ) (r : Prepared call a b m c is js) (s : Source (transposeFirst call) a x)
-    (u : hasSecond (call .operation) ≡ true → Source (transposeSecond call) b y) where
+module _ (call : Call) (a b m c is js x y : List ℕ) (r : Prepared call a b m c is js)
+    (s : Source (transposeFirst call) a x) (u : hasSecond (call .operation) ≡ true → Source (transposeSecond call) b y) where
   -- as the definition has them
   abbrev A : Grid
   A = oriented (transposeFirst call) (gridOf a)

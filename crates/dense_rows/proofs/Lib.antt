@@ -1,4 +1,3 @@
 pub mod Cells
 pub mod Sweep
-pub mod Spreading
 pub mod Gathering

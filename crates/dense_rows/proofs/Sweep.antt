@@ -1,5 +1,5 @@
 -- A sweep over the entries of a row that changes one place for each: what is done and what waits, at entry p. Cited by
--- the loops that spread a row or add one to a dense row.
+-- the loops that add a row to a dense row, or put its entries at their places.
 use Prim.Native.Nat.{ℕ, _+_, _≤_, _<_}
 use native.Mathlib.Omega.{arith}
 use native.Mathlib.Decide.{decLt, ℕ-discrete}

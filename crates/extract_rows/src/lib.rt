@@ -1,5 +1,5 @@
-// Extract on one row, by its entries: the index list is inverted once, and then an entry's column tells its place in the
-// list.
+// Extract on one row, by its entries: the index list is inverted once, and then an entry's column tells its place in
+// the list.
 use bit_rows::MAP_WORDS;
 use limits::ROW_PLACES;
 ghost use mathlib.Core.Path.{_≡_};

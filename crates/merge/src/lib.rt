@@ -1,6 +1,6 @@
 // One merge of sparse rows, for the intersection, the union and the write-back, by case. Without a mask the write-back
-// is a copy, a union or nothing (`row_pairs`). With one, here is what becomes of the cells at one position, and the walk
-// over two rows and a mask's row by their entries.
+// is a copy, a union or nothing (`row_pairs`). With one, here is what becomes of the cells at one position, and the
+// walk over two rows and a mask's row by their entries.
 use grid::Cell;
 use operations::Accumulator;
 use operations::WriteBack;

@@ -24,8 +24,8 @@ rowShapes op a b c is js = shapesOf op (gridOf a) (gridOf b) (gridOf c) is js
 abbrev pub rowNeeds : Operation → List ℕ → List ℕ → List ℕ → List ℕ → List ℕ → Needs
 rowNeeds op a b c is js = needsOf op (rowShapes op a b c is js)
 
--- the matrices that the operation has are valid, their shapes and the lists agree, and T has row i; in the place of a second
--- input that it does not have stands the inverse of its list of columns
+-- the matrices that the operation has are valid, their shapes and the lists agree, and T has row i; where there are lists
+-- the words b are the inverse of the second
 pub record RowInputs (op : Operation) (a b c is js : List ℕ) (i : ℕ) : Type 0 where
   pub first : Matrix a
   pub second : hasSecond op ≡ true → Matrix b

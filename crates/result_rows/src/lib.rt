@@ -1,5 +1,5 @@
-// A row of T for any of the operations. The inputs are valid matrices, as their transpose flags ask; so is the old C. Where
-// there are lists and no second input, the inverse of the second list stands in its place.
+// A row of T for any of the operations. The inputs are valid matrices, as their transpose flags ask; so is the old C.
+// Where there are lists and no second input, the inverse of the second list stands in its place.
 use merge::Combine;
 use operations::Operation;
 use operators::ApplyOp;

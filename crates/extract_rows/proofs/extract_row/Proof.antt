@@ -52,7 +52,7 @@ mul-place-entry c = omega (arith, small (c .before .before .before))
 
 shared-slice-read-place-entry : tie.Need-shared-slice-read-place-entry Inv-loop μ-loop
 shared-slice-read-place-entry c =
-    omega (arith, small (c .before .before .before .before), start (c .before .before .before .before .before) .pre .1 .1 .0 .sized)
+    let b = c .before .before .before .before in omega (arith, small b, start (b .before) .pre .1 .1 .0 .sized)
 
 mul-place-entry-2 : tie.Need-mul-place-entry-2 Inv-loop μ-loop
 mul-place-entry-2 c = omega (arith, start (c .before .before .before .before .before) .pre .0 .even)
