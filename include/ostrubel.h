@@ -17,7 +17,7 @@
  * Answers. Each call returns one number: take it apart by the functions below. A call that is accepted has the code 0;
  * only ostrubel_row_view has no code.
  * A refused call has the lowest code that applies (on a store 12 comes first, and 13 between 2 and 7), changes no word
- * but the workspace's, and its entries or value are 0. The workspace is all zeros after every call that has one.
+ * but the workspace's, and its entries, value or position are 0. The workspace is all zeros after every call that has one.
  *
  * Threads. A call takes no memory beside its buffers and the stack, and keeps nothing: calls on several threads may run
  * at once where each has buffers of its own (those that are only read may be shared). 48 KB of stack are enough for any
@@ -123,6 +123,12 @@ static inline int ostrubel_present(uint64_t answer) { return (int)((answer >> 8)
 /* Of a read: the word of the cell's value; 0 where the cell is not present. */
 static inline uint32_t ostrubel_value(uint64_t answer) { return (uint32_t)(answer >> 32); }
 
+/* Of a read: how many entries of the matrix come before the cell, row by row and from left to right. So it is the position
+   of a present cell's entry, counted from 0, and where the entry of an absent cell would be put; 0 where the read was
+   refused. It lies in bits 16 to 31 of the answer, which were 0 before it was there: an absent cell's answer need not be 0
+   now, so tell it by ostrubel_present. */
+static inline uint32_t ostrubel_position(uint64_t answer) { return (uint32_t)((answer >> 16) & 0xFFFF); }
+
 /* Of a row view: 1 where the part lies in the second matrix, 0 where it lies in the first. */
 static inline int ostrubel_in_second(uint64_t answer) { return (int)(answer & 1); }
 
@@ -138,7 +144,7 @@ uint64_t ostrubel_check(const uint32_t *words, size_t words_len);
 /* An empty matrix at the front of the buffer, whatever was there: rows + 7 words. Refused by 8, 11. */
 uint64_t ostrubel_new_empty(uint32_t rows, uint32_t cols, uint32_t *buffer, size_t buffer_len);
 
-/* The cell at row i and column j. Refused by 3, 7. */
+/* The cell at row i and column j, and its position. Refused by 3, 7. */
 uint64_t ostrubel_read_cell(uint32_t i, uint32_t j, const uint32_t *words, size_t words_len);
 
 /*
@@ -228,7 +234,7 @@ uint64_t ostrubel_store_set_cell(size_t slot, uint32_t i, uint32_t j, uint32_t v
 /* The cell becomes absent, or stays so. Answers the matrix's entries. Refused by 12, 13, 7. */
 uint64_t ostrubel_store_clear_cell(size_t slot, uint32_t i, uint32_t j, uint32_t *store, size_t store_len);
 
-/* The cell at row i and column j. Refused by 12, 13, 7. */
+/* The cell at row i and column j, and its position. Refused by 12, 13, 7. */
 uint64_t ostrubel_store_read_cell(size_t slot, uint32_t i, uint32_t j, const uint32_t *store, size_t store_len);
 
 /*

@@ -68,9 +68,12 @@ static void test_format(void) {
 
     uint64_t cell = ostrubel_read_cell(0, 1, WORDS(strip));
     CHECK(ostrubel_code(cell) == OSTRUBEL_OK && ostrubel_present(cell) && ostrubel_value(cell) == 20);
+    CHECK(ostrubel_position(cell) == 1);
     cell = ostrubel_read_cell(3, 0, WORDS(matrix)); /* an entry 0 */
     CHECK(ostrubel_code(cell) == OSTRUBEL_OK && ostrubel_present(cell) && ostrubel_value(cell) == 0);
-    CHECK(ostrubel_read_cell(0, 2, WORDS(strip)) == 0);
+    cell = ostrubel_read_cell(0, 2, WORDS(strip)); /* it would be put before the entry of column 3 */
+    CHECK(ostrubel_code(cell) == OSTRUBEL_OK && !ostrubel_present(cell) && ostrubel_value(cell) == 0);
+    CHECK(ostrubel_position(cell) == 2);
     REFUSED(ostrubel_read_cell(0, 4, WORDS(strip)), OSTRUBEL_INDEX_OUT_OF_BOUNDS);
     REFUSED(ostrubel_read_cell(0, 1, strip, 5), OSTRUBEL_INVALID_FIRST);
 }
@@ -220,7 +223,9 @@ static void test_store_cells(void) {
 
     uint64_t cell = ostrubel_store_read_cell(2, 0, 3, WORDS(store));
     CHECK(ostrubel_code(cell) == OSTRUBEL_OK && ostrubel_present(cell) && ostrubel_value(cell) == 40);
-    CHECK(ostrubel_store_read_cell(2, 0, 2, WORDS(store)) == 0);
+    CHECK(ostrubel_position(cell) == 2);
+    cell = ostrubel_store_read_cell(2, 0, 2, WORDS(store));
+    CHECK(ostrubel_code(cell) == OSTRUBEL_OK && !ostrubel_present(cell) && ostrubel_position(cell) == 2);
     REFUSED(ostrubel_store_read_cell(8, 0, 0, WORDS(store)), OSTRUBEL_INVALID_STORE);
     REFUSED(ostrubel_store_read_cell(3, 0, 0, WORDS(store)), OSTRUBEL_EMPTY_SLOT);
     REFUSED(ostrubel_store_read_cell(2, 1, 0, WORDS(store)), OSTRUBEL_INDEX_OUT_OF_BOUNDS);

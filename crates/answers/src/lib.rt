@@ -33,9 +33,11 @@ pub struct Answer {
     pub entries: u32,
 }
 
-// 0 and whether the cell is present, with its value; or a refusal code. The value is 0 where there is none.
+// 0 and whether the cell is present, with its value and the position of its entry; or a refusal code. The value is 0
+// where there is none. The position of an absent cell is where its entry would be put, and that of a refusal is 0.
 pub struct CellAnswer {
     pub code: u32,
     pub present: bool,
     pub value: u32,
+    pub position: u32,
 }

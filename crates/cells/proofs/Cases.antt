@@ -6,7 +6,8 @@ use mathlib.Core.Bool.{true, false}
 use borrow.Author.Tests.{lt-ltb, le-ltb}
 use Rattle.answers.specs.Refusals.{invalidFirst, indexOutOfBounds}
 use Rattle.conditions.specs.Tests.{_and_}
-use Rattle.matrix.specs.Layout.{rows, cols, cellOf}
+use Rattle.grid.specs.Position.{entryAt}
+use Rattle.matrix.specs.Layout.{rows, cols, gridOf}
 use Rattle.matrix.specs.Valid.{valid}
 use Rattle.answers.specs.Reads.{foundAnswer, refusedRead}
 use Rattle.cells.specs.Read.{readAnswer}
@@ -24,6 +25,6 @@ module _ (s : List ℕ) (i j : ℕ) where
   unfolding readAnswer _and_
   read-past-cols v h k = rw (v, lt-ltb _ _ h, le-ltb _ _ k)
 
-  pub read-found : valid s ≡ true → i < rows s → j < cols s → foundAnswer (cellOf s i j) ≡ readAnswer s i j
+  pub read-found : valid s ≡ true → i < rows s → j < cols s → foundAnswer (entryAt (gridOf s) i j) ≡ readAnswer s i j
   unfolding readAnswer _and_
   read-found v h k = rw (v, lt-ltb _ _ h, lt-ltb _ _ k)

@@ -1,2 +1,4 @@
 pub mod Cases
 pub mod Looks
+pub mod Entries
+pub mod Positions

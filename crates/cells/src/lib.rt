@@ -2,20 +2,22 @@
 use answers::CellAnswer;
 use answers::INDEX_OUT_OF_BOUNDS;
 use answers::INVALID_FIRST;
-use grid::Cell;
+use grid::EntryAt;
 use matrix::layout::COLS_AT;
 use matrix::layout::ROWS_AT;
-use rows::FoundCell;
+use matrix::layout::STARTS_AT;
+use rows::FoundEntry;
 ghost use mathlib.Core.Path.{_≡_};
 ghost use Prim.Native.Nat.{_≤_, _<_};
 ghost use Rattle.answers.specs.Reads.{foundAnswer, refusedRead};
-ghost use Rattle.matrix.specs.Layout.{rows, rowColumns, cellOf};
+ghost use Rattle.grid.specs.Position.{entryAt};
+ghost use Rattle.matrix.specs.Layout.{rows, rowColumns, gridOf};
 ghost use Rattle.matrix.specs.Facts.{Matrix};
 ghost use Rattle.rows.specs.Looks.{looksFor, mostLooks};
 ghost use Rattle.cells.specs.Read.{readAnswer};
 
-// The cell at row i and column j. INVALID_FIRST where the words are no valid matrix, INDEX_OUT_OF_BOUNDS where the row
-// or the column is past it.
+// The cell at row i and column j, with the position of its entry. INVALID_FIRST where the words are no valid matrix,
+// INDEX_OUT_OF_BOUNDS where the row or the column is past it.
 pub fn read_cell(words: &[u32], i: u32, j: u32) -> CellAnswer
     ensures { λ r. ⌜ r ≡ readAnswer (now (words .entry)) i j ⌝ }
 {
@@ -28,43 +30,50 @@ pub fn read_cell(words: &[u32], i: u32, j: u32) -> CellAnswer
     if words[COLS_AT] <= j {
         return refused(INDEX_OUT_OF_BOUNDS);
     }
-    let read = cell_at(words, i as usize, j);
-    let cell = read.cell;
-    found(cell)
+    let read = entry_at(words, i as usize, j);
+    let entry = read.entry;
+    found(entry)
 }
 
-// The cell at row i and column j of a valid matrix, and how many column numbers were looked at: at most eleven.
-pub fn cell_at(words: &[u32], i: usize, j: u32) -> FoundCell
+// The entry of row i and column j of a valid matrix, or where it would be put, and how many column numbers were looked
+// at: at most eleven. Reading, setting and clearing a cell search by it, each once.
+pub fn entry_at(words: &[u32], i: usize, j: u32) -> FoundEntry
     requires { ⌜ Matrix (now words) ⌝ ∗ ⌜ i < rows (now words) ⌝ }
-    ensures { λ r. ⌜ r .cell ≡ cellOf (now (words .entry)) i j ⌝
+    ensures { λ r. ⌜ r .entry ≡ entryAt (gridOf (now (words .entry))) i j ⌝
         ∗ ⌜ r .looks ≡ looksFor j (rowColumns (now (words .entry)) i) ⌝ ∗ ⌜ r .looks ≤ mostLooks ⌝ }
 {
-    rows::find_cell(
+    rows::find_entry(
         matrix::row_columns(words, i),
         matrix::row_values(words, i),
+        words[i + STARTS_AT],
         j,
     )
 }
 
 // What a cell answers.
-pub fn found(cell: Cell) -> CellAnswer
-    ensures { λ r. ⌜ r ≡ foundAnswer cell ⌝ }
+pub fn found(entry: EntryAt) -> CellAnswer
+    ensures { λ r. ⌜ r ≡ foundAnswer entry ⌝ }
 {
-    match cell {
-        Cell::Absent => CellAnswer {
+    match entry {
+        EntryAt::Absent { position: p } => CellAnswer {
             code: 0,
             present: false,
             value: 0,
+            position: p,
         },
-        Cell::Present(v) => CellAnswer {
+        EntryAt::Present {
+            value: v,
+            position: p,
+        } => CellAnswer {
             code: 0,
             present: true,
             value: v,
+            position: p,
         },
     }
 }
 
-// A refusal, with no value.
+// A refusal, with no value and position 0.
 pub fn refused(code: u32) -> CellAnswer
     ensures { λ r. ⌜ r ≡ refusedRead code ⌝ }
 {
@@ -72,5 +81,6 @@ pub fn refused(code: u32) -> CellAnswer
         code: code,
         present: false,
         value: 0,
+        position: 0,
     }
 }

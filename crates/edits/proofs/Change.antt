@@ -11,6 +11,7 @@ use Rattle.words.specs.Words.{at}
 use Rattle.grid.specs.declared.Cell.{Cell}
 use Rattle.grid.specs.Grid.{Grid}
 use Rattle.grid.specs.Entries.{column, value, one, gather, flatten, entryCount}
+use Rattle.grid.specs.Position.{entryPosition}
 use Rattle.grid.specs.Update.{withCell}
 use Rattle.grid.proofs.Gather.{gather-length, flatten-length, flatten-same}
 use Rattle.matrix.specs.Layout.{
@@ -33,7 +34,6 @@ use Rattle.encoding.specs.Encode.{entriesBefore, gridSize, encode, writtenOver}
 use Rattle.encoding.proofs.Decoded.{valid-columns, valid-values}
 use Rattle.encoding.proofs.Canonical.{valid-before, valid-entries}
 use Rattle.encoding.proofs.Assembled.{Assembled, assembled}
-use Rattle.edits.specs.Entry.{entryPosition}
 use Rattle.edits.specs.Changes.{InMatrix}
 use Rattle.edits.proofs.Around.{
   cellCount,

@@ -8,13 +8,12 @@ use lib.Seq.{getD-set-same, getD-set-other}
 use Rattle.words.specs.Words.{at}
 use Rattle.grid.specs.declared.Cell.the-variants.{Absent, Present}
 use Rattle.grid.specs.Entries.{one}
+use Rattle.grid.specs.Position.{AbsentAt}
 use Rattle.grid.specs.Update.{withCell}
 use Rattle.matrix.specs.Layout.{startsAt, countAt, columnsAt, countAgainAt, valuesAt, sizeOf, rows, entries, gridOf}
 use Rattle.encoding.specs.Encode.{writtenOver}
-use Rattle.edits.specs.declared.EntryAt.the-variants as entry
-use Rattle.edits.specs.Entry.{entryAt}
 use Rattle.edits.specs.Changes.{InMatrix, HasSpace, PutBounds, moved, spread, entryPut, raised, Mapped}
-use Rattle.edits.proofs.Place.{AbsentAt, absent-at, absent-within}
+use Rattle.edits.proofs.Place.{absent-within}
 use Rattle.edits.proofs.Moves.{moved-length, moved-here, moved-before, moved-after}
 use Rattle.edits.proofs.Located.{located-one}
 use Rattle.edits.proofs.Change.{Changed, changed-written}
@@ -124,17 +123,14 @@ module _ (r n p j v : ℕ) (w : List ℕ) (b : PutBounds r n p w) where
       ∙ moved-after valueAt (valueAt + 2) (n - p) w (omega arith) (omega arith) k (omega arith)
 
 -- the words after `insert_entry`: the starts behind row i are raised, and then the entry is put in
-module _ {s w : List ℕ} {i j p : ℕ} (m : InMatrix s i j) (f : entryAt (gridOf s) i j ≡ entry.Absent p) (a : HasSpace s)
+module _ {s w : List ℕ} {i j p : ℕ} (m : InMatrix s i j) (place : AbsentAt (gridOf s) i j p) (a : HasSpace s)
     (h : Mapped raised (i + 1 + startsAt) (rows s + 1 + startsAt) s w) where
-  place : AbsentAt (gridOf s) i j p
-  place = absent-at f
-
   -- what `put_entry` requires
   pub put-bounds : PutBounds (rows s) (entries s) p w
   put-bounds = record {
     rows = m .matrix .header .row-range .most;
     few = a .few;
-    position = absent-within m f;
+    position = absent-within m place;
     space = omega (arith, a .space, h .same);
   }
 

@@ -1,7 +1,6 @@
 pub mod Mapping
 pub mod Around
 pub mod Located
-pub mod Found
 pub mod Place
 pub mod Change
 pub mod Moves

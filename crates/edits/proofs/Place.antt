@@ -1,60 +1,21 @@
--- What `entryAt` says of a cell of a valid matrix: whether it is present, and that its position is within bounds.
+-- The position of a cell of a valid matrix is within bounds.
 use Prim.Native.Nat.{ℕ, _+_, _-_, _≤_, _<_}
 use native.Mathlib.Omega.{arith}
-use mathlib.Core.Path.{_≡_, refl, sym, ap}
-use mathlib.Core.Bool.{Bool, true, false, false≢true}
+use mathlib.Core.Path.{_≡_, refl, ap}
+use mathlib.Core.Bool.{true}
 use mathlib.Core.List.{List}
 use Rattle.limits.specs.Limits.{maxEntries}
 use Rattle.words.specs.Words.{at}
 use Rattle.grid.specs.declared.Cell.{Cell}
 use Rattle.grid.specs.declared.Cell.the-variants.{Absent, Present}
-use Rattle.grid.specs.Grid.{Grid}
 use Rattle.grid.specs.Entries.{column}
+use Rattle.grid.specs.Position.{entryPosition, AbsentAt, PresentAt}
 use Rattle.matrix.specs.Layout.{startsAt, rows, cols, start, entries, cellOf, gridOf}
 use Rattle.matrix.specs.Valid.{valid}
 use Rattle.matrix.proofs.Facts.{matrix-made, row-span}
 use Rattle.encoding.proofs.Canonical.{valid-before}
-use Rattle.edits.specs.declared.EntryAt.{EntryAt}
-use Rattle.edits.specs.declared.EntryAt.the-variants as entry
-use Rattle.edits.specs.Entry.{entryPosition, entryAt}
 use Rattle.edits.specs.Changes.{InMatrix, Bounded}
 use Rattle.edits.proofs.Around.{cellCount, around, around-length}
-
--- the two parts of an entry's place
-positionOf : EntryAt → ℕ
-positionOf (entry.Absent p) = p
-positionOf (entry.Present p) = p
-
-isPresent : EntryAt → Bool
-isPresent (entry.Absent p) = false
-isPresent (entry.Present p) = true
-
--- the cell is absent, and its entry would have to be put at p
-pub record AbsentAt (g : Grid) (i j p : ℕ) : Type 0 where
-  pub cell : g .cell i j ≡ Absent
-  pub position : p ≡ entryPosition g i j
-
-pub absent-at : {g : Grid} {i j p : ℕ} → entryAt g i j ≡ entry.Absent p → AbsentAt g i j p
-unfolding entryAt positionOf isPresent
-absent-at {g} {i} {j} {p} h = go (g .cell i j) refl
-  where
-    go : (c : Cell) → g .cell i j ≡ c → AbsentAt g i j p
-    go Absent e = record { cell = e; position = sym (ap positionOf (rw e at h)) }
-    go (Present v) e = absurd (false≢true (sym (ap isPresent (rw e at h))))
-
--- the cell is present, and its entry is at p
-pub record PresentAt (g : Grid) (i j p : ℕ) : Type 0 where
-  pub value : ℕ
-  pub cell : g .cell i j ≡ Present value
-  pub position : p ≡ entryPosition g i j
-
-pub present-at : {g : Grid} {i j p : ℕ} → entryAt g i j ≡ entry.Present p → PresentAt g i j p
-unfolding entryAt positionOf isPresent
-present-at {g} {i} {j} {p} h = go (g .cell i j) refl
-  where
-    go : (c : Cell) → g .cell i j ≡ c → PresentAt g i j p
-    go Absent e = absurd (false≢true (ap isPresent (rw e at h)))
-    go (Present v) e = record { value = v; cell = e; position = sym (ap positionOf (rw e at h)) }
 
 -- a row and a column of a valid matrix
 module _ {s : List ℕ} {i j : ℕ} (m : InMatrix s i j) where
@@ -79,12 +40,11 @@ module _ {s : List ℕ} {i j : ℕ} (m : InMatrix s i j) where
       omega (arith, position-before c e (rows s) (m .row) (omega arith), m .matrix .starts .last)
 
   -- a position is within N
-  pub absent-within : {p : ℕ} → entryAt (gridOf s) i j ≡ entry.Absent p → p ≤ entries s
-  absent-within f = let a = absent-at f in omega (arith, position-most Absent (a .cell), a .position)
+  pub absent-within : {p : ℕ} → AbsentAt (gridOf s) i j p → p ≤ entries s
+  absent-within a = omega (arith, position-most Absent (a .cell), a .position)
 
-  pub present-below : {p : ℕ} → entryAt (gridOf s) i j ≡ entry.Present p → p < entries s
-  present-below f =
-      let a = present-at f in omega (arith, position-most (Present (a .value)) (a .cell), a .position)
+  pub present-below : {p : ℕ} → PresentAt (gridOf s) i j p → p < entries s
+  present-below a = omega (arith, position-most (Present (a .value)) (a .cell), a .position)
 
   -- each later row start counts the entry; this is what raising and lowering them require
   pub later-starts : (c : Cell) → cellOf s i j ≡ c

@@ -8,13 +8,12 @@ use lib.Seq.{getD-set-same, getD-set-other}
 use Rattle.words.specs.Words.{at}
 use Rattle.grid.specs.declared.Cell.the-variants.{Absent, Present}
 use Rattle.grid.specs.Entries.{one}
+use Rattle.grid.specs.Position.{PresentAt}
 use Rattle.grid.specs.Update.{withCell}
 use Rattle.matrix.specs.Layout.{startsAt, countAt, columnsAt, countAgainAt, valuesAt, sizeOf, rows, entries, gridOf}
 use Rattle.encoding.specs.Encode.{writtenOver}
-use Rattle.edits.specs.declared.EntryAt.the-variants as entry
-use Rattle.edits.specs.Entry.{entryAt}
 use Rattle.edits.specs.Changes.{InMatrix, TakeBounds, moved, closed, entryTaken, lowered, Mapped}
-use Rattle.edits.proofs.Place.{PresentAt, present-at, present-below, later-starts}
+use Rattle.edits.proofs.Place.{present-below, later-starts}
 use Rattle.edits.proofs.Moves.{moved-length, moved-here, moved-before, moved-after}
 use Rattle.edits.proofs.Located.{located-none}
 use Rattle.edits.proofs.Change.{Changed, changed-written}
@@ -101,17 +100,14 @@ module _ (r n p : ℕ) (w : List ℕ) (b : TakeBounds r n p w) where
       ∙ moved-after (columnAt + 1) columnAt n w (omega arith) (omega arith) k (omega arith)
 
 -- the words after `remove_entry`: the starts behind row i are lowered, and then the entry is taken out
-module _ {s w : List ℕ} {i j p : ℕ} (m : InMatrix s i j) (f : entryAt (gridOf s) i j ≡ entry.Present p)
+module _ {s w : List ℕ} {i j p : ℕ} (m : InMatrix s i j) (place : PresentAt (gridOf s) i j p)
     (h : Mapped lowered (i + 1 + startsAt) (rows s + 1 + startsAt) s w) where
-  place : PresentAt (gridOf s) i j p
-  place = present-at f
-
   -- what `take_entry` requires
   pub take-bounds : TakeBounds (rows s) (entries s) p w
   take-bounds = record {
     rows = m .matrix .header .row-range .most;
     few = m .matrix .header .few;
-    position = present-below m f;
+    position = present-below m place;
     space = omega (arith, m .matrix .header .fits, h .same);
   }
 
@@ -123,7 +119,7 @@ module _ {s w : List ℕ} {i j p : ℕ} (m : InMatrix s i j) (f : entryAt (gridO
       let n = entries s in
       let b = take-bounds in
       let l = m .row in
-      let u = present-below m f in
+      let u = present-below m place in
       let z = m .matrix .header .fits in
       let g = later-starts m (Present (place .value)) (place .cell) in
       let long = length-taken r n p w b in

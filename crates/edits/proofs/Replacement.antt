@@ -8,20 +8,16 @@ use lib.Seq.{getD-set-same, getD-set-other}
 use Rattle.words.specs.Words.{at}
 use Rattle.grid.specs.declared.Cell.the-variants.{Present}
 use Rattle.grid.specs.Entries.{one}
+use Rattle.grid.specs.Position.{PresentAt}
 use Rattle.grid.specs.Update.{withCell}
 use Rattle.matrix.specs.Layout.{startsAt, columnsAt, valuesAt, rows, entries, gridOf}
 use Rattle.encoding.specs.Encode.{writtenOver}
-use Rattle.edits.specs.declared.EntryAt.the-variants as entry
-use Rattle.edits.specs.Entry.{entryAt}
 use Rattle.edits.specs.Changes.{InMatrix}
-use Rattle.edits.proofs.Place.{PresentAt, present-at, present-below}
+use Rattle.edits.proofs.Place.{present-below}
 use Rattle.edits.proofs.Located.{located-one, located-moved}
 use Rattle.edits.proofs.Change.{Changed, own-column, changed-written}
 
-module _ {s : List ℕ} {i j p : ℕ} (m : InMatrix s i j) (f : entryAt (gridOf s) i j ≡ entry.Present p) where
-  place : PresentAt (gridOf s) i j p
-  place = present-at f
-
+module _ {s : List ℕ} {i j p : ℕ} (m : InMatrix s i j) (place : PresentAt (gridOf s) i j p) where
   abbrev valueAt : ℕ
   valueAt = valuesAt (rows s) (entries s) + p
 
@@ -31,7 +27,7 @@ module _ {s : List ℕ} {i j p : ℕ} (m : InMatrix s i j) (f : entryAt (gridOf 
   replaced v =
       let r = rows s in
       let n = entries s in
-      let u = present-below m f in
+      let u = present-below m place in
       let z = m .matrix .header in
       let l = length-set s valueAt v in
       let kept : (k o : ℕ) → k ≡ o → (o ≡ valueAt → ⊥) → at (set s valueAt v) k ≡ at s o =

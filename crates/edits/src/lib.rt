@@ -1,48 +1,23 @@
-// One entry of a valid matrix, found and changed in place.
+// One entry of a valid matrix, changed in place.
 use matrix::layout::COLUMNS_PAST;
 use matrix::layout::COUNT_AGAIN_PAST;
 use matrix::layout::COUNT_PAST;
 use matrix::layout::ROWS_AT;
 use matrix::layout::STARTS_AT;
 use matrix::layout::VALUES_PAST;
-use rows::ColumnAt;
 ghost use mathlib.Core.Path.{_≡_};
-ghost use Prim.Native.Nat.{_<_};
 ghost use Rattle.limits.specs.Limits.{maxEntries};
 ghost use Rattle.grid.specs.declared.Cell.the-variants.{Absent, Present};
+ghost use Rattle.grid.specs.Position.{AbsentAt, PresentAt};
 ghost use Rattle.grid.specs.Update.{withCell};
-ghost use Rattle.matrix.specs.Layout.{rows, gridOf};
-ghost use Rattle.matrix.specs.Facts.{Matrix};
+ghost use Rattle.matrix.specs.Layout.{gridOf};
 ghost use Rattle.encoding.specs.Encode.{writtenOver};
-ghost use Rattle.edits.specs.declared.EntryAt.the-variants as entry;
-ghost use Rattle.edits.specs.Entry.{entryAt};
 ghost use Rattle.edits.specs.Changes.{InMatrix, HasSpace, PutBounds, entryPut, TakeBounds, entryTaken};
 ghost use Rattle.edits.specs.Changes.{raised, lowered, Mapped, Bounded};
 
-// A position among the N entries: that of a present cell's entry, or where the entry of an absent cell would be put to
-// keep the order.
-pub enum EntryAt {
-    Present(usize),
-    Absent(usize),
-}
-
-// Where the entry of row i and column j is, or would be put.
-pub fn find_entry(words: &[u32], i: usize, j: u32) -> EntryAt
-    requires { ⌜ Matrix (now words) ⌝ ∗ ⌜ i < rows (now words) ⌝ }
-    ensures { λ r. ⌜ r ≡ entryAt (gridOf (now (words .entry))) i j ⌝ }
-{
-    let found = rows::find_column(matrix::row_columns(words, i), j);
-    let start = words[i + STARTS_AT] as usize;
-    let place = found.place;
-    match place {
-        ColumnAt::Present(k) => EntryAt::Present(start + k),
-        ColumnAt::Absent(k) => EntryAt::Absent(start + k),
-    }
-}
-
 // The entry of row i and column j, at position p, takes the value v.
 pub fn replace_value(words: &mut [u32], i: usize, j: u32, p: usize, v: u32)
-    requires { ⌜ InMatrix (now words) i j ⌝ ∗ ⌜ entryAt (gridOf (now words)) i j ≡ entry.Present p ⌝ }
+    requires { ⌜ InMatrix (now words) i j ⌝ ∗ ⌜ PresentAt (gridOf (now words)) i j p ⌝ }
     ensures { λ _. ⌜ now (words .exit) ≡ writtenOver (withCell (gridOf (now (words .entry))) i j (Present v))
         (now (words .entry)) ⌝ }
 {
@@ -53,7 +28,7 @@ pub fn replace_value(words: &mut [u32], i: usize, j: u32, p: usize, v: u32)
 
 // Row i and column j, which has no entry, gets one with the value v, at position p. Each word is moved at most once.
 pub fn insert_entry(words: &mut [u32], i: usize, j: u32, p: usize, v: u32)
-    requires { ⌜ InMatrix (now words) i j ⌝ ∗ ⌜ entryAt (gridOf (now words)) i j ≡ entry.Absent p ⌝
+    requires { ⌜ InMatrix (now words) i j ⌝ ∗ ⌜ AbsentAt (gridOf (now words)) i j p ⌝
         ∗ ⌜ HasSpace (now words) ⌝ }
     ensures { λ _. ⌜ now (words .exit) ≡ writtenOver (withCell (gridOf (now (words .entry))) i j (Present v))
         (now (words .entry)) ⌝ }
@@ -66,7 +41,7 @@ pub fn insert_entry(words: &mut [u32], i: usize, j: u32, p: usize, v: u32)
 
 // Row i and column j loses its entry, at position p. Each word is moved at most once.
 pub fn remove_entry(words: &mut [u32], i: usize, j: u32, p: usize)
-    requires { ⌜ InMatrix (now words) i j ⌝ ∗ ⌜ entryAt (gridOf (now words)) i j ≡ entry.Present p ⌝ }
+    requires { ⌜ InMatrix (now words) i j ⌝ ∗ ⌜ PresentAt (gridOf (now words)) i j p ⌝ }
     ensures { λ _. ⌜ now (words .exit) ≡ writtenOver (withCell (gridOf (now (words .entry))) i j Absent)
         (now (words .entry)) ⌝ }
 {

@@ -1,4 +1,5 @@
--- Every code that a call answers is below `codeLimit`, and every place is small: packing and `Unpacking` cite it.
+-- Every code that a call answers is below `codeLimit`, and every position and place is small: packing and `Unpacking` cite
+-- it.
 use Prim.Native.Nat.{ℕ, _<_}
 use mathlib.Core.Path.{_≡_, ap}
 use mathlib.Core.Bool.{Bool, true, false, cond}
@@ -19,17 +20,19 @@ use Rattle.answers.specs.Refusals.{
   codeLimit,
 }
 use Rattle.conditions.specs.Tests.{_and_}
-use Rattle.grid.specs.declared.Cell.{Cell}
-use Rattle.grid.specs.declared.Cell.the-variants.{Absent, Present}
+use Rattle.grid.specs.declared.EntryAt.{EntryAt}
+use Rattle.grid.specs.declared.EntryAt.the-variants as entry
 use Rattle.grid.specs.Grid.{Grid, emptyGrid}
 use Rattle.grid.specs.Entries.{entryCount}
-use Rattle.matrix.specs.Layout.{rows, cols, entries, cellOf, gridOf}
+use Rattle.grid.specs.Position.{entryAt}
+use Rattle.matrix.specs.Layout.{rows, cols, entries, gridOf}
 use Rattle.matrix.specs.Valid.{inRange, valid, checkAnswer}
 use Rattle.encoding.specs.Encode.{gridSize}
 use Rattle.create.specs.Create.{createAnswer}
 use Rattle.answers.specs.declared.CellAnswer.{CellAnswer}
 use Rattle.answers.specs.Reads.{foundAnswer, refusedRead}
 use Rattle.cells.specs.Read.{readAnswer}
+use Rattle.cells.proofs.Positions.{read-position}
 use Rattle.row_view.specs.declared.Section.{Section}
 use Rattle.row_view.specs.View.{rowView, placeOf}
 use Rattle.row_view.proofs.Bounds.{view-within}
@@ -40,10 +43,11 @@ use Rattle.requests.specs.Refusal.{matrixCases, inputRefusal, outputRefusal, le
 use Rattle.calls.specs.Completion.{lentAnswer}
 use Rattle.slots.specs.Valid.{storeValid}
 use Rattle.model.specs.Effects.{Reply, wrote, found, codeOf, refusedAs, replyOf}
-use Rattle.model.specs.Calls.{StoreCall, effect}
+use Rattle.model.specs.Calls.{StoreCall, readCell, effect}
 use Rattle.model.proofs.Effects.{reply-small, refused-code, effect-sound}
 use Rattle.store_encoding.specs.Stores.{modelOf, effectReply, replyOn}
-use Rattle.exports.specs.Packing.{SmallPlace}
+use Rattle.store_cells.proofs.Reading.{read-position as stored-position}
+use Rattle.exports.specs.Packing.{SmallRead, SmallPlace}
 
 abbrev Small : ℕ → Type 0
 Small code = code < codeLimit
@@ -51,8 +55,8 @@ Small code = code < codeLimit
 abbrev SmallAnswer : Answer → Type 0
 SmallAnswer a = Small (a .code)
 
-abbrev SmallRead : CellAnswer → Type 0
-SmallRead a = Small (a .code)
+abbrev SmallCode : CellAnswer → Type 0
+SmallCode a = Small (a .code)
 
 -- ---- one of two, by a test
 either : (b : Bool) (x y : ℕ) → Small x → Small y → Small (cond b x y)
@@ -63,7 +67,7 @@ either-answer : (b : Bool) (x y : Answer) → SmallAnswer x → SmallAnswer y �
 either-answer true x y p q = p
 either-answer false x y p q = q
 
-either-read : (b : Bool) (x y : CellAnswer) → SmallRead x → SmallRead y → SmallRead (cond b x y)
+either-read : (b : Bool) (x y : CellAnswer) → SmallCode x → SmallCode y → SmallCode (cond b x y)
 either-read true x y p q = p
 either-read false x y p q = q
 
@@ -86,17 +90,20 @@ create-small w r c =
     (refused invalidShape)
     (either-answer fits written (refused insufficientSpace) (omega arith) (omega arith)) (omega arith)
 
-found-small : (x : Cell) → SmallRead (foundAnswer x)
-found-small (Present v) = omega arith
-found-small Absent = omega arith
+found-small : (x : EntryAt) → SmallCode (foundAnswer x)
+found-small (entry.Present v p) = omega arith
+found-small (entry.Absent p) = omega arith
+
+read-code : (s : List ℕ) (i j : ℕ) → SmallCode (readAnswer s i j)
+unfolding readAnswer
+read-code s i j =
+    let inside = ltb i (rows s) and ltb j (cols s) in
+    let cell = entryAt (gridOf s) i j in
+    either-read (valid s) (cond inside (foundAnswer cell) (refusedRead indexOutOfBounds)) (refusedRead invalidFirst)
+    (either-read inside (foundAnswer cell) (refusedRead indexOutOfBounds) (found-small cell) (omega arith)) (omega arith)
 
 pub read-small : (s : List ℕ) (i j : ℕ) → SmallRead (readAnswer s i j)
-unfolding readAnswer
-read-small s i j =
-    let inside = ltb i (rows s) and ltb j (cols s) in
-    let cell = foundAnswer (cellOf s i j) in
-    either-read (valid s) (cond inside cell (refusedRead indexOutOfBounds)) (refusedRead invalidFirst)
-    (either-read inside cell (refusedRead indexOutOfBounds) (found-small (cellOf s i j)) (omega arith)) (omega arith)
+read-small s i j = let p = read-position s i j in record { code = read-code s i j; position = omega arith }
 
 -- a place lies within the largest matrix
 pub place-small : (section : Section) (a b : List ℕ) (i : ℕ) → SmallPlace (placeOf (rowView section a b i))
@@ -146,5 +153,9 @@ reply-on-small s call =
 pub store-small : (s : List ℕ) (call : StoreCall) (a : Answer) → wrote a ≡ replyOn s call → SmallAnswer a
 store-small s call a e = let h = reply-on-small s call in let p = ap codeOf e in omega arith
 
-pub store-read-small : (s : List ℕ) (call : StoreCall) (a : CellAnswer) → found a ≡ replyOn s call → SmallRead a
-store-read-small s call a e = let h = reply-on-small s call in let p = ap codeOf e in omega arith
+pub store-read-small : (s : List ℕ) (k i j : ℕ) (a : CellAnswer) → found a ≡ replyOn s (readCell k i j) → SmallRead a
+store-read-small s k i j a e =
+    let h = reply-on-small s (readCell k i j) in
+    let c = ap codeOf e in
+    let p = stored-position s k i j a e in
+    record { code = omega arith; position = omega arith }

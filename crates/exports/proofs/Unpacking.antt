@@ -13,13 +13,15 @@ use Rattle.row_view.specs.declared.Section.{Section}
 use Rattle.row_view.specs.declared.Place.{Place}
 use Rattle.row_view.specs.View.{rowView, placeOf}
 use Rattle.operations.specs.declared.Call.{Call}
-use Rattle.model.specs.Calls.{StoreCall}
+use Rattle.model.specs.Calls.{StoreCall, readCell}
 use Rattle.exports.specs.Packing.{
   codeLimit,
   upperWord,
   presentBit,
+  positionUnit,
   packed,
   packedCell,
+  SmallRead,
   secondBit,
   packedPlace,
   SmallPlace,
@@ -40,24 +42,32 @@ use Rattle.exports.proofs.Codes.{
 unpacked : (r : ℕ) (a : Answer) → r ≡ packed a → a .code < codeLimit → Unpacked r a
 unpacked r a e h = record { code = omega arith; entries = omega arith }
 
-unpacked-cell : (r : ℕ) (a : CellAnswer) → r ≡ packedCell a → a .code < codeLimit → UnpackedCell r a
+unpacked-cell : (r : ℕ) (a : CellAnswer) → r ≡ packedCell a → SmallRead a → UnpackedCell r a
 unpacked-cell r a e h = record {
   code = code (a .present) e;
   present = present (a .present) e;
+  position = position (a .present) e;
   value = value (a .present) e;
 }
   where
-    code : (b : Bool) → r ≡ a .code + presentBit b + a .value * upperWord → r % codeLimit ≡ a .code
-    code true e = omega arith
-    code false e = omega arith
+    packed-as : Bool → ℕ
+    packed-as b = a .code + presentBit b + a .position * positionUnit + a .value * upperWord
 
-    present : (b : Bool) → r ≡ a .code + presentBit b + a .value * upperWord → r / codeLimit % 2 ≡ cond b 1 0
-    present true e = omega arith
-    present false e = omega arith
+    code : (b : Bool) → r ≡ packed-as b → r % codeLimit ≡ a .code
+    code true e = omega (arith, h .code)
+    code false e = omega (arith, h .code)
 
-    value : (b : Bool) → r ≡ a .code + presentBit b + a .value * upperWord → r / upperWord ≡ a .value
-    value true e = omega arith
-    value false e = omega arith
+    present : (b : Bool) → r ≡ packed-as b → r / codeLimit % 2 ≡ cond b 1 0
+    present true e = omega (arith, h .code)
+    present false e = omega (arith, h .code)
+
+    position : (b : Bool) → r ≡ packed-as b → r / positionUnit % positionUnit ≡ a .position
+    position true e = omega (arith, h .code, h .position)
+    position false e = omega (arith, h .code, h .position)
+
+    value : (b : Bool) → r ≡ packed-as b → r / upperWord ≡ a .value
+    value true e = omega (arith, h .code, h .position)
+    value false e = omega (arith, h .code, h .position)
 
 unpacked-place : (p : Place) → SmallPlace p → UnpackedPlace (packedPlace p) p
 unpacked-place p h = record {
@@ -110,6 +120,6 @@ pub store-unpacked : (s : List ℕ) (call : StoreCall) (r : ℕ) (s′ : List �
 store-unpacked s call r s′ h =
     unpacked r (h .answer) (h .packed-is) (store-small s call (h .answer) (h .done .answer-is))
 
-pub store-read-unpacked : (s : List ℕ) (call : StoreCall) (r : ℕ) (h : StoreRead s call r) → UnpackedCell r (h .answer)
-store-read-unpacked s call r h =
-    unpacked-cell r (h .answer) (h .packed-is) (store-read-small s call (h .answer) (h .done))
+pub store-read-unpacked : (s : List ℕ) (k i j r : ℕ) (h : StoreRead s (readCell k i j) r) → UnpackedCell r (h .answer)
+store-read-unpacked s k i j r h =
+    unpacked-cell r (h .answer) (h .packed-is) (store-read-small s k i j (h .answer) (h .done))

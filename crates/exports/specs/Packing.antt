@@ -1,11 +1,12 @@
--- An answer in one number of 64 bits: the code in the lower word, the entries or the value in the upper.
+-- An answer in one number of 64 bits: the code in the lower word, the entries or the value in the upper; of a read the
+-- position too is in the lower.
 use Prim.Native.Nat.{ℕ, _+_, _*_, _^_, _<_}
 use mathlib.Core.Path.{_≡_, refl}
 use mathlib.Core.Bool.{Bool, true, false, cond}
 use Rattle.answers.specs.declared.Answer.{Answer}
 use Rattle.answers.specs.Refusals.{accepted, refused}
 pub use Rattle.answers.specs.Refusals.{codeLimit}
-use Rattle.grid.specs.declared.Cell.the-variants.{Absent, Present}
+use Rattle.grid.specs.declared.EntryAt.the-variants as entry
 use Rattle.answers.specs.declared.CellAnswer.{CellAnswer}
 use Rattle.answers.specs.Reads.{foundAnswer, refusedRead}
 use Rattle.row_view.specs.declared.Place.{Place}
@@ -22,9 +23,21 @@ packed a = a .code + a .entries * upperWord
 abbrev pub presentBit : Bool → ℕ
 presentBit present = cond present codeLimit 0
 
+-- a position: the upper half of the lower word
+abbrev pub positionUnit : ℕ
+positionUnit = 65536
+
+two-halves : positionUnit * positionUnit ≡ upperWord
+two-halves = refl
+
 -- an answer of a read
 abbrev pub packedCell : CellAnswer → ℕ
-packedCell a = a .code + presentBit (a .present) + a .value * upperWord
+packedCell a = a .code + presentBit (a .present) + a .position * positionUnit + a .value * upperWord
+
+-- an answer that fits: the code in a byte, the position in two
+pub record SmallRead (a : CellAnswer) : Type 0 where
+  pub code : a .code < codeLimit
+  pub position : a .position < positionUnit
 
 -- the place of a part: whether it lies in the second matrix, how many words it has, from which word on
 abbrev pub secondBit : Bool → ℕ
@@ -54,14 +67,22 @@ accepted-three = refl
 refused-twelve : packed (refused 12) ≡ 12
 refused-twelve = refl
 
-present-five : packedCell (foundAnswer (Present 5)) ≡ 21474836736
+-- the first entry: as it was packed before a read had a position
+present-five : packedCell (foundAnswer (entry.Present 5 0)) ≡ 21474836736
 present-five = refl
 
-present-zero : packedCell (foundAnswer (Present 0)) ≡ 256
+present-zero : packedCell (foundAnswer (entry.Present 0 0)) ≡ 256
 present-zero = refl
 
-absent-cell : packedCell (foundAnswer Absent) ≡ 0
+absent-cell : packedCell (foundAnswer (entry.Absent 0)) ≡ 0
 absent-cell = refl
+
+-- the fourth entry, and an entry that would be put at the end of a full matrix
+present-fourth : packedCell (foundAnswer (entry.Present 5 3)) ≡ 21475033344
+present-fourth = refl
+
+absent-end : packedCell (foundAnswer (entry.Absent 2048)) ≡ 134217728
+absent-end = refl
 
 refused-seven : packedCell (refusedRead 7) ≡ 7
 refused-seven = refl

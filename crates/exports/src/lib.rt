@@ -2,7 +2,8 @@
 // the order of the wrapped function, then the buffers. A slice is passed as a pointer and the number of its words.
 // `flags`, `has_mask`, `has_accumulator` and `accumulator` are the call's options; a `has_..` is no where it is 0, else
 // yes. Any numbers and any buffers may be passed. Each call answers in one number: the code in the lower word, the
-// entries of what was written or checked, or the value of the cell that was read, in the upper.
+// entries of what was written or checked, or the value of the cell that was read, in the upper; the position of a cell
+// that was read is in the lower word too.
 use answers::Answer;
 use answers::CellAnswer;
 use call_codes::Options;
@@ -13,7 +14,7 @@ use row_view::Place;
 use row_view::Section;
 ghost use mathlib.Core.Path.{_≡_};
 ghost use mathlib.Core.List.{[]};
-ghost use Prim.Native.Nat.{_<_, _≤_};
+ghost use Prim.Native.Nat.{_≤_};
 ghost use lib.ListN.{length, replicate};
 ghost use Rattle.matrix.specs.Valid.{checkAnswer};
 ghost use Rattle.cells.specs.Read.{readAnswer};
@@ -21,7 +22,8 @@ ghost use Rattle.row_view.specs.View.{rowView, placeOf};
 ghost use Rattle.call_codes.specs.declared.Verb.the-variants as verbs;
 ghost use Rattle.call_codes.specs.Decoding.{decoded};
 ghost use Rattle.model.specs.Calls.{newEmpty, dropSlot, setCell, clearCell, readCell, operate};
-ghost use Rattle.exports.specs.Packing.{packed, packedCell, presentBit, packedPlace, secondBit, SmallPlace, codeLimit};
+ghost use Rattle.exports.specs.Packing.{packed, packedCell, presentBit, SmallRead, packedPlace, secondBit};
+ghost use Rattle.exports.specs.Packing.{SmallPlace, codeLimit};
 ghost use Rattle.exports.specs.Exported.{optionsOf, rolesNamed, sectionOf};
 ghost use Rattle.exports.specs.Exported.{LentCreated, LentCompleted, StorePerformed, StoreRead};
 
@@ -30,6 +32,9 @@ const PRESENT: u64 = 256;
 
 // In the answer of a look at a row, what a word of the part counts.
 const COUNT_UNIT: u64 = 256;
+
+// In the answer of a read, what 1 of the position counts.
+const POSITION_UNIT: u64 = 65536;
 
 // In an answer, what 1 in the upper word counts.
 const UPPER_WORD: u64 = 4294967296;
@@ -710,12 +715,15 @@ fn pack(answer: Answer) -> u64
     answer.code as u64 + answer.entries as u64 * UPPER_WORD
 }
 
-// The code and whether the cell is present in the lower word, the value in the upper.
+// The code, whether the cell is present and the position in the lower word, the value in the upper.
 fn pack_cell(answer: CellAnswer) -> u64
-    requires { ⌜ answer .code < codeLimit ⌝ }
+    requires { ⌜ SmallRead answer ⌝ }
     ensures { λ r. ⌜ r ≡ packedCell answer ⌝ }
 {
-    answer.code as u64 + present_bit(answer.present) + answer.value as u64 * UPPER_WORD
+    answer.code as u64
+        + present_bit(answer.present)
+        + answer.position as u64 * POSITION_UNIT
+        + answer.value as u64 * UPPER_WORD
 }
 
 fn present_bit(present: bool) -> u64

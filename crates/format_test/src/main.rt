@@ -240,6 +240,7 @@ fn reads(words: &[u32], cases: &[u32]) {
 fn read(words: &[u32], i: u32, j: u32) {
     let answer = cells::read_cell(words, i, j);
     print_cell(i, j, answer.code, answer.present, answer.value);
+    test_support::print_word(b" at position", answer.position);
 }
 
 // Makes an empty matrix for each three of a length, rows and columns.
@@ -289,9 +290,10 @@ fn print_cell(i: u32, j: u32, code: u32, present: bool, value: u32) {
     io::write_all(STDOUT_FILENO, b": ");
     test_support::print_number(code);
     if present {
-        test_support::print_word(b" present", value);
+        io::write_all(STDOUT_FILENO, b" present: ");
+        test_support::print_number(value);
     } else {
-        test_support::heading(b" absent");
+        io::write_all(STDOUT_FILENO, b" absent");
     }
 }
 

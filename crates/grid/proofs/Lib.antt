@@ -1,3 +1,4 @@
 pub mod Gather
 pub mod Same
 pub mod Counts
+pub mod Position

@@ -18,7 +18,7 @@ told (wrote h) = performed h
 told (operated w w′ h z) = performed h
 told (read h) = record {
   reply = effects.found (h .answer);
-  apart = (h .packed-is, store-read-unpacked _ _ _ h);
+  apart = (h .packed-is, store-read-unpacked _ _ _ _ _ h);
   performed = read-performed _ _ _ _ _ (h .done);
 }
 

@@ -18,10 +18,14 @@ use Rattle.answers.specs.Refusals.{accepted, invalidShape, codeLimit}
 use Rattle.answers.specs.Reads.{foundAnswer}
 use Rattle.grid.specs.declared.Cell.{Cell}
 use Rattle.grid.specs.declared.Cell.the-variants.{Absent, Present}
+use Rattle.grid.specs.declared.EntryAt.{EntryAt}
+use Rattle.grid.specs.declared.EntryAt.the-variants as entry
 use Rattle.grid.specs.Grid.{Grid, Same, emptyGrid}
+use Rattle.grid.specs.Position.{entryAt}
 use Rattle.grid.specs.Update.{withCell}
 use Rattle.grid.proofs.Same.{same-refl, same-count, same-changed}
 use Rattle.grid.proofs.Counts.{empty-count, cleared-count}
+use Rattle.grid.proofs.Position.{same-entry}
 use Rattle.refusals.specs.Cases.{Case, given, firstApplying}
 use Rattle.refusals.proofs.Cases.{later, applying-after, applying-tail, applying-none}
 use Rattle.refusals.proofs.Codes.{Coded, applying-coded, coded-append, outputs-coded}
@@ -168,8 +172,9 @@ module _ (n : ℕ) (m m′ : Model) (a : Alike m m′) where
   changed-same : (k i j : ℕ) (x : Cell) → Same (withCell (gridAt m k) i j x) (withCell (gridAt m′ k) i j x)
   changed-same k i j x = same-changed (gridAt m k) (gridAt m′ k) i j x (grid-same n m m′ a k)
 
-  -- where 12, 13 and 7 do not apply, the cell is there
-  found-same : (k i j : ℕ) → firstApplying (cellCases m k i j) ≡ 0 → gridAt m k .cell i j ≡ gridAt m′ k .cell i j
+  -- where 12, 13 and 7 do not apply, the cell is there, and its entry at one position in both
+  found-same : (k i j : ℕ) → firstApplying (cellCases m k i j) ≡ 0
+      → entryAt (gridAt m k) i j ≡ entryAt (gridAt m′ k) i j
   found-same k i j z =
       let s = grid-same n m m′ a k in
       let h₁ = later (leb slotCount k) 12 _ refl z in
@@ -178,7 +183,7 @@ module _ (n : ℕ) (m m′ : Model) (a : Alike m m′) where
       let t = not-false _ (h₃ .here) in
       let p = ltb-true _ _ (and-left _ _ t) in
       let q = ltb-true _ _ (and-right _ _ t) in
-      s .cell i j (rw (← (s .rows)) p) (rw (← (s .cols)) q)
+      same-entry (gridAt m k) (gridAt m′ k) i j s (rw (← (s .rows)) p) (rw (← (s .cols)) q)
 
   -- 8 of a new matrix
   abbrev shape : ℕ → ℕ → Case
@@ -201,7 +206,7 @@ module _ (n : ℕ) (m m′ : Model) (a : Alike m m′) where
       putting-same k _ _ n m m′ a (ap firstApplying (cell-cases n m m′ a k i j)) (λ z. changed-same k i j Absent)
   effect-same (readCell k i j) = record {
     refusal = ap firstApplying (cell-cases n m m′ a k i j);
-    answer = λ z. ap (λ (x : Cell). found (foundAnswer x)) (found-same k i j z);
+    answer = λ z. ap (λ (x : EntryAt). found (foundAnswer x)) (found-same k i j z);
     change = λ z. a;
   }
   effect-same (operation x) =
@@ -245,9 +250,9 @@ module _ (n : ℕ) (m : Model) (h : Fitting n m) where
 cell-coded : (m : Model) (k i j : ℕ) → Coded (cellCases m k i j)
 cell-coded m k i j = (omega arith, (omega arith, (omega arith, tt)))
 
-found-code : (x : Cell) → codeOf (found (foundAnswer x)) ≡ 0
-found-code Absent = refl
-found-code (Present v) = refl
+found-code : (x : EntryAt) → codeOf (found (foundAnswer x)) ≡ 0
+found-code (entry.Absent p) = refl
+found-code (entry.Present v p) = refl
 
 pub effect-sound : (c : StoreCall) → Sound (effect c)
 unfolding effect
@@ -261,7 +266,7 @@ effect-sound (setCell k i j v) =
 effect-sound (clearCell k i j) = putting-sound k _ _ (λ n m. cell-coded m k i j)
 effect-sound (readCell k i j) = record {
   coded = λ n m. cell-coded m k i j;
-  accepted-code = λ m. found-code (gridAt m k .cell i j);
+  accepted-code = λ m. found-code (entryAt (gridAt m k) i j);
   of-kind = λ m. tt;
 }
 effect-sound (operation x) = putting-sound _ _ _ (λ n m. operation-coded n m (operateOf x))

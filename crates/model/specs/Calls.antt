@@ -17,6 +17,7 @@ use Rattle.answers.specs.Refusals.{
 }
 use Rattle.answers.specs.Reads.{foundAnswer}
 use Rattle.grid.specs.Grid.{Grid, emptyGrid}
+use Rattle.grid.specs.Position.{entryAt}
 use Rattle.grid.specs.Update.{withCell}
 use Rattle.grid.specs.declared.Cell.the-variants.{Absent, Present}
 use Rattle.operations.specs.declared.Call.{Call}
@@ -162,11 +163,11 @@ effect (dropSlot k) = record {
 effect (setCell k i j v) =
     puttingGrid k (λ m. withValue m k i j v) (λ n m. cellCases m k i j ++ fitCases n m k (withValue m k i j v))
 effect (clearCell k i j) = puttingGrid k (λ m. withoutValue m k i j) (λ n m. cellCases m k i j)
--- "read changes nothing. .. Read answers present with the value, or absent."
+-- "read changes nothing. .. Read answers present with the value, or absent."; A11: it "counts present cells in row order"
 effect (readCell k i j) = record {
   kind = reading;
   cases = λ n m. cellCases m k i j;
   change = λ m. keeps;
-  answer = λ m. found (foundAnswer (gridAt m k .cell i j));
+  answer = λ m. found (foundAnswer (entryAt (gridAt m k) i j));
 }
 effect (operation x) = operationEffect (operateOf x)

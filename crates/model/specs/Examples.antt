@@ -11,7 +11,9 @@ use Rattle.limits.specs.Ranges.{inRange}
 use Rattle.answers.specs.Refusals.{accepted, refused}
 use Rattle.answers.specs.Reads.{foundAnswer, refusedRead}
 use Rattle.grid.specs.declared.Cell.the-variants.{Absent, Present}
+use Rattle.grid.specs.declared.EntryAt.the-variants as entry
 use Rattle.grid.specs.Entries.{one, gather, flatten}
+use Rattle.grid.specs.Position.{entryAt}
 use Rattle.operations.specs.Calls.{callFinal, listValid, indexesValid, shapesAgree}
 use Rattle.operations.specs.WriteBacks.{writeBack}
 use Rattle.operators.specs.Operators.{binaryWord, unaryWord, entryWord}
@@ -41,11 +43,12 @@ entries n = wrote (accepted n)
 abbrev refusal : ℕ → Reply
 refusal code = wrote (refused code)
 
-abbrev value : ℕ → Reply
-value v = found (foundAnswer (Present v))
+-- of a read: a value and its position, or the position where one would be put
+abbrev value : ℕ → ℕ → Reply
+value v p = found (foundAnswer (entry.Present v p))
 
-abbrev absent : Reply
-absent = found (foundAnswer Absent)
+abbrev absent : ℕ → Reply
+absent p = found (foundAnswer (entry.Absent p))
 
 abbrev readRefusal : ℕ → Reply
 readRefusal code = found (refusedRead code)
@@ -90,10 +93,10 @@ room-answered : replies 16 fresh roomCalls
     ∷ refusal 12
     ∷ refusal 8
     ∷ refusal 8
-    ∷ absent
-    ∷ absent
+    ∷ absent 0
+    ∷ absent 0
     ∷ []
-unfolding effect replyOf nextOf inRange _and_ flatten gather one
+unfolding effect replyOf nextOf entryAt inRange _and_ flatten gather one
 room-answered = refl
 
 -- ---- cells: 12, 13 and 7 in this order, and a value set, replaced and cleared
@@ -133,15 +136,15 @@ cells-answered : replies 30 fresh cellCalls
     ∷ entries 1
     ∷ entries 1
     ∷ entries 2
-    ∷ value 8
-    ∷ value 0
+    ∷ value 8 1
+    ∷ value 0 0
     ∷ readRefusal 7
     ∷ entries 2
     ∷ entries 1
-    ∷ absent
-    ∷ value 0
+    ∷ absent 1
+    ∷ value 0 0
     ∷ []
-unfolding effect replyOf nextOf inRange _and_ flatten gather one
+unfolding effect replyOf nextOf entryAt inRange _and_ flatten gather one
 cells-answered = refl
 
 -- ---- 10: a grid of 2,048 entries and one empty column, in a store that it fills, takes no entry more: 10 comes before 11,
@@ -154,8 +157,8 @@ full =
 abbrev fullCalls : List StoreCall
 fullCalls = setCell 0 5 32 7 ∷ setCell 0 5 31 7 ∷ clearCell 0 5 30 ∷ setCell 0 5 32 7 ∷ readCell 0 5 32 ∷ []
 
-full-answered : replies 4175 full fullCalls ≡ refusal 10 ∷ entries 2048 ∷ entries 2047 ∷ entries 2048 ∷ value 7 ∷ []
-unfolding effect replyOf nextOf _and_ flatten gather one
+full-answered : replies 4175 full fullCalls ≡ refusal 10 ∷ entries 2048 ∷ entries 2047 ∷ entries 2048 ∷ value 7 191 ∷ []
+unfolding effect replyOf nextOf entryAt _and_ flatten gather one
 full-answered = refl
 
 -- ---- an operation: the roles apart. A is slot 0, B slot 1, the mask slot 2, C slot 3
@@ -230,21 +233,21 @@ roles-answered : replies 200 (modelAfter 200 fresh laid) roleCalls
     ∷ refusal 13
     ∷ refusal 9
     ∷ entries 4
-    ∷ value 3
-    ∷ value 200
-    ∷ value 9
-    ∷ value 300
-    ∷ value 5
-    ∷ value 2
-    ∷ value 1
+    ∷ value 3 0
+    ∷ value 200 1
+    ∷ value 9 2
+    ∷ value 300 3
+    ∷ value 5 0
+    ∷ value 2 0
+    ∷ value 1 0
     ∷ entries 3
-    ∷ value 7
-    ∷ absent
+    ∷ value 7 1
+    ∷ absent 3
     ∷ entries 3
-    ∷ value 0
+    ∷ value 0 2
     ∷ []
-unfolding effect replyOf nextOf inRange _and_ all flatten gather one callFinal indexesValid listValid shapesAgree writeBack
-    binaryWord binaryNumbered signed word
+unfolding effect replyOf nextOf entryAt inRange _and_ all flatten gather one callFinal indexesValid listValid shapesAgree
+    writeBack binaryWord binaryNumbered signed word
 roles-answered = refl
 
 -- a call by its flags, its verb and its roles, with the lists and as many words to work in
@@ -280,13 +283,13 @@ order-answered : replies 200 (modelAfter 200 fresh (laid ++ (newEmpty 4 2 1 ∷ 
     ∷ refusal 8
     ∷ refusal 8
     ∷ entries 2
-    ∷ value 4294967289
+    ∷ value 4294967289 1
     ∷ entries 2
-    ∷ value 7
-    ∷ value 5
+    ∷ value 7 0
+    ∷ value 5 1
     ∷ []
-unfolding effect replyOf nextOf inRange _and_ all flatten gather one callFinal indexesValid listValid shapesAgree writeBack
-    binaryWord binaryNumbered applyNumbered unaryNumbered unaryWord entryWord signed word
+unfolding effect replyOf nextOf entryAt inRange _and_ all flatten gather one callFinal indexesValid listValid shapesAgree
+    writeBack binaryWord binaryNumbered applyNumbered unaryNumbered unaryWord entryWord signed word
 order-answered = refl
 
 -- the final C does not fit: 9 comes before 11, and C is as it was. It takes the room of a slot that goes
@@ -297,13 +300,13 @@ tight-answered : replies 61 (modelAfter 61 fresh laid)
     ∷ dropSlot 1
     ∷ difference true 0 0 2 3 workspaceWords
     ∷ [])
-    ≡ refusal 9 ∷ refusal 11 ∷ value 100 ∷ entries 0 ∷ entries 3 ∷ []
-unfolding effect replyOf nextOf inRange _and_ all flatten gather one callFinal indexesValid listValid shapesAgree writeBack
-    binaryWord binaryNumbered signed word
+    ≡ refusal 9 ∷ refusal 11 ∷ value 100 0 ∷ entries 0 ∷ entries 3 ∷ []
+unfolding effect replyOf nextOf entryAt inRange _and_ all flatten gather one callFinal indexesValid listValid shapesAgree
+    writeBack binaryWord binaryNumbered signed word
 tight-answered = refl
 
 -- with one word more it fits exactly, beside all others
 exact-answered : replies 62 (modelAfter 62 fresh laid) (difference true 0 1 2 3 workspaceWords ∷ []) ≡ entries 4 ∷ []
-unfolding effect replyOf nextOf inRange _and_ all flatten gather one callFinal indexesValid listValid shapesAgree writeBack
-    binaryWord binaryNumbered signed word
+unfolding effect replyOf nextOf entryAt inRange _and_ all flatten gather one callFinal indexesValid listValid shapesAgree
+    writeBack binaryWord binaryNumbered signed word
 exact-answered = refl

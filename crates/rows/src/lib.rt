@@ -1,12 +1,15 @@
 // A sparse row: column numbers that rise strictly, each beside its value. A search counts the column numbers that it looks
 // at.
 use grid::Cell;
+use grid::EntryAt;
 ghost use mathlib.Core.Path.{_≡_};
 ghost use Prim.Native.Nat.{_+_, _≤_, _<_};
 ghost use lib.ListN.{length};
+ghost use Rattle.limits.specs.Limits.{maxEntries};
 ghost use Rattle.words.specs.Words.{at};
+ghost use Rattle.grid.specs.Position.{entryOf};
 ghost use Rattle.rows.specs.Row.{Rises, position, lookup};
-ghost use Rattle.rows.specs.Place.{columnAt, Inside, cellBeside};
+ghost use Rattle.rows.specs.Place.{columnAt, Inside, cellBeside, Among, entryBeside};
 ghost use Rattle.rows.specs.Looks.{positionLooks, lookThere, looksFor};
 
 // The place of a column in a row: its position, or where it would be put to keep the order.
@@ -21,9 +24,9 @@ pub struct FoundColumn {
     pub looks: usize,
 }
 
-// A cell, and how many column numbers were looked at to find it.
-pub struct FoundCell {
-    pub cell: Cell,
+// The entry of a cell, and how many column numbers were looked at to find it.
+pub struct FoundEntry {
+    pub entry: EntryAt,
     pub looks: usize,
 }
 
@@ -39,16 +42,17 @@ struct Seen {
     looks: usize,
 }
 
-// The cell at column j of a valid row.
-pub fn find_cell(columns: &[u32], values: &[u32], j: u32) -> FoundCell
+// The entry of column j of a valid row, before which the matrix has `start` entries.
+pub fn find_entry(columns: &[u32], values: &[u32], start: u32, j: u32) -> FoundEntry
     requires { ⌜ Rises (now columns) ⌝ ∗ ⌜ length (now values) ≡ length (now columns) ⌝ }
-    ensures { λ r. ⌜ r .cell ≡ lookup (now (columns .entry)) (now (values .entry)) j ⌝
-        ∗ ⌜ r .looks ≡ looksFor j (now (columns .entry)) ⌝ }
+    requires { ⌜ start + length (now columns) ≤ maxEntries ⌝ }
+    ensures { λ r. ⌜ r .entry ≡ entryOf (lookup (now (columns .entry)) (now (values .entry)) j)
+        (start + position j (now (columns .entry))) ⌝ ∗ ⌜ r .looks ≡ looksFor j (now (columns .entry)) ⌝ }
 {
     let found = find_column(columns, j);
     let place = found.place;
-    FoundCell {
-        cell: cell_beside(values, place),
+    FoundEntry {
+        entry: entry_beside(values, start, place),
         looks: found.looks,
     }
 }
@@ -143,5 +147,21 @@ fn cell_beside(values: &[u32], place: ColumnAt) -> Cell
     match place {
         ColumnAt::Present(p) => Cell::Present(values[p]),
         ColumnAt::Absent(_) => Cell::Absent,
+    }
+}
+
+// The entry at the place of a column, before whose row the matrix has `start` entries.
+fn entry_beside(values: &[u32], start: u32, place: ColumnAt) -> EntryAt
+    requires { ⌜ Among place (length (now values)) ⌝ ∗ ⌜ start + length (now values) ≤ maxEntries ⌝ }
+    ensures { λ r. ⌜ r ≡ entryBeside (now (values .entry)) start place ⌝ }
+{
+    match place {
+        ColumnAt::Present(p) => EntryAt::Present {
+            value: values[p],
+            position: start + p as u32,
+        },
+        ColumnAt::Absent(q) => EntryAt::Absent {
+            position: start + q as u32,
+        },
     }
 }

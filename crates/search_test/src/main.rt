@@ -122,6 +122,7 @@ fn read_row(words: &[u32], i: u32, row: RowPlan) {
 // One cell read, and held against the plan.
 fn read(words: &[u32], i: u32, j: u32, row: RowPlan, seen: Tally) -> Tally {
     let answer = cells::read_cell(words, i, j);
+    let position = std::num::wrapping_add_u32(row_start(words, i), seen.present);
     if seen.present < row.entries {
         if seen.next == j {
             return Tally {
@@ -130,7 +131,7 @@ fn read(words: &[u32], i: u32, j: u32, row: RowPlan, seen: Tally) -> Tally {
                 absent: seen.absent,
                 wrong: std::num::wrapping_add_u32(
                     seen.wrong,
-                    unexpected(answer, true, seen.present),
+                    unexpected(answer, true, seen.present, position),
                 ),
                 most: seen.most,
                 most_at: seen.most_at,
@@ -141,14 +142,19 @@ fn read(words: &[u32], i: u32, j: u32, row: RowPlan, seen: Tally) -> Tally {
         present: seen.present,
         next: seen.next,
         absent: std::num::wrapping_add_u32(seen.absent, 1),
-        wrong: std::num::wrapping_add_u32(seen.wrong, unexpected(answer, false, 0)),
+        wrong: std::num::wrapping_add_u32(seen.wrong, unexpected(answer, false, 0, position)),
         most: seen.most,
         most_at: seen.most_at,
     }
 }
 
+// How many entries the rows before row i have.
+fn row_start(words: &[u32], i: u32) -> u32 {
+    test_support::word(words, test_support::past(4, i as usize))
+}
+
 // 1 where the answer is another one.
-fn unexpected(answer: CellAnswer, present: bool, value: u32) -> u32 {
+fn unexpected(answer: CellAnswer, present: bool, value: u32, position: u32) -> u32 {
     if answer.code != 0 {
         return 1;
     }
@@ -156,6 +162,9 @@ fn unexpected(answer: CellAnswer, present: bool, value: u32) -> u32 {
         return 1;
     }
     if answer.value != value {
+        return 1;
+    }
+    if answer.position != position {
         return 1;
     }
     0
@@ -183,7 +192,7 @@ fn looks_at(words: &[u32], i: u32, j: u32) -> u32 {
     if words[ROWS_AT] <= i {
         return 99;
     }
-    let read = cells::cell_at(words, i as usize, j);
+    let read = cells::entry_at(words, i as usize, j);
     read.looks as u32
 }
 

@@ -10,15 +10,14 @@ use Rattle.grid.specs.declared.Cell.{Cell}
 use Rattle.grid.specs.declared.Cell.the-variants.{Absent, Present}
 use Rattle.grid.specs.Grid.{Grid}
 use Rattle.grid.specs.Entries.{column, entryCount}
+use Rattle.grid.specs.Position.{AbsentAt, PresentAt}
 use Rattle.grid.specs.Update.{withCell}
 use Rattle.matrix.specs.Layout.{entries, gridOf}
 use Rattle.encoding.specs.Encode.{encode, gridSize, writtenOver}
 use Rattle.encoding.proofs.Canonical.{valid-entries, encode-ext}
-use Rattle.edits.specs.declared.EntryAt.the-variants as entry
-use Rattle.edits.specs.Entry.{entryAt}
 use Rattle.edits.specs.Changes.{InMatrix}
 use Rattle.edits.proofs.Around.{cellCount, around, around-length, changed-here, changed-other}
-use Rattle.edits.proofs.Place.{absent-at, present-at, in-valid}
+use Rattle.edits.proofs.Place.{in-valid}
 
 -- a cell more or less is an entry more or less
 with-count : (g : Grid) (i j : ℕ) (x : Cell) → i < g .rows → j < g .cols
@@ -39,24 +38,24 @@ module _ {x : List ℕ} {i j : ℕ} (m : InMatrix x i j) (p : ℕ) where
   change c =
       omega (arith, with-count (gridOf x) i j c (m .row) (m .col), valid-entries x (in-valid m))
 
-  pub replaced-count : entryAt (gridOf x) i j ≡ entry.Present p → (v : ℕ)
+  pub replaced-count : PresentAt (gridOf x) i j p → (v : ℕ)
       → entryCount (withCell (gridOf x) i j (Present v)) ≡ entries x
-  replaced-count e v = omega (arith, change (Present v), ap cellCount (present-at e .cell))
+  replaced-count e v = omega (arith, change (Present v), ap cellCount (e .cell))
 
-  pub added-count : entryAt (gridOf x) i j ≡ entry.Absent p → (v : ℕ)
+  pub added-count : AbsentAt (gridOf x) i j p → (v : ℕ)
       → entryCount (withCell (gridOf x) i j (Present v)) ≡ entries x + 1
-  added-count e v = omega (arith, change (Present v), ap cellCount (absent-at e .cell))
+  added-count e v = omega (arith, change (Present v), ap cellCount (e .cell))
 
-  pub taken-count : entryAt (gridOf x) i j ≡ entry.Present p
+  pub taken-count : PresentAt (gridOf x) i j p
       → entryCount (withCell (gridOf x) i j Absent) + 1 ≡ entries x
-  taken-count e = omega (arith, change Absent, ap cellCount (present-at e .cell))
+  taken-count e = omega (arith, change Absent, ap cellCount (e .cell))
 
-  pub cleared-count : entryAt (gridOf x) i j ≡ entry.Absent p
+  pub cleared-count : AbsentAt (gridOf x) i j p
       → entryCount (withCell (gridOf x) i j Absent) ≡ entries x
-  cleared-count e = omega (arith, change Absent, ap cellCount (absent-at e .cell))
+  cleared-count e = omega (arith, change Absent, ap cellCount (e .cell))
 
 -- a cell that is cleared and was empty: the writing is the same
-pub cleared-same : (g : Grid) (i j p : ℕ) → entryAt g i j ≡ entry.Absent p → encode (withCell g i j Absent) ≡ encode g
+pub cleared-same : (g : Grid) (i j p : ℕ) → AbsentAt g i j p → encode (withCell g i j Absent) ≡ encode g
 cleared-same g i j p e =
     encode-ext (withCell g i j Absent) g (record { rows = refl; cols = refl; cell = λ r c l m. cell-same r c })
   where
@@ -65,7 +64,7 @@ cleared-same g i j p e =
       where
         go : Dec (r ≡ i) → Dec (c ≡ j) → withCell g i j Absent .cell r c ≡ g .cell r c
         go (yes d) (yes f) =
-            rw (d, f) (changed-here g i j Absent ∙ sym (absent-at e .cell))
+            rw (d, f) (changed-here g i j Absent ∙ sym (e .cell))
         go (yes d) (no f) = changed-other g i j Absent r c (λ a b. f b)
         go (no d) f = changed-other g i j Absent r c (λ a b. d a)
 

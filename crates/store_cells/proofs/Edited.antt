@@ -9,9 +9,13 @@ use Rattle.limits.specs.Limits.{slotCount, maxEntries}
 use Rattle.answers.specs.Refusals.{accepted, refused, tooManyEntries, insufficientSpace}
 use Rattle.words.specs.Words.{part}
 use Rattle.grid.specs.declared.Cell.the-variants.{Present}
+use Rattle.grid.specs.declared.EntryAt.{EntryAt}
+use Rattle.grid.specs.declared.EntryAt.the-variants as entry
 use Rattle.grid.specs.Grid.{Grid}
 use Rattle.grid.specs.Entries.{entryCount}
+use Rattle.grid.specs.Position.{positionOf, entryAt, AbsentAt, PresentAt}
 use Rattle.grid.specs.Update.{withCell}
+use Rattle.grid.proofs.Position.{absent-at, present-at}
 use Rattle.matrix.specs.Layout.{entries, gridOf}
 use Rattle.encoding.specs.Encode.{encode, gridSize, writtenOver}
 use Rattle.encoding.proofs.Canonical.{encode-length}
@@ -21,15 +25,12 @@ use Rattle.slots.specs.Room.{slotPut, resized}
 use Rattle.slots.proofs.Sections.{end-rises}
 use Rattle.slots.proofs.Slot.{slot-length}
 use Rattle.slots.proofs.Resized.{new-length, new-grown}
-use Rattle.edits.specs.declared.EntryAt.{EntryAt}
-use Rattle.edits.specs.declared.EntryAt.the-variants as entry
-use Rattle.edits.specs.Entry.{entryAt}
 use Rattle.edits.specs.Changes.{InMatrix, HasSpace}
 use Rattle.store_encoding.specs.Placing.{Placed}
 use Rattle.store_cells.specs.Slots.{CellOf, slotGrid, slotWith}
 use Rattle.store_cells.proofs.Counts.{replaced-count, added-count, whole}
 use Rattle.store_cells.proofs.Rewritten.{put-same, part-lent, part-back}
-use Rattle.store_cells.proofs.Grown.{held-in, grown-in, grown-entry, grown-space, grown-written}
+use Rattle.store_cells.proofs.Grown.{held-in, grown-in, grown-absent, grown-space, grown-written}
 use Rattle.store_cells.proofs.Outcomes.{placed-many, placed-no-room, placed-written}
 
 -- ---- what is known of a slot
@@ -39,9 +40,24 @@ module _ {s : List ℕ} {k i j : ℕ} (h : CellOf s k i j) where
   slot-in = held-in (h .held) (h .row) (h .col)
 
   -- and what a search in them found is known of its grid
-  pub entry-in : {x : List ℕ} {r e : EntryAt} → x ≡ slotAt s k → r ≡ entryAt (gridOf x) i j → r ≡ e
+  entry-in : {x : List ℕ} {r e : EntryAt} → x ≡ slotAt s k → r ≡ entryAt (gridOf x) i j → r ≡ e
       → entryAt (slotGrid s k) i j ≡ e
   entry-in w f t = ap (λ (z : List ℕ). entryAt (gridOf z) i j) (sym w) ∙ sym f ∙ t
+
+  pub absent-in : {x : List ℕ} {r : EntryAt} {p : ℕ} → x ≡ slotAt s k → r ≡ entryAt (gridOf x) i j
+      → r ≡ entry.Absent p → AbsentAt (slotGrid s k) i j p
+  absent-in w f t = absent-at (entry-in w f t)
+
+  -- the same by the position that was read off the entry
+  pub absent-found : {x : List ℕ} {r : EntryAt} {p q : ℕ} → x ≡ slotAt s k → r ≡ entryAt (gridOf x) i j
+      → r ≡ entry.Absent p → q ≡ positionOf r → AbsentAt (slotGrid s k) i j q
+  absent-found w f t e =
+      let a = absent-in w f t in
+      record { cell = a .cell; position = e ∙ ap positionOf t ∙ a .position }
+
+  pub present-in : {x : List ℕ} {r : EntryAt} {v p : ℕ} → x ≡ slotAt s k → r ≡ entryAt (gridOf x) i j
+      → r ≡ entry.Present v p → PresentAt (slotGrid s k) i j p
+  present-in w f t = present-at (entry-in w f t)
 
   -- where they are
   pub record Slot : Type 0 where
@@ -74,7 +90,7 @@ module _ {s : List ℕ} {k i j : ℕ} (h : CellOf s k i j) where
 
 -- ---- a value replaced: the size stays
 module _ {s : List ℕ} {k i j : ℕ} (h : CellOf s k i j) (p v : ℕ)
-    (e : entryAt (slotGrid s k) i j ≡ entry.Present p) where
+    (e : PresentAt (slotGrid s k) i j p) where
   abbrev g₁ : Grid
   g₁ = slotWith s k i j (Present v)
 
@@ -98,7 +114,7 @@ module _ {s : List ℕ} {k i j : ℕ} (h : CellOf s k i j) (p v : ℕ)
 
 -- ---- an entry more: two words more
 module _ {s : List ℕ} {k i j : ℕ} (h : CellOf s k i j) (p v : ℕ)
-    (e : entryAt (slotGrid s k) i j ≡ entry.Absent p) where
+    (e : AbsentAt (slotGrid s k) i j p) where
   abbrev g₂ : Grid
   g₂ = slotWith s k i j (Present v)
 
@@ -123,7 +139,7 @@ module _ {s : List ℕ} {k i j : ℕ} (h : CellOf s k i j) (p v : ℕ)
 -- the slot is resized for it: u are the words of the store, and a is where those of the slot start
 pub record Adding (s : List ℕ) (k i j p end n a : ℕ) (u : List ℕ) : Type 0 where
   pub cell : CellOf s k i j
-  pub absent : entryAt (slotGrid s k) i j ≡ entry.Absent p
+  pub absent : AbsentAt (slotGrid s k) i j p
   pub few : entries (slotAt s k) < maxEntries
   pub long : n ≡ length (slotAt s k)
   pub fits : Fits s k end (n + 2)
@@ -162,10 +178,8 @@ module _ {s : List ℕ} {k i j p end n a : ℕ} {u : List ℕ} (r : Adding s k i
   pub add-in : InMatrix (part a (a + (n + 2)) u) i j
   add-in = let h = r .cell in rw lent-is (grown-in (h .held) (h .row) (h .col) behind)
 
-  pub add-entry : entryAt (gridOf (part a (a + (n + 2)) u)) i j ≡ entry.Absent p
-  add-entry =
-      let h = r .cell in
-      ap (λ (z : List ℕ). entryAt (gridOf z) i j) lent-is ∙ grown-entry (h .held) (h .row) (h .col) behind ∙ r .absent
+  pub add-absent : AbsentAt (gridOf (part a (a + (n + 2)) u)) i j p
+  add-absent = let h = r .cell in rw lent-is (grown-absent (h .held) (h .row) (h .col) behind (r .absent))
 
   pub add-space : HasSpace (part a (a + (n + 2)) u)
   add-space = let h = r .cell in rw lent-is (grown-space (h .held) (h .row) (h .col) behind two (r .few))

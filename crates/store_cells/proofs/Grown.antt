@@ -10,9 +10,9 @@ use Rattle.limits.specs.Limits.{maxEntries}
 use Rattle.grid.specs.declared.Cell.{Cell}
 use Rattle.grid.specs.declared.Cell.the-variants.{Present}
 use Rattle.grid.specs.Grid.{Grid, Same}
-use Rattle.grid.specs.Entries.{column, gather, flatten}
+use Rattle.grid.specs.Position.{AbsentAt}
 use Rattle.grid.specs.Update.{withCell}
-use Rattle.grid.proofs.Gather.{gather-same, flatten-same}
+use Rattle.grid.proofs.Position.{same-absent}
 use Rattle.matrix.specs.Layout.{rows, cols, entries, size, gridOf}
 use Rattle.matrix.specs.Valid.{valid}
 use Rattle.matrix.proofs.Facts.{matrix-facts, matrix-made}
@@ -20,8 +20,6 @@ use Rattle.encoding.specs.Encode.{encode, writtenOver}
 use Rattle.encoding.proofs.Canonical.{encode-valid, encode-same, encode-ext, encode-length, valid-within, valid-size}
 use Rattle.slots.specs.Facts.{Held}
 use Rattle.store_encoding.proofs.Held.{held-encoded}
-use Rattle.edits.specs.declared.EntryAt.the-variants as entry
-use Rattle.edits.specs.Entry.{entryAt, entryOf, entryPosition}
 use Rattle.edits.specs.Changes.{InMatrix, HasSpace}
 use Rattle.store_cells.proofs.Counts.{added-count, whole}
 
@@ -32,18 +30,6 @@ same-with g h i j x s = record {
   cols = s .cols;
   cell = λ r c l m. ap (λ (y : Cell). cond (eqb r i) (cond (eqb c j) x y) y) (s .cell r c l m);
 }
-
--- an entry is at one place in both
-same-entry : (g h : Grid) (i j : ℕ) → Same g h → i < h .rows → j < h .cols → entryAt g i j ≡ entryAt h i j
-unfolding entryAt
-same-entry g h i j s l m =
-    let a : length (flatten column (g .cols) (g .cell) i) ≡ length (flatten column (h .cols) (h .cell) i) =
-    ap (λ (n : ℕ). length (flatten column n (g .cell) i)) (s .cols)
-    ∙ ap length (flatten-same column (h .cols) (g .cell) (h .cell) i (λ r c p q. s .cell r c (omega arith) q)) in
-    let b : length (gather column j (g .cell i)) ≡ length (gather column j (h .cell i)) =
-    ap length (gather-same column j (g .cell i) (h .cell i) (λ c q. s .cell i c l (omega arith))) in
-    let e : entryPosition g i j ≡ entryPosition h i j = omega arith in
-    ap (λ (c : Cell). entryOf c (entryPosition g i j)) (s .cell i j l m) ∙ ap (entryOf (h .cell i j)) e
 
 module _ {x : List ℕ} {i j : ℕ} (h : Held x) (l : i < rows x) (m : j < cols x) where
   -- x as it stands
@@ -74,9 +60,9 @@ module _ {x : List ℕ} {i j : ℕ} (h : Held x) (l : i < rows x) (m : j < cols 
         let c = s .cols in
         record { matrix = matrix-facts y grown-valid; row = omega arith; col = omega arith }
 
-    -- the entry's place
-    pub grown-entry : entryAt (gridOf y) i j ≡ entryAt (gridOf x) i j
-    grown-entry = same-entry (gridOf y) (gridOf x) i j grown-same l m
+    -- the place where an entry would be put
+    pub grown-absent : {p : ℕ} → AbsentAt (gridOf x) i j p → AbsentAt (gridOf y) i j p
+    grown-absent a = same-absent (gridOf y) (gridOf x) i j grown-same l m a
 
     -- the size of the matrix
     grown-size : size y ≡ length x
@@ -95,7 +81,7 @@ module _ {x : List ℕ} {i j : ℕ} (h : Held x) (l : i < rows x) (m : j < cols 
           record { few = omega arith; space = omega arith }
 
       -- and when it is put in, the writing fills the words
-      pub grown-written : (p v : ℕ) → entryAt (gridOf x) i j ≡ entry.Absent p
+      pub grown-written : (p v : ℕ) → AbsentAt (gridOf x) i j p
           → writtenOver (withCell (gridOf y) i j (Present v)) y ≡ encode (withCell (gridOf x) i j (Present v))
       grown-written p v e =
           let g : Grid = withCell (gridOf y) i j (Present v) in

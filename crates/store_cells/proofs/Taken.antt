@@ -12,6 +12,7 @@ use Rattle.answers.specs.Refusals.{accepted}
 use Rattle.words.specs.Words.{part}
 use Rattle.grid.specs.declared.Cell.the-variants.{Absent}
 use Rattle.grid.specs.Grid.{Grid}
+use Rattle.grid.specs.Position.{AbsentAt, PresentAt}
 use Rattle.grid.specs.Update.{withCell}
 use Rattle.matrix.specs.Layout.{entries, gridOf}
 use Rattle.encoding.specs.Encode.{encode, gridSize, writtenOver}
@@ -19,8 +20,6 @@ use Rattle.encoding.proofs.Canonical.{encode-length}
 use Rattle.slots.specs.Sections.{endFrom, slotAt, countAt}
 use Rattle.slots.specs.Facts.{Fits}
 use Rattle.slots.specs.Room.{slotPut, resized}
-use Rattle.edits.specs.declared.EntryAt.the-variants as entry
-use Rattle.edits.specs.Entry.{entryAt}
 use Rattle.store_encoding.proofs.Held.{held-encoded}
 use Rattle.store_cells.specs.Slots.{CellOf, slotGrid, slotWith, gridPut, CellCleared}
 use Rattle.store_cells.proofs.Counts.{taken-count, cleared-count, cleared-same}
@@ -30,7 +29,7 @@ use Rattle.store_cells.proofs.Edited.{slot-in, slot, slot-lent, slot-ba
 -- the entry is removed from the slot's words, which start at a: x are the words that came back
 pub record Removed (s : List ℕ) (k i j p end n a : ℕ) (x : List ℕ) : Type 0 where
   pub cell : CellOf s k i j
-  pub present : entryAt (slotGrid s k) i j ≡ entry.Present p
+  pub present : PresentAt (slotGrid s k) i j p
   pub ends : end ≡ endFrom slotCount s
   pub long : n ≡ length (slotAt s k)
   pub from : a ≡ endFrom k s + 1
@@ -86,7 +85,7 @@ module _ {s : List ℕ} {k i j p end n a : ℕ} {x : List ℕ} (r : Removed s k 
 
 -- ---- no entry to remove: nothing changes
 pub cleared-put : {s : List ℕ} {k i j : ℕ} {answer : Answer} → CellOf s k i j → (p m : ℕ)
-    → entryAt (slotGrid s k) i j ≡ entry.Absent p → answer ≡ accepted m → m ≡ entries (slotAt s k)
+    → AbsentAt (slotGrid s k) i j p → answer ≡ accepted m → m ≡ entries (slotAt s k)
     → CellCleared s k i j answer s
 cleared-put {s} {k} {i} {j} h p m e a c = record {
   answer-is = a ∙ ap accepted (c ∙ sym (cleared-count (slot-in h) p e));

@@ -9,7 +9,7 @@ use answers::INSUFFICIENT_SPACE;
 use answers::INVALID_SHAPE;
 use answers::INVALID_STORE;
 use answers::TOO_MANY_ENTRIES;
-use edits::EntryAt;
+use grid::EntryAt;
 use limits::MAX_COLS;
 use limits::MAX_ENTRIES;
 use limits::MAX_ROWS;
@@ -21,12 +21,11 @@ ghost use mathlib.Core.Path.{_≡_};
 ghost use Rattle.limits.specs.Limits.{slotCount};
 ghost use Rattle.answers.specs.Refusals as answers;
 ghost use Rattle.grid.specs.Grid.{emptyGrid};
+ghost use Rattle.grid.specs.Position.{AbsentAt, PresentAt};
 ghost use Rattle.encoding.specs.Encode.{encode};
 ghost use Rattle.slots.specs.Sections.{endFrom};
 ghost use Rattle.slots.specs.Facts.{Store};
 ghost use Rattle.slots.specs.Room.{Filled};
-ghost use Rattle.edits.specs.declared.EntryAt.the-variants as entry;
-ghost use Rattle.edits.specs.Entry.{entryAt};
 ghost use Rattle.model.specs.Effects.{wrote, found};
 ghost use Rattle.model.specs.Calls.{newEmpty, dropSlot, setCell, clearCell, readCell};
 ghost use Rattle.store_encoding.specs.Stores.{modelOf, replyOn, Performed};
@@ -107,15 +106,29 @@ pub fn set_cell(store: &mut [u32], slot: usize, i: u32, j: u32, value: u32) -> A
     if code != 0 {
         return refused(code);
     }
-    match edits::find_entry(slots::contents(&store[..], slot), i as usize, j) {
-        EntryAt::Present(p) => replace(store, slot, i as usize, j, p, value),
-        EntryAt::Absent(p) => add(store, slot, end, i as usize, j, p, value),
-    }
+    let found = cells::entry_at(slots::contents(&store[..], slot), i as usize, j);
+    let entry = found.entry;
+    let EntryAt::Present {
+        value: _,
+        position: p,
+    } = entry
+    else {
+        return add(
+            store,
+            slot,
+            end,
+            i as usize,
+            j,
+            grid::position_of(entry) as usize,
+            value,
+        );
+    };
+    replace(store, slot, i as usize, j, p as usize, value)
 }
 
 // The entry p of a slot takes a value; nothing moves.
 fn replace(store: &mut [u32], slot: usize, i: usize, j: u32, p: usize, value: u32) -> Answer
-    requires { ⌜ CellOf (now store) slot i j ⌝ ∗ ⌜ entryAt (slotGrid (now store) slot) i j ≡ entry.Present p ⌝ }
+    requires { ⌜ CellOf (now store) slot i j ⌝ ∗ ⌜ PresentAt (slotGrid (now store) slot) i j p ⌝ }
     ensures { λ r. ⌜ CellSet (now (store .entry)) slot i j value r (now (store .exit)) ⌝ }
 {
     let words = slots::contents(&store[..], slot);
@@ -129,7 +142,7 @@ fn replace(store: &mut [u32], slot: usize, i: usize, j: u32, p: usize, value: u3
 // An entry more at position p, if there is room.
 fn add(store: &mut [u32], slot: usize, end: usize, i: usize, j: u32, p: usize, value: u32) -> Answer
     requires { ⌜ CellOf (now store) slot i j ⌝ ∗ ⌜ end ≡ endFrom slotCount (now store) ⌝ }
-    requires { ⌜ entryAt (slotGrid (now store) slot) i j ≡ entry.Absent p ⌝ }
+    requires { ⌜ AbsentAt (slotGrid (now store) slot) i j p ⌝ }
     ensures { λ r. ⌜ CellSet (now (store .entry)) slot i j value r (now (store .exit)) ⌝ }
 {
     let words = slots::contents(&store[..], slot);
@@ -159,19 +172,25 @@ pub fn clear_cell(store: &mut [u32], slot: usize, i: u32, j: u32) -> Answer
     if code != 0 {
         return refused(code);
     }
-    match edits::find_entry(slots::contents(&store[..], slot), i as usize, j) {
-        EntryAt::Present(p) => take(store, slot, end, i as usize, j, p),
-        EntryAt::Absent(_) => Answer {
+    let found = cells::entry_at(slots::contents(&store[..], slot), i as usize, j);
+    let entry = found.entry;
+    let EntryAt::Present {
+        value: _,
+        position: p,
+    } = entry
+    else {
+        return Answer {
             code: 0,
             entries: matrix::entry_count(slots::contents(&store[..], slot)),
-        },
-    }
+        };
+    };
+    take(store, slot, end, i as usize, j, p as usize)
 }
 
 // The entry p of a slot goes, and two words with it.
 fn take(store: &mut [u32], slot: usize, end: usize, i: usize, j: u32, p: usize) -> Answer
     requires { ⌜ CellOf (now store) slot i j ⌝ ∗ ⌜ end ≡ endFrom slotCount (now store) ⌝ }
-    requires { ⌜ entryAt (slotGrid (now store) slot) i j ≡ entry.Present p ⌝ }
+    requires { ⌜ PresentAt (slotGrid (now store) slot) i j p ⌝ }
     ensures { λ r. ⌜ CellCleared (now (store .entry)) slot i j r (now (store .exit)) ⌝ }
 {
     let words = slots::contents(&store[..], slot);
@@ -183,7 +202,7 @@ fn take(store: &mut [u32], slot: usize, end: usize, i: usize, j: u32, p: usize) 
     accepted(n - 1)
 }
 
-// One cell.
+// One cell, with the position of its entry.
 pub fn read_cell(store: &[u32], slot: usize, i: u32, j: u32) -> CellAnswer
     ensures { λ r. ⌜ found r ≡ replyOn (now (store .entry)) (readCell slot i j) ⌝ }
 {
@@ -195,9 +214,9 @@ pub fn read_cell(store: &[u32], slot: usize, i: u32, j: u32) -> CellAnswer
     if code != 0 {
         return cells::refused(code);
     }
-    let read = cells::cell_at(slots::contents(store, slot), i as usize, j);
-    let cell = read.cell;
-    cells::found(cell)
+    let found = cells::entry_at(slots::contents(store, slot), i as usize, j);
+    let entry = found.entry;
+    cells::found(entry)
 }
 
 // 12, 13 and 7 of a call that names a cell.

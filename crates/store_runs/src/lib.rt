@@ -28,6 +28,7 @@ pub fn read(store: &[u32], slot: usize, i: u32, j: u32) {
     } else {
         test_support::print_pair(b"read, absent: ", r.code, r.value);
     }
+    test_support::print_word(b"  at position", r.position);
 }
 
 fn report(label: &[u8], code: u32, entries: u32, store: &[u32]) {

@@ -10,7 +10,8 @@ use std::path::PathBuf;
 
 const WITH_VALUE: [&str; 9] =
     ["--mask", "--accum", "--semiring", "--op", "--first", "--second", "--scalar", "--rows", "--cols"];
-const WITHOUT_VALUE: [&str; 5] = ["--replace", "--complement", "--structural", "--transpose-a", "--transpose-b"];
+const WITHOUT_VALUE: [&str; 6] =
+    ["--replace", "--complement", "--structural", "--transpose-a", "--transpose-b", "--position"];
 
 #[derive(Debug)]
 pub struct Arguments {

@@ -12,7 +12,7 @@ pub enum Call {
     Drop { slot: Whole },
     Set { cell: Cell, value: i32 },
     Clear { cell: Cell },
-    Read { cell: Cell },
+    Read { cell: Cell, position: bool },
     Show { slot: Whole },
     List,
     Operation(Operation),
@@ -109,7 +109,7 @@ impl Call {
         let plain = |slot| vec![Role { name: "", slot, transposed: false }];
         match self {
             Call::Lay { slot, .. } | Call::Drop { slot } | Call::Show { slot } => plain(slot),
-            Call::Set { cell, .. } | Call::Clear { cell } | Call::Read { cell } => plain(&cell.slot),
+            Call::Set { cell, .. } | Call::Clear { cell } | Call::Read { cell, .. } => plain(&cell.slot),
             Call::List => Vec::new(),
             Call::Operation(operation) => operation.roles(),
         }
@@ -143,7 +143,7 @@ fn call_of(command: Command, arguments: &mut Arguments) -> Result<Call, Usage> {
         Command::Drop => Ok(Call::Drop { slot: arguments.whole(0)? }),
         Command::Set => Ok(Call::Set { cell: cell(arguments)?, value: arguments.value(3)? }),
         Command::Clear => Ok(Call::Clear { cell: cell(arguments)? }),
-        Command::Read => Ok(Call::Read { cell: cell(arguments)? }),
+        Command::Read => Ok(Call::Read { cell: cell(arguments)?, position: arguments.flag("--position") }),
         Command::Show => Ok(Call::Show { slot: arguments.whole(0)? }),
         Command::List => Ok(Call::List),
         _ => operation(command, arguments),

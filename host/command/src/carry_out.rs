@@ -3,7 +3,7 @@
 use crate::call::{Call, Kind, Operation};
 use crate::names::{IndexList, Whole};
 use crate::refusal::Refusal;
-use ostrubel::{Error, Store, SLOTS};
+use ostrubel::{Error, Found, Store, SLOTS};
 
 /// Carries out the call and answers what it prints. A refused call leaves the store as it was.
 pub fn carry_out(call: &Call, store: &mut Store) -> Result<String, Refusal> {
@@ -28,9 +28,13 @@ fn attempt(call: &Call, store: &mut Store) -> Result<String, Error> {
             let entries = store.clear(cell.slot.size(), cell.row.index(), cell.col.index())?;
             Ok(written(&cell.slot, entries))
         }
-        Call::Read { cell } => {
-            let value = store.get(cell.slot.size(), cell.row.index(), cell.col.index())?;
-            Ok(value.map_or("empty".to_string(), |value| value.to_string()))
+        Call::Read { cell, position } => {
+            let found = store.find(cell.slot.size(), cell.row.index(), cell.col.index())?;
+            let (text, at) = match found {
+                Found::Present { value, position } => (value.to_string(), position),
+                Found::Absent { position } => ("empty".to_string(), position),
+            };
+            Ok(if *position { format!("{text} {at}") } else { text })
         }
         Call::Show { slot } => Ok(store.matrix(slot.size())?.to_string()),
         Call::List => list(store),

@@ -184,7 +184,7 @@ fn chosen(list: &IndexList, all: u32) -> usize {
 /// The row, the column or the index lists, and the sheet that they are outside of.
 fn outside(call: &Call, store: &Store) -> Vec<String> {
     let asked = match call {
-        Call::Set { cell, .. } | Call::Clear { cell } | Call::Read { cell } => {
+        Call::Set { cell, .. } | Call::Clear { cell } | Call::Read { cell, .. } => {
             vec![format!("row {}", cell.row), format!("column {}", cell.col)]
         }
         Call::Operation(operation) => index_lists(operation, store),

@@ -38,9 +38,12 @@ fn set_clear_and_read() {
     folder.prints("read s 0 1 2", "0\n");
     folder.prints("read s 0 0 0", "-2147483648\n");
     folder.prints("read s 0 2 2", "2147483647\n");
+    folder.prints("read s 0 1 2 --position", "0 1\n");
     folder.prints("clear s 0 1 2", "place 0: 2 entries\n");
     folder.prints("clear s 0 1 2", "place 0: 2 entries\n");
     folder.prints("read s 0 1 2", "empty\n");
+    folder.prints("read s 0 1 0 --position", "empty 1\n");
+    folder.prints("read --position s 0 2 2", "2147483647 1\n");
 }
 
 /// Document 01's strip, word by word.

@@ -1,6 +1,6 @@
 //! The library's answers, taken apart as `include/ostrubel.h` says.
 
-use crate::Error;
+use crate::{Error, Found};
 
 /// The entries of the matrix that was written or checked.
 pub fn entries(answer: u64) -> Result<usize, Error> {
@@ -13,6 +13,15 @@ pub fn cell(answer: u64) -> Result<Option<i32>, Error> {
     accepted(answer)?;
     let is_present = (answer >> 8) & 1 == 1;
     Ok(is_present.then_some(upper_word(answer) as i32))
+}
+
+/// The cell that was read, with the position of its entry.
+pub fn found(answer: u64) -> Result<Found, Error> {
+    let position = ((answer >> 16) & 0xFFFF) as usize;
+    Ok(match cell(answer)? {
+        Some(value) => Found::Present { value, position },
+        None => Found::Absent { position },
+    })
 }
 
 /// The codes are 0 to 13: no other can be answered.

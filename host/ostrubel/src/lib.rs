@@ -56,7 +56,7 @@ pub use limits::{
     MAX_COLS, MAX_ENTRIES, MAX_INDEXES, MAX_MATRIX_WORDS, MAX_ROWS, MAX_STORE_WORDS, MIN_STORE_WORDS, SLOTS,
     STACK_BYTES, WORKSPACE_WORDS,
 };
-pub use matrix::{Matrix, Section};
+pub use matrix::{Found, Matrix, Section};
 pub use operators::{ApplyOp, BinaryOp, IndexUnaryOp, Monoid, Semiring, UnaryOp};
 pub use options::Options;
 pub use store::Store;

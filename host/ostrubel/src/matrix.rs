@@ -14,6 +14,23 @@ pub enum Section {
     Values,
 }
 
+/// A cell with the position of its entry, from [`Matrix::find`].
+#[derive(Clone, Copy, Debug, PartialEq, Eq, Hash)]
+pub enum Found {
+    /// The cell has a value.
+    Present {
+        /// The value.
+        value: i32,
+        /// How many entries come before it.
+        position: usize,
+    },
+    /// The cell has no value.
+    Absent {
+        /// How many entries would come before it.
+        position: usize,
+    },
+}
+
 /// A sparse matrix of whole numbers: each cell has a value or none, and a value of 0 is a value.
 ///
 /// It has 1 to [`MAX_ROWS`] rows, 1 to [`MAX_COLS`](crate::MAX_COLS) columns and at most [`MAX_ENTRIES`] entries. Two
@@ -137,6 +154,26 @@ impl Matrix {
     /// `IndexOutOfBounds` for a cell outside the matrix.
     pub fn get(&self, i: u32, j: u32) -> Result<Option<i32>, Error> {
         answer::cell(calls::read_cell(i, j, &self.words))
+    }
+
+    /// The cell at row i and column j with a position: that of its entry among all entries of the matrix, row by row and
+    /// in rising columns from 0 on, as [`Matrix::iter`] gives them; or where its entry would be put to keep that order.
+    ///
+    /// # Errors
+    ///
+    /// `IndexOutOfBounds` for a cell outside the matrix.
+    ///
+    /// ```
+    /// use ostrubel::{Error, Found, Matrix};
+    ///
+    /// let keys = Matrix::from_triples(3, 4, [(0, 1, 20), (2, 0, 0), (2, 3, 40)])?;
+    /// assert_eq!(keys.find(2, 3)?, Found::Present { value: 40, position: 2 });
+    /// assert_eq!(keys.find(2, 1)?, Found::Absent { position: 2 }); // between (2, 0) and (2, 3)
+    /// assert_eq!(keys.find(1, 3)?, Found::Absent { position: 1 }); // row 1 has no entries
+    /// # Ok::<(), Error>(())
+    /// ```
+    pub fn find(&self, i: u32, j: u32) -> Result<Found, Error> {
+        answer::found(calls::read_cell(i, j, &self.words))
     }
 
     /// The entries as (row, column, value): row by row, in rising columns.

@@ -1,7 +1,7 @@
 //! Stores that own their words.
 
 use crate::{answer, calls, layout, workspace};
-use crate::{Error, Matrix, MAX_STORE_WORDS};
+use crate::{Error, Found, Matrix, MAX_STORE_WORDS};
 
 /// A store of eight slots, 0 to 7, each empty or with a matrix, in a fixed number of words.
 ///
@@ -111,6 +111,28 @@ impl Store {
     /// `EmptySlot`; `IndexOutOfBounds` for a cell outside the matrix.
     pub fn get(&self, slot: usize, i: u32, j: u32) -> Result<Option<i32>, Error> {
         answer::cell(calls::store_read_cell(slot, i, j, &self.words))
+    }
+
+    /// The cell at row i and column j with the position of its entry, or where that would be put: [`Matrix::find`] of the
+    /// slot's matrix.
+    ///
+    /// # Errors
+    ///
+    /// `EmptySlot`; `IndexOutOfBounds` for a cell outside the matrix.
+    ///
+    /// ```
+    /// use ostrubel::{Error, Found, Store};
+    ///
+    /// let mut store = Store::new(40)?;
+    /// store.new_empty(0, 2, 4)?;
+    /// store.set(0, 0, 3, 5)?;
+    /// assert_eq!(store.find(0, 1, 2)?, Found::Absent { position: 1 });
+    /// store.set(0, 1, 2, 7)?;
+    /// assert_eq!(store.find(0, 1, 2)?, Found::Present { value: 7, position: 1 });
+    /// # Ok::<(), Error>(())
+    /// ```
+    pub fn find(&self, slot: usize, i: u32, j: u32) -> Result<Found, Error> {
+        answer::found(calls::store_read_cell(slot, i, j, &self.words))
     }
 
     /// A copy of a slot's matrix.

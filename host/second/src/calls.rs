@@ -216,11 +216,12 @@ pub fn counted(code: u32, entries: usize) -> u64 {
     u64::from(code) | (entries as u64) << 32
 }
 
-/// The answer of an accepted read.
-pub fn present_or_absent(cell: Option<i32>) -> u64 {
+/// The answer of an accepted read: the cell, and the position of its entry.
+pub fn present_or_absent(cell: Option<i32>, position: usize) -> u64 {
+    let position = (position as u64) << 16;
     match cell {
-        Some(value) => 256 | u64::from(value as u32) << 32,
-        None => 0,
+        Some(value) => 256 | position | u64::from(value as u32) << 32,
+        None => position,
     }
 }
 
@@ -234,7 +235,7 @@ pub fn code_of(answer: u64) -> u32 {
 pub enum Answers {
     /// A code, and entries.
     Code,
-    /// A code, whether a cell is present, and its value.
+    /// A code, whether a cell is present, its value and its position.
     Cell,
     /// Where a part of two sheets' words lies. There is no code.
     Part,

@@ -9,13 +9,14 @@ const SHOWN: usize = 80;
 
 pub fn answer_text(answer: u64, answers: Answers) -> String {
     let (low, high) = (answer as u32, (answer >> 32) as u32);
-    match (answers, low) {
+    let position = low >> 16;
+    match (answers, low & 0xFFFF) {
         (Answers::Part, _) => {
             let sheet = if low & 1 == 0 { "first" } else { "second" };
             format!("{} words of the {sheet} sheet from word {high} on", low >> 8)
         }
-        (Answers::Cell, 256) => format!("present with {}", high as i32),
-        (Answers::Cell, 0) if high == 0 => "absent".to_string(),
+        (Answers::Cell, 256) => format!("present with {} at position {position}", high as i32),
+        (Answers::Cell, 0) if high == 0 => format!("absent at position {position}"),
         _ => format!("{low} and {high}"),
     }
 }

@@ -99,6 +99,12 @@ faults! {
     SecondCountFree: "the count before the values is not looked at",
     StoreTailFree: "words behind the store's last section are not looked at",
     StoreCountLarger: "a section's count may be larger than its sheet",
+    // A cell that is read.
+    PositionOfRow: "the position of a cell is that of its row's first entry",
+    PositionInRow: "the position of a cell is counted in its row only",
+    PositionOnePast: "the position of an absent cell is one past where it would be put",
+    PositionByColumn: "the position of a cell counts columns of its row and not entries",
+    PositionOfValue: "the position of a cell is the word of its value",
     // A look at a row.
     ViewOfOtherShapes: "a row is shown though the shapes differ",
     ViewOfFirstOnly: "a row that is empty in the first sheet is shown from the first",

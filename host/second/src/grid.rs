@@ -53,6 +53,11 @@ impl Grid {
         self.cells.keys().filter(|(row, _)| *row < i).count()
     }
 
+    /// The entries before the cell, row by row and from left to right: where its entry is, or would be put.
+    pub fn position(&self, i: u32, j: u32) -> usize {
+        self.cells.range(..(i, j)).count()
+    }
+
     pub fn transposed(&self) -> Self {
         let cells = self.cells.iter().map(|(&(i, j), &value)| ((j, i), value)).collect();
         Grid { rows: self.cols, cols: self.rows, cells }

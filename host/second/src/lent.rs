@@ -22,7 +22,7 @@ impl Model {
                 let answer = match Grid::read(words, self.fault) {
                     None => counted(3, 0),
                     Some(grid) if *i >= grid.rows || *j >= grid.cols => counted(7, 0),
-                    Some(grid) => present_or_absent(grid.get(*i, *j)),
+                    Some(grid) => self.read_answer(&grid, *i, *j),
                 };
                 one_buffer(answer, words.clone())
             }
@@ -32,6 +32,19 @@ impl Model {
             }
             LentCall::Operation(call) => self.lent_operation(call),
         }
+    }
+
+    /// The answer of a read, of a lent sheet and on the store alike.
+    pub fn read_answer(&self, grid: &Grid, i: u32, j: u32) -> u64 {
+        let position = match self.fault {
+            Fault::PositionOfRow => grid.before_row(i),
+            Fault::PositionInRow => grid.position(i, j) - grid.before_row(i),
+            Fault::PositionOnePast => grid.position(i, j) + usize::from(grid.get(i, j).is_none()),
+            Fault::PositionByColumn => grid.before_row(i) + j as usize,
+            Fault::PositionOfValue => grid.values_at() + grid.position(i, j),
+            _ => grid.position(i, j),
+        };
+        present_or_absent(grid.get(i, j), position)
     }
 
     /// The part of row i that is shown: column numbers or values.

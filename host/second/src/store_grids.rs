@@ -154,7 +154,7 @@ impl Model {
             StoreCall::ReadCell { i, j, .. } => match &grids.slots[slot] {
                 None => counted(13, 0),
                 Some(grid) if *i >= grid.rows || *j >= grid.cols => counted(7, 0),
-                Some(grid) => present_or_absent(grid.get(*i, *j)),
+                Some(grid) => self.read_answer(grid, *i, *j),
             },
             StoreCall::Operation(_) => unreachable!("answered above"),
         }
@@ -291,7 +291,7 @@ mod tests {
         ];
         let mut state = StoreState::new(&[0; 18], SOUND.fault);
         let expected =
-            [counted(0, 0), counted(0, 1), counted(0, 1), counted(11, 0), present_or_absent(Some(6)), counted(0, 1)];
+            [counted(0, 0), counted(0, 1), counted(0, 1), counted(11, 0), present_or_absent(Some(6), 0), counted(0, 1)];
         assert_eq!(answers(&mut state, &calls), expected);
         assert_eq!(state.words, [0, 10, 2, 1, 4, 2, 0, 1, 1, 3, 1, 6, 0, 0, 0, 0, 0, 0]);
 

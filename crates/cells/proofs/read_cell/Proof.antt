@@ -50,8 +50,8 @@ returns-3 c =
     let q = c .before .before .before in
     c .refused3 .ensures ∙ read-past-cols _ _ _ (held (q .before .before)) (q .if2 .left) (c .before .if3 .taken)
 
-cell-at-requires : tie.Need-cell-at-requires
-cell-at-requires c κs = let q = c .before .before in (facts (q .before .before), q .if2 .left)
+entry-at-requires : tie.Need-entry-at-requires
+entry-at-requires c κs = let q = c .before .before in (facts (q .before .before), q .if2 .left)
 
 found-requires : tie.Need-found-requires
 found-requires c κs = search needs
@@ -59,7 +59,7 @@ found-requires c κs = search needs
 returns-4 : tie.Need-returns-4
 returns-4 c =
     let q = c .before .before .before .before in
-    c .found .ensures ∙ ap foundAnswer (c .before .cell-at .ensures .0)
+    c .found .ensures ∙ ap foundAnswer (c .before .entry-at .ensures .0)
     ∙ read-found _ _ _ (held (q .before .before)) (q .if2 .left) (c .before .before .if3 .left)
 
 pub read-cell-spec : {M : Type 1} → statement M
@@ -75,6 +75,6 @@ read-cell-spec =
     shared-slice-read-if3
     refused-requires-3
     returns-3
-    cell-at-requires
+    entry-at-requires
     found-requires
     returns-4)

@@ -1,7 +1,7 @@
 -- `insert_entry` leaves the writing of the grid with the new entry.
 use mathlib.Core.Path.{_∙_}
 use Rattle.grid.specs.declared.Cell.the-variants.{Absent}
-use Rattle.edits.proofs.Place.{later-starts, absent-at}
+use Rattle.edits.proofs.Place.{later-starts}
 use Rattle.edits.proofs.Insertion.{put-bounds, inserted-written}
 use borrow.Author.Needs.{needs}
 use Rattle.edits.proofs.insert_entry.Statement.{statement}
@@ -46,7 +46,7 @@ add-raise-words-4 c = search needs
 
 raise-words-requires : tie.Need-raise-words-requires
 raise-words-requires c κs =
-    let a = start c .pre in later-starts (a .0) Absent (absent-at (a .1 .0) .cell)
+    let a = start c .pre in later-starts (a .0) Absent (a .1 .0 .cell)
 
 put-entry-requires : tie.Need-put-entry-requires
 put-entry-requires c κs =

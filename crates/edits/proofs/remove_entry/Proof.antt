@@ -1,6 +1,6 @@
 -- `remove_entry` leaves the writing of the grid without the entry.
 use mathlib.Core.Path.{_∙_}
-use Rattle.edits.proofs.Place.{later-starts, present-at}
+use Rattle.edits.proofs.Place.{later-starts}
 use Rattle.edits.proofs.Removal.{take-bounds, removed-written}
 use borrow.Author.Needs.{needs}
 use Rattle.edits.proofs.remove_entry.Statement.{statement}
@@ -45,7 +45,7 @@ add-lower-words-4 c = search needs
 
 lower-words-requires : tie.Need-lower-words-requires
 lower-words-requires c κs =
-    let a = start c .pre in later-starts (a .0) _ (present-at (a .1) .cell)
+    let a = start c .pre in later-starts (a .0) _ (a .1 .cell)
 
 take-entry-requires : tie.Need-take-entry-requires
 take-entry-requires c κs =

@@ -8,7 +8,7 @@ read-cell-requires : tie.Need-read-cell-requires
 read-cell-requires c κs = search needs
 
 pack-cell-requires : tie.Need-pack-cell-requires
-pack-cell-requires c κs = store-read-small _ _ _ (c .read-cell .ensures)
+pack-cell-requires c κs = store-read-small _ _ _ _ _ (c .read-cell .ensures)
 
 returns : tie.Need-returns
 returns c = search needs

@@ -10,7 +10,7 @@ use Rattle.slots.specs.Sections.{slotAt}
 use Rattle.slots.specs.Facts.{Fits}
 use Rattle.store_cells.proofs.Checks.{no-fit, fit}
 use Rattle.store_cells.proofs.Rewritten.{fits-inside}
-use Rattle.store_cells.proofs.Edited.{add-many, add-no-room, Adding, add-in, add-entry, add-space, added-placed}
+use Rattle.store_cells.proofs.Edited.{add-many, add-no-room, Adding, add-in, add-absent, add-space, added-placed}
 use borrow.Author.Needs.{needs}
 use Rattle.store_cells.proofs.add.Statement.{statement}
 use Rattle.store_cells.proofs.add.Tie as tie
@@ -165,7 +165,7 @@ part-insert-entry-end : tie.Need-part-insert-entry-end
 part-insert-entry-end c = let i = inside (found (c .before .before)) in omega arith
 
 insert-entry-requires : tie.Need-insert-entry-requires
-insert-entry-requires c κs = let r = adding (c .before .before .before) in (add-in r, (add-entry r, add-space r))
+insert-entry-requires c κs = let r = adding (c .before .before .before) in (add-in r, (add-absent r, add-space r))
 
 add-accepted : tie.Need-add-accepted
 add-accepted c =

@@ -7,7 +7,7 @@ use Rattle.store_encoding.proofs.Performed.{performed-no-store}
 use Rattle.store_cells.proofs.Checks.{unchecked, Checked, checked}
 use Rattle.store_cells.proofs.Refusals.{Reached, reached}
 use Rattle.store_cells.proofs.Outcomes.{clear-refused, clear-performed}
-use Rattle.store_cells.proofs.Edited.{entry-in}
+use Rattle.store_cells.proofs.Edited.{absent-in, present-in}
 use Rattle.store_cells.proofs.Taken.{cleared-put}
 use borrow.Author.Needs.{needs}
 use Rattle.store_cells.proofs.clear_cell.Statement.{statement}
@@ -31,8 +31,15 @@ there : (c : tie.Else2) → let q = stored (c .before) in let p = start q .args 
 there c = reached (store (stored (c .before))) (c .before .cell-refusal .ensures) (c .if2 .left)
 
 -- past both tests, from the search for the entry
-abbrev passed : tie.After-find-entry → tie.Else2
+abbrev passed : tie.After-entry-at → tie.Else2
 passed c = c .before .before .before
+
+-- where the entry is told to be absent, and where it is known to be present
+abbrev missed : tie.After-contents2 → tie.After-enum-told
+missed c = c .before .before
+
+abbrev met : tie.After-take-arg → tie.After-entry
+met c = c .before .before
 
 check-requires : tie.Need-check-requires
 check-requires c κs = search needs
@@ -67,21 +74,13 @@ returns-2 c =
 contents-requires : tie.Need-contents-requires
 contents-requires c κs = let h = there (c .before) .cell in (h .store .sections, h .slot)
 
-find-entry-requires : tie.Need-find-entry-requires
-find-entry-requires c κs =
+entry-at-requires : tie.Need-entry-at-requires
+entry-at-requires c κs =
     let h = there (c .before .before) .cell in
     rw (c .contents .ensures .words) (h .held .matrix, h .row)
 
-enum-known-p : tie.Need-enum-known-p
-enum-known-p c = search needs
-
-take-requires : tie.Need-take-requires
-take-requires c κs =
-    let q = c .before .before in
-    let f = q .before .before in
-    let h = there (passed f) in
-    let e = entry-in (h .cell) (f .before .contents .ensures .words) (f .find-entry .ensures) (q .p .given .1) in
-    (h .cell, (h .checked .ends, e))
+enum-known-entry : tie.Need-enum-known-entry
+enum-known-entry c = search needs
 
 enum-told : tie.Need-enum-told
 enum-told c = search needs
@@ -93,7 +92,7 @@ contents-requires-2 c κs =
 
 entry-count-requires : tie.Need-entry-count-requires
 entry-count-requires c κs =
-    let h = there (passed (c .before .before .before .before)) .cell in
+    let h = there (passed (missed c .before .before)) .cell in
     rw (c .contents2 .ensures .words) (h .held .matrix .header)
 
 same-length-3 : tie.Need-same-length-3
@@ -101,22 +100,34 @@ same-length-3 c = search needs
 
 returns-3 : tie.Need-returns-3
 returns-3 c =
-    let r = c .before .before in
-    clear-performed (there (passed (r .before .before .before .before .before))) _ _ (r .take .ensures)
+    let w = c .before in
+    let t = missed w in
+    let f = t .before .before in
+    let h = there (passed f) in
+    let e = absent-in (h .cell) (f .before .contents .ensures .words) (f .entry-at .ensures .0)
+    (t .enum-told .given .1) in
+    clear-performed h _ _
+    (cleared-put (h .cell) _ _ e refl
+    (c .entry-count .ensures ∙ ap entries (w .contents2 .ensures .words)))
+
+cast-take : tie.Need-cast-take
+cast-take c = search needs
+
+take-requires : tie.Need-take-requires
+take-requires c κs =
+    let q = met c in
+    let f = q .before .before in
+    let h = there (passed f) in
+    let e = present-in (h .cell) (f .before .contents .ensures .words) (f .entry-at .ensures .0) (q .entry .given .1) in
+    (h .cell, (h .checked .ends, e))
 
 same-length-4 : tie.Need-same-length-4
 same-length-4 c = search needs
 
 returns-4 : tie.Need-returns-4
 returns-4 c =
-    let w = c .before in
-    let t = w .before .before in
-    let f = t .before .before in
-    let h = there (passed f) in
-    let e = entry-in (h .cell) (f .before .contents .ensures .words) (f .find-entry .ensures) (t .enum-told .given .1) in
-    clear-performed h _ _
-    (cleared-put (h .cell) _ _ e refl
-    (c .entry-count .ensures ∙ ap entries (w .contents2 .ensures .words)))
+    let r = c .before .before in
+    clear-performed (there (passed (met (r .before) .before .before))) _ _ (r .take .ensures)
 
 pub clear-cell-spec : {M : Type 1} → statement M
 clear-cell-spec =
@@ -131,13 +142,14 @@ clear-cell-spec =
     same-length-2
     returns-2
     contents-requires
-    find-entry-requires
-    enum-known-p
-    take-requires
+    entry-at-requires
+    enum-known-entry
     enum-told
     contents-requires-2
     entry-count-requires
     same-length-3
     returns-3
+    cast-take
+    take-requires
     same-length-4
     returns-4)

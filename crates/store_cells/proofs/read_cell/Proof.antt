@@ -3,7 +3,8 @@ use Prim.Native.Nat.{ℕ}
 use mathlib.Core.Path.{ap, _∙_}
 use mathlib.Core.List.{List}
 use denote.Ref.{now}
-use Rattle.matrix.specs.Layout.{cellOf}
+use Rattle.grid.specs.Position.{entryAt}
+use Rattle.matrix.specs.Layout.{gridOf}
 use Rattle.answers.specs.Reads.{foundAnswer}
 use Rattle.model.specs.Effects.{found}
 use Rattle.store_cells.proofs.Checks.{unchecked, Checked, checked}
@@ -52,8 +53,8 @@ returns-2 c =
 contents-requires : tie.Need-contents-requires
 contents-requires c κs = let h = there c .cell in (h .store .sections, h .slot)
 
-cell-at-requires : tie.Need-cell-at-requires
-cell-at-requires c κs =
+entry-at-requires : tie.Need-entry-at-requires
+entry-at-requires c κs =
     let h = there (c .before) .cell in rw (c .contents .ensures .words) (h .held .matrix, h .row)
 
 found-requires : tie.Need-found-requires
@@ -64,8 +65,8 @@ returns-3 c =
     let q = c .before .before in
     let e = q .before in
     let p = start (e .before .before) .args in
-    ap found (c .found .ensures ∙ ap foundAnswer (c .before .cell-at .ensures .0
-    ∙ ap (λ (x : List ℕ). cellOf x (p .i) (p .j)) (q .contents .ensures .words)))
+    ap found (c .found .ensures ∙ ap foundAnswer (c .before .entry-at .ensures .0
+    ∙ ap (λ (x : List ℕ). entryAt (gridOf x) (p .i) (p .j)) (q .contents .ensures .words)))
     ∙ read-found _ _ _ _ (there e)
 
 pub read-cell-spec : {M : Type 1} → statement M
@@ -79,6 +80,6 @@ read-cell-spec =
     refused-requires-2
     returns-2
     contents-requires
-    cell-at-requires
+    entry-at-requires
     found-requires
     returns-3)

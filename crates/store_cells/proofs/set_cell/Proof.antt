@@ -1,11 +1,11 @@
--- `set_cell` replaces an entry or adds one.
+-- `set_cell` replaces an entry, or adds one where the search missed it.
 use denote.Ref.{now}
 use Rattle.model.specs.Calls.{effect}
 use Rattle.store_encoding.proofs.Performed.{performed-no-store}
 use Rattle.store_cells.proofs.Checks.{unchecked, Checked, checked}
 use Rattle.store_cells.proofs.Refusals.{Reached, reached}
 use Rattle.store_cells.proofs.Outcomes.{set-refused, set-performed}
-use Rattle.store_cells.proofs.Edited.{entry-in}
+use Rattle.store_cells.proofs.Edited.{absent-found, present-in}
 use borrow.Author.Needs.{needs}
 use Rattle.store_cells.proofs.set_cell.Statement.{statement}
 use Rattle.store_cells.proofs.set_cell.Tie as tie
@@ -28,8 +28,15 @@ there : (c : tie.Else2) → let q = stored (c .before) in let p = start q .args 
 there c = reached (store (stored (c .before))) (c .before .cell-refusal .ensures) (c .if2 .left)
 
 -- past both tests, from the search for the entry
-abbrev passed : tie.After-find-entry → tie.Else2
+abbrev passed : tie.After-entry-at → tie.Else2
 passed c = c .before .before .before
+
+-- where the entry is told to be absent, and where it is known to be present
+abbrev missed : tie.After-position-of → tie.After-enum-told
+missed c = c .before .before
+
+abbrev met : tie.After-replace-arg → tie.After-entry
+met c = c .before .before
 
 check-requires : tie.Need-check-requires
 check-requires c κs = search needs
@@ -64,30 +71,30 @@ returns-2 c =
 contents-requires : tie.Need-contents-requires
 contents-requires c κs = let h = there (c .before) .cell in (h .store .sections, h .slot)
 
-find-entry-requires : tie.Need-find-entry-requires
-find-entry-requires c κs =
+entry-at-requires : tie.Need-entry-at-requires
+entry-at-requires c κs =
     let h = there (c .before .before) .cell in
     rw (c .contents .ensures .words) (h .held .matrix, h .row)
 
-enum-known-p : tie.Need-enum-known-p
-enum-known-p c = search needs
+enum-known-entry : tie.Need-enum-known-entry
+enum-known-entry c = search needs
 
-replace-requires : tie.Need-replace-requires
-replace-requires c κs =
-    let q = c .before .before in
-    let f = q .before .before in
-    let h = there (passed f) .cell in
-    (h, entry-in h (f .before .contents .ensures .words) (f .find-entry .ensures) (q .p .given .1))
+enum-told : tie.Need-enum-told
+enum-told c = search needs
 
-enum-known-p-2 : tie.Need-enum-known-p-2
-enum-known-p-2 c = search needs
+position-of-requires : tie.Need-position-of-requires
+position-of-requires c κs = search needs
+
+cast-add : tie.Need-cast-add
+cast-add c = search needs
 
 add-requires : tie.Need-add-requires
 add-requires c κs =
-    let q = c .before .before in
-    let f = q .before .before in
+    let t = missed c in
+    let f = t .before .before in
     let h = there (passed f) in
-    let e = entry-in (h .cell) (f .before .contents .ensures .words) (f .find-entry .ensures) (q .p2 .given .1) in
+    let e = absent-found (h .cell) (f .before .contents .ensures .words) (f .entry-at .ensures .0)
+    (t .enum-told .given .1) (c .position-of .ensures) in
     (h .cell, (h .checked .ends, e))
 
 same-length-3 : tie.Need-same-length-3
@@ -96,7 +103,17 @@ same-length-3 c = search needs
 returns-3 : tie.Need-returns-3
 returns-3 c =
     let r = c .before .before in
-    set-performed (there (passed (r .before .before .before .before .before))) _ _ _ (r .replace .ensures)
+    set-performed (there (passed (missed (r .before) .before .before))) _ _ _ (r .add .ensures)
+
+cast-replace : tie.Need-cast-replace
+cast-replace c = search needs
+
+replace-requires : tie.Need-replace-requires
+replace-requires c κs =
+    let q = met c in
+    let f = q .before .before in
+    let h = there (passed f) .cell in
+    (h, present-in h (f .before .contents .ensures .words) (f .entry-at .ensures .0) (q .entry .given .1))
 
 same-length-4 : tie.Need-same-length-4
 same-length-4 c = search needs
@@ -104,7 +121,7 @@ same-length-4 c = search needs
 returns-4 : tie.Need-returns-4
 returns-4 c =
     let r = c .before .before in
-    set-performed (there (passed (r .before .before .before .before .before))) _ _ _ (r .add .ensures)
+    set-performed (there (passed (met (r .before) .before .before))) _ _ _ (r .replace .ensures)
 
 pub set-cell-spec : {M : Type 1} → statement M
 set-cell-spec =
@@ -119,12 +136,15 @@ set-cell-spec =
     same-length-2
     returns-2
     contents-requires
-    find-entry-requires
-    enum-known-p
-    replace-requires
-    enum-known-p-2
+    entry-at-requires
+    enum-known-entry
+    enum-told
+    position-of-requires
+    cast-add
     add-requires
     same-length-3
     returns-3
+    cast-replace
+    replace-requires
     same-length-4
     returns-4)

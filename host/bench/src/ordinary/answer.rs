@@ -1,5 +1,7 @@
 //! Answers, and their form as one number.
 
+use super::matrix::Cell;
+
 /// Why a call is refused, with its code.
 #[derive(Clone, Copy, Debug, PartialEq, Eq)]
 pub enum Refusal {
@@ -37,11 +39,11 @@ pub fn pack(answer: Result<usize>) -> u64 {
     }
 }
 
-/// The same for a cell that was read: 256 stands for one that is present.
-pub fn pack_cell(answer: Result<Option<u32>>) -> u64 {
+/// The same for a cell that was read: 256 stands for one that is present; the position of its entry is above that.
+pub fn pack_cell(answer: Result<Cell>) -> u64 {
     match answer {
-        Ok(Some(value)) => 256 | u64::from(value) << 32,
-        Ok(None) => 0,
+        Ok(Cell { value: Some(value), position }) => 256 | (position as u64) << 16 | u64::from(value) << 32,
+        Ok(Cell { value: None, position }) => (position as u64) << 16,
         Err(refusal) => refusal as u64,
     }
 }

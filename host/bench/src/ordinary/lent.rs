@@ -2,7 +2,7 @@
 
 use super::answer::{ensure, pack, pack_cell, pack_part, Refusal, Result};
 use super::compute::compute;
-use super::matrix::{side_valid, size, write_empty, Matrix};
+use super::matrix::{side_valid, size, write_empty, Cell, Matrix};
 use super::request::{Inputs, Operation, Request};
 use ostrubel::calls::OptionNumbers;
 
@@ -30,7 +30,7 @@ pub fn read_cell(i: u32, j: u32, words: &[u32]) -> u64 {
     pack_cell(find_cell(i, j, words))
 }
 
-fn find_cell(i: u32, j: u32, words: &[u32]) -> Result<Option<u32>> {
+fn find_cell(i: u32, j: u32, words: &[u32]) -> Result<Cell> {
     let matrix = Matrix::parse(words).ok_or(Refusal::InvalidFirst)?;
     let inside = (i as usize) < matrix.rows() && (j as usize) < matrix.cols;
     ensure(inside, Refusal::IndexOutOfBounds)?;

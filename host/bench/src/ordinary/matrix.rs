@@ -14,6 +14,12 @@ pub const fn size(rows: usize, entries: usize) -> usize {
     rows + 2 * entries + FIXED_WORDS
 }
 
+/// A cell: its value, if it has one, and the position of its entry among all, or where that would be.
+pub struct Cell {
+    pub value: Option<u32>,
+    pub position: usize,
+}
+
 /// The sections of a valid matrix.
 #[derive(Clone, Copy)]
 pub struct Matrix<'a> {
@@ -105,10 +111,13 @@ impl<'a> Matrix<'a> {
         Row { columns: &self.columns[span.clone()], values: &self.values[span] }
     }
 
-    /// The value at row i and column j.
-    pub fn cell(&self, i: usize, j: u32) -> Option<u32> {
-        let row = self.row(i);
-        row.columns.binary_search(&j).ok().map(|at| row.values[at])
+    /// The cell at row i and column j.
+    pub fn cell(&self, i: usize, j: u32) -> Cell {
+        let start = self.starts[i] as usize;
+        match self.row(i).columns.binary_search(&j) {
+            Ok(at) => Cell { value: Some(self.values[start + at]), position: start + at },
+            Err(at) => Cell { value: None, position: start + at },
+        }
     }
 
     /// Its words, to the front of the buffer.

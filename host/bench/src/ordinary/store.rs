@@ -2,7 +2,7 @@
 
 use super::answer::{ensure, pack, pack_cell, Refusal, Result};
 use super::compute::compute;
-use super::matrix::{side_valid, size, write_empty, Matrix, MAX_ENTRIES};
+use super::matrix::{side_valid, size, write_empty, Cell, Matrix, MAX_ENTRIES};
 use super::request::{Inputs, Operation, Request};
 use super::sections::{Bounds, Store, SLOTS};
 use ostrubel::calls::OptionNumbers;
@@ -29,7 +29,7 @@ pub fn store_clear_cell(slot: usize, i: u32, j: u32, store: &mut [u32]) -> u64 {
 
 /// The cell at row i and column j of a slot's matrix.
 pub fn store_read_cell(slot: usize, i: u32, j: u32, store: &[u32]) -> u64 {
-    pack_cell(find_cell(slot, i, j, store).map(|(cell, _)| cell.value()))
+    pack_cell(find_cell(slot, i, j, store).map(|found| found.cell))
 }
 
 fn new_empty(slot: usize, rows: u32, cols: u32, words: &mut [u32]) -> Result<usize> {
@@ -56,28 +56,20 @@ fn parse<'a>(words: &'a [u32], slots: &[usize]) -> Result<Store<'a>> {
     Ok(store)
 }
 
-/// A cell of a slot's matrix: the matrix, and the position of the cell's entry among all, or where it would be.
-struct Cell<'a> {
+/// A cell of a slot's matrix, with the matrix and the store's sections.
+struct Found<'a> {
+    cell: Cell,
     matrix: Matrix<'a>,
-    position: std::result::Result<usize, usize>,
-}
-
-impl Cell<'_> {
-    fn value(&self) -> Option<u32> {
-        self.position.ok().map(|at| self.matrix.values[at])
-    }
+    bounds: Bounds,
 }
 
 /// Refused by 12, 13 and 7.
-fn find_cell(slot: usize, i: u32, j: u32, words: &[u32]) -> Result<(Cell<'_>, Bounds)> {
+fn find_cell(slot: usize, i: u32, j: u32, words: &[u32]) -> Result<Found<'_>> {
     let store = parse(words, &[slot])?;
     let matrix = store.matrix(slot).ok_or(Refusal::EmptySlot)?;
     let inside = (i as usize) < matrix.rows() && (j as usize) < matrix.cols;
     ensure(inside, Refusal::IndexOutOfBounds)?;
-    let start = matrix.starts[i as usize] as usize;
-    let found = matrix.row(i as usize).columns.binary_search(&j);
-    let position = found.map(|at| start + at).map_err(|at| start + at);
-    Ok((Cell { matrix, position }, store.bounds))
+    Ok(Found { cell: matrix.cell(i as usize, j), matrix, bounds: store.bounds })
 }
 
 /// Where the sections of a slot's matrix are in the store's words.
@@ -102,15 +94,15 @@ impl Places {
 }
 
 fn set_cell(slot: usize, i: u32, j: u32, value: u32, words: &mut [u32]) -> Result<usize> {
-    let (Cell { matrix, position }, bounds) = find_cell(slot, i, j, words)?;
-    let (rows, entries) = (matrix.rows(), matrix.entries());
+    let Found { cell, matrix, bounds } = find_cell(slot, i, j, words)?;
+    let (rows, entries, at) = (matrix.rows(), matrix.entries(), cell.position);
     let places = Places::new(bounds, slot, rows, entries);
-    match position {
-        Ok(at) => {
+    match cell.value {
+        Some(_) => {
             words[places.values + at] = value;
             Ok(entries)
         }
-        Err(at) => {
+        None => {
             ensure(entries < MAX_ENTRIES, Refusal::TooManyEntries)?;
             ensure(bounds.end() + 2 <= words.len(), Refusal::InsufficientSpace)?;
             let (column_at, value_at) = (places.columns + at, places.values + at);
@@ -127,11 +119,11 @@ fn set_cell(slot: usize, i: u32, j: u32, value: u32, words: &mut [u32]) -> Resul
 }
 
 fn clear_cell(slot: usize, i: u32, j: u32, words: &mut [u32]) -> Result<usize> {
-    let (Cell { matrix, position }, bounds) = find_cell(slot, i, j, words)?;
-    let (rows, entries) = (matrix.rows(), matrix.entries());
-    let Ok(at) = position else {
+    let Found { cell, matrix, bounds } = find_cell(slot, i, j, words)?;
+    let (rows, entries, at) = (matrix.rows(), matrix.entries(), cell.position);
+    if cell.value.is_none() {
         return Ok(entries);
-    };
+    }
     let places = Places::new(bounds, slot, rows, entries);
     let (column_at, value_at, end) = (places.columns + at, places.values + at, bounds.end());
     words.copy_within(column_at + 1..value_at, column_at);
