@@ -1,6 +1,6 @@
 //! Making matrices and reading them.
 
-use ostrubel::{Error, Matrix, Section};
+use ostrubel::{Error, Found, Matrix, Section};
 
 /// Document 01's strip: 10, 20, 40 at columns 0, 1, 3.
 const STRIP: [u32; 14] = [2, 1, 4, 2, 0, 3, 3, 0, 1, 3, 3, 10, 20, 40];
@@ -55,6 +55,25 @@ fn cells_are_read() -> Result<(), Error> {
     assert_eq!(strip.get(0, 4), Err(Error::IndexOutOfBounds));
     assert_eq!(strip.get(1, 0), Err(Error::IndexOutOfBounds));
     assert_eq!(strip.get(u32::MAX, u32::MAX), Err(Error::IndexOutOfBounds));
+    Ok(())
+}
+
+/// A present cell's position is where its entry comes among all; an absent one's is where it comes once it has a value.
+#[test]
+fn cells_are_found_with_their_positions() -> Result<(), Error> {
+    let triples = [(0, 2, 5), (2, 0, 0), (2, 1, 7)];
+    let matrix = Matrix::from_triples(3, 3, triples)?;
+    for (i, j) in (0..3).flat_map(|i| (0..3).map(move |j| (i, j))) {
+        let added = Matrix::from_triples(3, 3, triples.into_iter().chain([(i, j, -9)]))?;
+        let place = added.iter().position(|(row, col, _)| (row, col) == (i, j));
+        let (value, position) = match matrix.find(i, j)? {
+            Found::Present { value, position } => (Some(value), position),
+            Found::Absent { position } => (None, position),
+        };
+        assert_eq!((value, Some(position)), (matrix.get(i, j)?, place), "({i}, {j})");
+    }
+    assert_eq!(Matrix::new(1_000, 1_000)?.find(999, 999)?, Found::Absent { position: 0 });
+    assert_eq!(matrix.find(3, 0), Err(Error::IndexOutOfBounds));
     Ok(())
 }
 

@@ -1,6 +1,6 @@
 //! The calls of a store.
 
-use ostrubel::{ApplyOp, BinaryOp, Error, IndexUnaryOp, Matrix, Monoid, Options, Semiring, Store, SLOTS};
+use ostrubel::{ApplyOp, BinaryOp, Error, Found, IndexUnaryOp, Matrix, Monoid, Options, Semiring, Store, SLOTS};
 
 fn square() -> Result<Matrix, Error> {
     Matrix::from_triples(2, 2, [(0, 0, 1), (0, 1, 2), (1, 1, 3)])
@@ -32,6 +32,9 @@ fn cells_are_set_read_and_cleared() -> Result<(), Error> {
     assert_eq!(store.set(7, 0, 1, 0)?, 2);
     assert_eq!(store.set(7, 1, 2, 5)?, 2);
     assert_eq!((store.get(7, 1, 2)?, store.get(7, 0, 1)?, store.get(7, 0, 0)?), (Some(5), Some(0), None));
+    assert_eq!(store.find(7, 1, 2)?, Found::Present { value: 5, position: 1 });
+    assert_eq!(store.find(7, 1, 0)?, Found::Absent { position: 1 });
+    assert_eq!(store.find(6, 0, 0), Err(Error::EmptySlot));
     assert_eq!(store.clear(7, 0, 0)?, 2);
     assert_eq!(store.clear(7, 0, 1)?, 1);
     assert_eq!(store.get(7, 0, 1)?, None);

@@ -187,6 +187,16 @@ mod tests {
         assert_eq!(grid.words().last(), Some(&4_294_967_291));
     }
 
+    /// Document 02, A11: "the entry's position among the N, counted from 0, or, for an absent cell, the position where it
+    /// would be put to keep the order".
+    #[test]
+    fn positions() {
+        let mut grid = Grid::empty(3, 3);
+        grid.cells.extend([((0, 2), 5), ((2, 0), 0), ((2, 1), 7)]);
+        let row = |i| [0, 1, 2].map(|j| grid.position(i, j));
+        assert_eq!([row(0), row(1), row(2)], [[0, 0, 0], [1, 1, 1], [1, 2, 3]]);
+    }
+
     #[test]
     fn the_largest_sheet() {
         let mut grid = Grid::empty(1000, 1000);
