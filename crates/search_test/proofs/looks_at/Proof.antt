@@ -23,8 +23,8 @@ shared-slice-read-if2 c = let m = facts (c .before) in omega arith
 returns-2 : tie.Need-returns-2
 returns-2 c = search needs
 
-cell-at-requires : tie.Need-cell-at-requires
-cell-at-requires c κs = (facts (c .before .before), c .if2 .left)
+entry-at-requires : tie.Need-entry-at-requires
+entry-at-requires c κs = (facts (c .before .before), c .if2 .left)
 
 cast-result : tie.Need-cast-result
 cast-result c = search needs
@@ -40,6 +40,6 @@ looks-at-spec =
     returns
     shared-slice-read-if2
     returns-2
-    cell-at-requires
+    entry-at-requires
     cast-result
     returns-3)
