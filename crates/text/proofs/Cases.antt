@@ -61,6 +61,9 @@ module _ (s : List ℕ) (m : Matrix s) where
       → Appended (rowsText (cols s) (cellOf s) (rows s)) t u at to → Appended (textOf (gridOf s)) b u 0 to
   text-made p q = appended-then (rw head-is at p) q
 
+  pub text-end : {b u : List ℕ} {to : ℕ} → AreWords s → Appended (textOf (gridOf s)) b u 0 to → to ≤ maxTextBytes
+  text-end w p = let f = text-most s m w in omega (arith, p .next)
+
 -- ---- the answer
 module _ (s b : List ℕ) where
   pub no-matrix : valid s ≡ false → TextWritten s b (record { code = invalidFirst; length = 0 }) b

@@ -22,7 +22,7 @@ const SPACE: u8 = 32;
 // 0 and how many bytes were written, or a refusal code and 0.
 pub struct TextAnswer {
     pub code: u32,
-    pub length: usize,
+    pub length: u32,
 }
 
 // The text of a matrix at the front of the buffer; what lies behind it stays. INVALID_FIRST where the words are no valid
@@ -42,16 +42,18 @@ pub fn write_text(words: &[u32], out: &mut [u8]) -> TextAnswer
             length: 0,
         };
     }
+    let length = put_matrix(words, out);
     TextAnswer {
         code: 0,
-        length: put_matrix(words, out),
+        length: length as u32,
     }
 }
 
 // The text of a valid matrix.
 fn put_matrix(words: &[u32], out: &mut [u8]) -> usize
     requires { ⌜ Matrix (now words) ⌝ ∗ ⌜ maxTextBytes ≤ length (now out) ⌝ }
-    ensures { λ r. ⌜ Appended (textOf (gridOf (now (words .entry)))) (now (out .entry)) (now (out .exit)) 0 r ⌝ }
+    ensures { λ r. ⌜ Appended (textOf (gridOf (now (words .entry)))) (now (out .entry)) (now (out .exit)) 0 r ⌝
+        ∗ ⌜ r ≤ maxTextBytes ⌝ }
 {
     let at = put_line(
         out,

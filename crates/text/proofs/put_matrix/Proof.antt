@@ -5,7 +5,7 @@ use Rattle.matrix.specs.Layout.{rows, cols, entries}
 use Rattle.encoding.specs.OneWriting.{AreWords}
 use Rattle.append.specs.Appended.{Appended}
 use Rattle.text.specs.Text.{entryLine}
-use Rattle.text.proofs.Cases.{head-room, rows-room, text-made}
+use Rattle.text.proofs.Cases.{head-room, rows-room, text-made, text-end}
 use borrow.Author.Needs.{needs}
 use Rattle.text.proofs.put_matrix.Statement.{statement}
 use Rattle.text.proofs.put_matrix.Tie as tie
@@ -48,7 +48,9 @@ same-length c = search needs
 returns : tie.Need-returns
 returns c =
     let s = c .before .before .before .before .before .before .before .before .before .before .before .before .before in
-    text-made (now (s .args .words)) (s .pre .0) (told (c .before .before .before .before .before .before)) (c .before .before .put-rows .ensures)
+    let w = now (s .args .words) in
+    let p = text-made w (s .pre .0) (told (c .before .before .before .before .before .before)) (c .before .before .put-rows .ensures) in
+    (p, text-end w (s .pre .0) (worded (c .before .before .before .before .before .before .before .before .before .before .before .before)) p)
 
 pub put-matrix-spec : {M : Type 1} → statement M
 put-matrix-spec =

@@ -27,14 +27,17 @@ returns-2 c = text-short _ _ (held (c .before)) (c .if2 .taken)
 put-matrix-requires : tie.Need-put-matrix-requires
 put-matrix-requires c κs = (matrix-facts _ (held (c .before .before)), omega arith)
 
+cast-t9 : tie.Need-cast-t9
+cast-t9 c = search needs
+
 same-length : tie.Need-same-length
 same-length c = search needs
 
 returns-3 : tie.Need-returns-3
 returns-3 c =
-    text-written _ _ (held (c .before .before .before .before .before)) (omega arith) _ _ (c .before .before .put-matrix .ensures)
+    text-written _ _ (held (c .before .before .before .before .before)) (omega arith) _ _ (c .before .before .put-matrix .ensures .0)
 
 pub write-text-spec : {M : Type 1} → statement M
 write-text-spec =
     tie.close
-    (tie.spec is-valid-requires returns returns-2 put-matrix-requires same-length returns-3)
+    (tie.spec is-valid-requires returns returns-2 put-matrix-requires cast-t9 same-length returns-3)
