@@ -15,7 +15,7 @@ pub fn cell(answer: u64) -> Result<Option<i32>, Error> {
     Ok(is_present.then_some(upper_word(answer) as i32))
 }
 
-/// The codes are 0 to 13: no other can be answered.
+/// The codes are 0 to 13 and 15: no other can be answered.
 fn accepted(answer: u64) -> Result<(), Error> {
     match (answer & 255) as u32 {
         0 => Ok(()),

@@ -7,7 +7,7 @@ use second::compare::{judge_lent, judge_list, see_lent, see_list, Seen};
 use second::fault::{self, Fault};
 use second::model::{Model, SOUND};
 use second::rng::Rng;
-use second::{describe, full_rows, generate_lent, generate_store, merges, shrink};
+use second::{describe, files, full_rows, generate_lent, generate_store, merges, shrink};
 use std::collections::{BTreeMap, BTreeSet};
 use std::process::ExitCode;
 use std::time::Instant;
@@ -15,7 +15,7 @@ use std::time::Instant;
 const USAGE: &str = "\
 second [--seed N] [--calls N] [--lists N] [--faults] [--fault N]
 
-Compares the library with a model on each cell of some rows, on random calls, and on sheets merged in several orders.
+Compares the library with a model on each cell of some rows, on random calls, and on sheets merged in several orders and carried in files.
   --seed N    the seed of all random choices (1)
   --calls N   calls on lent sheets (200000; 40000 with --faults)
   --lists N   lists of calls on a store, of about 15 calls (a twentieth of the calls)
@@ -159,6 +159,7 @@ fn compare_all(arguments: &Arguments) -> ExitCode {
     let all = || {
         compare_rows(arguments)?;
         compare_merges(arguments)?;
+        compare_files(arguments)?;
         compare_random(arguments)
     };
     match all() {
@@ -192,6 +193,19 @@ fn compare_merges(arguments: &Arguments) -> Result<(), Disagreement> {
         }
     }
     println!("seed {seed}: {lists} lists of sheets merged in two orders and one again: no disagreement");
+    Ok(())
+}
+
+/// Files and texts; as many as lists of calls.
+fn compare_files(arguments: &Arguments) -> Result<(), Disagreement> {
+    let &Arguments { seed, lists, .. } = arguments;
+    for number in 0..lists {
+        if let Err(text) = files::case(&mut Rng::of_case(seed, 4, number)).judge(files::Slip::None) {
+            println!("seed {seed}, file {number}: {text}");
+            return Err(Disagreement);
+        }
+    }
+    println!("seed {seed}: {lists} files read, and sheets written as files and as texts: no disagreement");
     Ok(())
 }
 
