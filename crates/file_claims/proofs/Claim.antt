@@ -84,9 +84,11 @@ valid-read {f} {w} t e =
     let h = wordsOf f in
     let r = drop (size h) w in
     let c = ap (λ (a : Answer). a .entries) (k .answer-is) in
-    rw (k .words-are)
-    (valid-front h r (k .valid-words) n, c ∙ sym (entries-front h r (omega arith)),
-    k .bytes ∙ ap (λ (i : ℕ). i * 4) (sym (size-front h r (omega arith))))
+    rw (k .words-are) (
+      valid-front h r (k .valid-words) n,
+      c ∙ sym (entries-front h r (omega arith)),
+      k .bytes ∙ ap (λ (i : ℕ). i * 4) (sym (size-front h r (omega arith))),
+    )
 
 -- the words that were read, without what lies behind them
 words-read : {f w w′ : List ℕ} {x : Answer} → Reading f w x w′ → x .code ≡ 0 → matrixWords w′ ≡ wordsOf f
@@ -111,10 +113,11 @@ file-back {f} {w} {w′} {b} {b′} {x} {y} bs t e u l =
     let n = exact t e in
     let d = file-written w′ b y b′ (v .0) (omega arith) (write-told u) in
     let c : entries w′ ≡ entries h =
-    ap entries (k .words-are) ∙ entries-front h (drop (size h) w) (omega arith) in
-    (d .0 ∙ ap accepted c ∙ sym (k .answer-is),
-    d .1 ∙ ap (λ (i : List ℕ). i ++ drop (size w′ * 4) b) (bytes-read bs t e)
-        ∙ ap (λ (i : ℕ). f ++ drop i b) (sym (v .2)))
+    ap entries (k .words-are) ∙ entries-front h (drop (size h) w) (omega arith) in (
+      d .0 ∙ ap accepted c ∙ sym (k .answer-is),
+      d .1 ∙ ap (λ (i : List ℕ). i ++ drop (size w′ * 4) b) (bytes-read bs t e)
+          ∙ ap (λ (i : ℕ). f ++ drop i b) (sym (v .2)),
+    )
 
 -- ---- one file
 one-file : {f g w w′ v v′ : List ℕ} {x y : Answer} → AreBytes f → AreBytes g

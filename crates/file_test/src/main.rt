@@ -15,27 +15,44 @@ fn strip() {
     let words: [u32; 16] = [2, 1, 4, 2, 0, 3, 3, 0, 1, 3, 3, 10, 20, 40, 7, 8];
     let mut bytes = [9u8; 64];
     test_support::heading(b"strip");
-    write(&words[..13], &mut bytes[..0]);
-    write(&words, &mut bytes[..55]);
-    write(&words, &mut bytes);
-    show_byte(&bytes, 0);
-    show_byte(&bytes, 44);
-    show_byte(&bytes, 55);
-    show_byte(&bytes, 56);
+    writes(&words, &mut bytes);
     let mut held = [5u32; 16];
-    read(&bytes[..0], &mut held[..0]);
-    read(&bytes[..3], &mut held);
-    read(&bytes[..52], &mut held);
-    read(&bytes[..55], &mut held);
-    read(&bytes[..57], &mut held);
-    read(&bytes[..60], &mut held);
-    read(&bytes[..56], &mut held[..13]);
-    test_support::show(b"untouched", &held);
-    read(&bytes[..56], &mut held);
-    test_support::show(b"read", &held);
-    print_text(&held, MAX_TEXT_BYTES);
-    print_text(&held, MAX_TEXT_BYTES - 1);
-    print_text(&held[..13], 0);
+    refused_reads(&bytes, &mut held);
+    reads(&bytes, &mut held);
+    texts(&held);
+}
+
+fn writes(words: &[u32], bytes: &mut [u8]) {
+    write(words, 13, bytes, 0);
+    write(words, 16, bytes, 55);
+    write(words, 16, bytes, 64);
+    show_byte(&bytes[..], 0);
+    show_byte(&bytes[..], 44);
+    show_byte(&bytes[..], 55);
+    show_byte(&bytes[..], 56);
+}
+
+fn refused_reads(bytes: &[u8], held: &mut [u32]) {
+    read(bytes, 0, held, 0);
+    read(bytes, 3, held, 16);
+    read(bytes, 52, held, 16);
+    read(bytes, 55, held, 16);
+    read(bytes, 57, held, 16);
+}
+
+fn reads(bytes: &[u8], held: &mut [u32]) {
+    read(bytes, 60, held, 16);
+    read(bytes, 56, held, 13);
+    test_support::show(b"untouched", &held[..]);
+    read(bytes, 56, held, 16);
+    test_support::show(b"read", &held[..]);
+}
+
+fn texts(held: &[u32]) {
+    let mut out = [0u8; MAX_TEXT_BYTES];
+    print_text(held, 16, &mut out, MAX_TEXT_BYTES);
+    print_text(held, 16, &mut out, MAX_TEXT_BYTES - 1);
+    print_text(held, 13, &mut out, 0);
 }
 
 // 1,000 by 1,000 with 2,048 entries, all in rows and columns of three digits, all values the smallest: the largest file
@@ -48,27 +65,49 @@ fn largest() {
     test_support::put_run(&mut words, 3055, 2048, 0, 1);
     add(&mut words, 3055, 2048, 2147483648);
     let mut bytes = [0u8; MAX_FILE_BYTES + 4];
-    write(&words, &mut bytes[..MAX_FILE_BYTES - 1]);
-    write(&words, &mut bytes[..MAX_FILE_BYTES]);
+    write(&words, MAX_MATRIX_WORDS, &mut bytes, MAX_FILE_BYTES - 1);
+    write(&words, MAX_MATRIX_WORDS, &mut bytes, MAX_FILE_BYTES);
+    read_largest(&bytes);
+}
+
+fn read_largest(bytes: &[u8]) {
     let mut held = [0u32; MAX_MATRIX_WORDS];
-    read(&bytes[..MAX_FILE_BYTES - 4], &mut held);
-    read(&bytes[..MAX_FILE_BYTES + 1], &mut held);
-    read(&bytes, &mut held);
-    read(&bytes[..MAX_FILE_BYTES], &mut held[..MAX_MATRIX_WORDS - 1]);
-    read(&bytes[..MAX_FILE_BYTES], &mut held);
+    read(bytes, MAX_FILE_BYTES - 4, &mut held, MAX_MATRIX_WORDS);
+    read(bytes, MAX_FILE_BYTES + 1, &mut held, MAX_MATRIX_WORDS);
+    read(bytes, MAX_FILE_BYTES + 4, &mut held, MAX_MATRIX_WORDS);
+    read(bytes, MAX_FILE_BYTES, &mut held, MAX_MATRIX_WORDS - 1);
+    read(bytes, MAX_FILE_BYTES, &mut held, MAX_MATRIX_WORDS);
     let mut out = [0u8; MAX_TEXT_BYTES];
     let answer = text::write_text(&held, &mut out);
     test_support::print_pair(b"text: ", answer.code, answer.length);
 }
 
-fn write(words: &[u32], bytes: &mut [u8]) {
-    let answer = files::write_file(words, bytes);
-    print_answer(b"written, bytes ", bytes.len(), answer.code, answer.entries);
+// The first n words as a file into the first m bytes.
+fn write(words: &[u32], n: usize, bytes: &mut [u8], m: usize) {
+    if n <= words.len() {
+        write_front(&words[..n], bytes, m);
+    }
 }
 
-fn read(bytes: &[u8], words: &mut [u32]) {
-    let answer = files::read_file(bytes, words);
-    print_answer(b"read, bytes ", bytes.len(), answer.code, answer.entries);
+fn write_front(words: &[u32], bytes: &mut [u8], m: usize) {
+    if m <= bytes.len() {
+        let answer = files::write_file(words, &mut bytes[..m]);
+        print_answer(b"written, bytes ", m, answer.code, answer.entries);
+    }
+}
+
+// The first n bytes as a file into the first m words.
+fn read(bytes: &[u8], n: usize, words: &mut [u32], m: usize) {
+    if n <= bytes.len() {
+        read_front(&bytes[..n], words, m);
+    }
+}
+
+fn read_front(bytes: &[u8], words: &mut [u32], m: usize) {
+    if m <= words.len() {
+        let answer = files::read_file(bytes, &mut words[..m]);
+        print_answer(b"read, bytes ", bytes.len(), answer.code, answer.entries);
+    }
 }
 
 fn print_answer(label: &[u8], length: usize, code: u32, entries: u32) {
@@ -77,13 +116,18 @@ fn print_answer(label: &[u8], length: usize, code: u32, entries: u32) {
     test_support::print_pair(b": ", code, entries);
 }
 
-// The text of a matrix, with room for so many bytes.
-fn print_text(words: &[u32], room: usize) {
-    let mut out = [0u8; MAX_TEXT_BYTES];
-    if room <= MAX_TEXT_BYTES {
-        let answer = text::write_text(words, &mut out[..room]);
+// The text of the first n words in the first m bytes.
+fn print_text(words: &[u32], n: usize, out: &mut [u8], m: usize) {
+    if n <= words.len() {
+        print_text_front(&words[..n], out, m);
+    }
+}
+
+fn print_text_front(words: &[u32], out: &mut [u8], m: usize) {
+    if m <= out.len() {
+        let answer = text::write_text(words, &mut out[..m]);
         test_support::print_pair(b"text: ", answer.code, answer.length);
-        print_front(&out, answer.length as usize);
+        print_front(&out[..], answer.length as usize);
     }
 }
 

@@ -26,14 +26,24 @@ line-length x y z = simp length-append (omega arith)
 -- "1000 1000 2048"
 head-most : (r c n : ℕ) → r < 10000 → c < 10000 → n < 10000 → length (headLine r c n) ≤ 15
 head-most r c n h k l =
-    omega (arith, line-length (decimal r) (decimal c) (decimal n), four-digits r h (omega arith),
-    four-digits c k (omega arith), four-digits n l (omega arith))
+    omega (
+      arith,
+      line-length (decimal r) (decimal c) (decimal n),
+      four-digits r h (omega arith),
+      four-digits c k (omega arith),
+      four-digits n l (omega arith),
+    )
 
 -- "999 999 -2147483648"
 entry-most : (i j v : ℕ) → i < maxRows → j < maxCols → v < 2 ^ 32 → length (entryLine i j v) ≤ 20
 entry-most i j v h k l =
-    omega (arith, line-length (decimal i) (decimal j) (signedDecimal v), three-digits i h (omega arith),
-    three-digits j k (omega arith), signed-short v l)
+    omega (
+      arith,
+      line-length (decimal i) (decimal j) (signedDecimal v),
+      three-digits i h (omega arith),
+      three-digits j k (omega arith),
+      signed-short v l,
+    )
 
 -- 20 bytes for each entry: of a cell, of a row, of several rows
 module _ (i : ℕ) (h : i < maxRows) where

@@ -37,8 +37,11 @@ lines-front : (i : ℕ) (cols vals ds ws : List ℕ) (k : ℕ) → k ≤ length 
 unfolding linesTo
 lines-front i cols vals ds ws zero h e = refl
 lines-front i cols vals ds ws (suc k) h e =
-    rw (lines-front i cols vals ds ws k (omega arith) e, List·getD-append cols ds 0 k (omega arith),
-    List·getD-append vals ws 0 k (omega arith))
+    rw (
+      lines-front i cols vals ds ws k (omega arith) e,
+      List·getD-append cols ds 0 k (omega arith),
+      List·getD-append vals ws 0 k (omega arith),
+    )
 
 -- the lines of a row that may hold an entry more
 lines-more : (i n : ℕ) (cols vals : List ℕ) (x : Cell) → length vals ≡ length cols
@@ -51,8 +54,12 @@ lines-more i n cols vals (Present v) e =
     let k : length (cols ++ (n ∷ [])) ≡ length cols + 1 = length-append cols (n ∷ []) in
     ap (linesTo i (cols ++ (n ∷ [])) (vals ++ (v ∷ []))) k
     ∙ lines-next i (cols ++ (n ∷ [])) (vals ++ (v ∷ [])) (length cols)
-    ∙ rw (lines-front i cols vals (n ∷ []) (v ∷ []) (length cols) (omega arith) e, getD-at cols n [] 0 (length cols) refl,
-    getD-at vals v [] 0 (length cols) e, append-nil (entryLine i n v))
+    ∙ rw (
+      lines-front i cols vals (n ∷ []) (v ∷ []) (length cols) (omega arith) e,
+      getD-at cols n [] 0 (length cols) refl,
+      getD-at vals v [] 0 (length cols) e,
+      append-nil (entryLine i n v),
+    )
 
 -- the lines of the entries that are gathered
 lines-gathered : (i n : ℕ) (row : ℕ → Cell)

@@ -74,9 +74,13 @@ bytes-back (a ∷ []) h e = absurd (omega arith)
 bytes-back (a ∷ b ∷ []) h e = absurd (omega arith)
 bytes-back (a ∷ b ∷ c ∷ []) h e = absurd (omega arith)
 bytes-back (a ∷ b ∷ c ∷ d ∷ s) h e =
-    rw (first-byte a b c d (h 0) (h 1) (h 2) (h 3), second-byte a b c d (h 0) (h 1) (h 2) (h 3),
-    third-byte a b c d (h 0) (h 1) (h 2) (h 3), fourth-byte a b c d (h 0) (h 1) (h 2) (h 3),
-    bytes-back s (λ k. h (suc (suc (suc (suc k))))) (omega arith))
+    rw (
+      first-byte a b c d (h 0) (h 1) (h 2) (h 3),
+      second-byte a b c d (h 0) (h 1) (h 2) (h 3),
+      third-byte a b c d (h 0) (h 1) (h 2) (h 3),
+      fourth-byte a b c d (h 0) (h 1) (h 2) (h 3),
+      bytes-back s (λ k. h (suc (suc (suc (suc k))))) (omega arith),
+    )
 
 -- the word at k
 pub words-at : (s : List ℕ) (k : ℕ) → k < length s / 4

@@ -38,9 +38,10 @@ put-line-requires c κs =
 
 put-rows-requires : tie.Need-put-rows-requires
 put-rows-requires c κs =
-    let s = c .before .before .before .before .before .before .before .before .before .before in
-    (s .pre .0,
-    rows-room (now (s .args .words)) (s .pre .0) (now (s .args .out)) _ _ (worded (c .before .before .before .before .before .before .before .before .before)) (s .pre .1) (told (c .before .before .before)))
+    let s = c .before .before .before .before .before .before .before .before .before .before in (
+      s .pre .0,
+      rows-room (now (s .args .words)) (s .pre .0) (now (s .args .out)) _ _ (worded (c .before .before .before .before .before .before .before .before .before)) (s .pre .1) (told (c .before .before .before)),
+    )
 
 same-length : tie.Need-same-length
 same-length c = search needs

@@ -55,9 +55,10 @@ put-row-requires c κs =
     let m = l .inv .3 in
     let h : l .i < rows w = omega arith in
     let p = c .before .row-columns .ensures .words in
-    let q = c .row-values .ensures .words in
-    (rw (p, q) (row-even w (l .i) (m .header) (row-span w (m .starts) (l .i) h)),
-    rw (p, q) (row-room w (l .i) (a .from) (l .at) (now (a .out)) (l .out) m h (l .inv .4) (l .inv .0)))
+    let q = c .row-values .ensures .words in (
+      rw (p, q) (row-even w (l .i) (m .header) (row-span w (m .starts) (l .i) h)),
+      rw (p, q) (row-room w (l .i) (a .from) (l .at) (now (a .out)) (l .out) m h (l .inv .4) (l .inv .0)),
+    )
 
 add-i : tie.Need-add-i Inv-loop μ-loop
 add-i c = search needs
