@@ -2,7 +2,9 @@
 
 use crate::commands::Command;
 use crate::{script, shelf_file};
-use ostrubel::{Error, MAX_COLS, MAX_ENTRIES, MAX_FILE_BYTES, MAX_INDEXES, MAX_ROWS, MAX_STORE_WORDS, MIN_STORE_WORDS, SLOTS};
+use ostrubel::{
+    Error, MAX_COLS, MAX_ENTRIES, MAX_FILE_BYTES, MAX_INDEXES, MAX_ROWS, MAX_STORE_WORDS, MIN_STORE_WORDS, SLOTS,
+};
 
 const PAGE_WIDTH: usize = 98;
 

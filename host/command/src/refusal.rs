@@ -43,7 +43,8 @@ impl Refusal {
 
     /// Of bytes that are no sheet's file. `size` is their number, as a text.
     pub fn of_sheet(error: Error, name: &str, size: &str) -> Refusal {
-        let sentence = format!("{name} is no sheet file, or is damaged ({size}): check the name, or take a sound copy.");
+        let sentence =
+            format!("{name} is no sheet file, or is damaged ({size}): check the name, or take a sound copy.");
         Refusal { error, sentence, about: Vec::new() }
     }
 

@@ -33,8 +33,12 @@ fn out_and_in_again() {
 #[test]
 fn through_pipes() {
     let folder = with_strip();
-    let output = folder.shell("ostrubel export s 0 - | ostrubel import s 1 - && ostrubel export s 1 - | ostrubel print -");
-    assert_eq!((text(&output), error_text(&output)), (format!("place 1: 1 by 4, 3 entries\n{STRIP_TEXT}"), String::new()));
+    let output =
+        folder.shell("ostrubel export s 0 - | ostrubel import s 1 - && ostrubel export s 1 - | ostrubel print -");
+    assert_eq!(
+        (text(&output), error_text(&output)),
+        (format!("place 1: 1 by 4, 3 entries\n{STRIP_TEXT}"), String::new())
+    );
     // a byte at a time
     let slowly = "i=0; while [ $i -lt 56 ]; do dd bs=1 count=1 skip=$i if=strip status=none; i=$((i + 1)); done";
     let output = folder.shell(&format!("ostrubel export s 0 strip > out && ({slowly}) | ostrubel print -"));
@@ -59,7 +63,8 @@ fn no_sheet_file_is_refused_with_15() {
         ("zeros", &long, "more than 20412 bytes"),
     ] {
         folder.write(name, bytes);
-        let sentence = format!("{name} is no sheet file, or is damaged ({size}): check the name, or take a sound copy.\n");
+        let sentence =
+            format!("{name} is no sheet file, or is damaged ({size}): check the name, or take a sound copy.\n");
         for line in [format!("import s 0 {name}"), format!("print {name}")] {
             assert_eq!(folder.fails(&line, 1), format!("refused (15): {sentence}"), "{line}");
         }

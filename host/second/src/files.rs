@@ -25,13 +25,13 @@ pub enum Slip {
     ColumnsFirst,
 }
 
-fn file_bytes(words: &[u32], slip: Slip) -> Vec<u8> {
+pub fn file_bytes(words: &[u32], slip: Slip) -> Vec<u8> {
     let order = |word: &u32| if slip == Slip::HighestFirst { word.to_be_bytes() } else { word.to_le_bytes() };
     words.iter().flat_map(order).collect()
 }
 
 /// The sheet of a file.
-fn grid_of_file(bytes: &[u8], slip: Slip) -> Option<Grid> {
+pub fn grid_of_file(bytes: &[u8], slip: Slip) -> Option<Grid> {
     if !bytes.len().is_multiple_of(4) && slip != Slip::RestAccepted {
         return None;
     }
@@ -41,7 +41,7 @@ fn grid_of_file(bytes: &[u8], slip: Slip) -> Option<Grid> {
     (grid.size() == words.len() || slip == Slip::SpareAccepted).then_some(grid)
 }
 
-fn text_of(grid: &Grid, slip: Slip) -> String {
+pub fn text_of(grid: &Grid, slip: Slip) -> String {
     let mut entries: Vec<(u32, u32, i32)> = grid.cells.iter().map(|(&(i, j), &value)| (i, j, value)).collect();
     if slip == Slip::ColumnsFirst {
         entries.sort_by_key(|&(i, j, _)| (j, i));
@@ -173,6 +173,10 @@ fn compare<T: PartialEq>(name: &str, expected: Outcome<T>, seen: Outcome<T>) -> 
 }
 
 impl Case {
+    pub fn file(&self) -> &[u8] {
+        &self.file
+    }
+
     pub fn judge(&self, slip: Slip) -> Result<(), String> {
         let mut words = self.words.clone();
         let answer = calls::read_file(&self.file, &mut words);
