@@ -228,6 +228,7 @@ fn sentences_have_the_limits() {
         (Error::InvalidShape, "a sheet has 1 to 1000 rows and 1 to 1000 columns, "),
         (Error::WorkspaceTooShort, "at least 15309 words."),
         (Error::TooManyEntries, "more than 2048 entries: "),
+        (Error::InvalidFile, "at most 20412; "),
         (Error::InvalidStore, "not one of 0 to 7, or the shelf is damaged or not 8 to 16384 words long: "),
     ] {
         assert!(error.to_string().contains(part), "{error}");
