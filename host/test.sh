@@ -1,6 +1,6 @@
 #!/bin/sh
-# Where column numbers are read, and the tests of what is in host/: the C test, the tests of the Rust programs, and the
-# second program on random calls.
+# Where column numbers are read, and the tests of what is in host/: the C test, the tests of the Rust programs, the second
+# program on random calls, and the program that prints a file on files and other bytes.
 set -e
 cd "$(dirname "$0")/.."
 PATH=$PATH:${CARGO_HOME:-$HOME/.cargo}/bin # where cargo is by default, though the PATH may lack it
@@ -13,3 +13,6 @@ export OSTRUBEL_LIB_DIR
 cargo test --manifest-path host/Cargo.toml --release --offline --quiet
 cargo run --manifest-path host/Cargo.toml --release --offline --quiet -p second -- --calls 200000
 cargo run --manifest-path host/Cargo.toml --release --offline --quiet -p second -- --faults
+# the proved program, which is not there where a crate was changed since
+[ -x target/bin/print_file ] || rt check print_file
+cargo run --manifest-path host/Cargo.toml --release --offline --quiet -p second -- --program "$PWD/target/bin/print_file"

@@ -42,6 +42,10 @@ extern "C" {
 /* Bytes of stack that are enough for any call; at the largest shapes the deepest took some 29,000. */
 #define OSTRUBEL_STACK_BYTES 49152
 
+/* Sizes, in bytes: the largest file, four for each word of the largest matrix, and the largest text. */
+#define OSTRUBEL_MAX_FILE_BYTES 20412
+#define OSTRUBEL_MAX_TEXT_BYTES 40975
+
 /* Limits. An index list has 1 to 1,000 indexes. */
 #define OSTRUBEL_MAX_ROWS 1000
 #define OSTRUBEL_MAX_COLS 1000
@@ -66,7 +70,8 @@ enum {
     OSTRUBEL_TOO_MANY_ENTRIES = 10,    /* the final C, or the matrix a cell is set in, would have over 2,048 entries */
     OSTRUBEL_INSUFFICIENT_SPACE = 11,  /* the final C, a new matrix or the store does not fit its buffer */
     OSTRUBEL_INVALID_STORE = 12,       /* the length or the words are no store's, or a slot above 7 */
-    OSTRUBEL_EMPTY_SLOT = 13           /* a slot that must have a matrix is empty */
+    OSTRUBEL_EMPTY_SLOT = 13,          /* a slot that must have a matrix is empty */
+    OSTRUBEL_INVALID_FILE = 15         /* bytes that are no file: of another length than their matrix's, or no matrix */
 };
 
 /* Flags; they add up. */
@@ -116,6 +121,9 @@ static inline uint32_t ostrubel_code(uint64_t answer) { return (uint32_t)(answer
 
 /* The entries of the matrix that was written or checked. */
 static inline uint32_t ostrubel_entries(uint64_t answer) { return (uint32_t)(answer >> 32); }
+
+/* Of a text: how many bytes were written. */
+static inline uint32_t ostrubel_text_length(uint64_t answer) { return (uint32_t)(answer >> 32); }
 
 /* Of a read: 1 where the cell is present, 0 where it is absent or the read was refused. */
 static inline int ostrubel_present(uint64_t answer) { return (int)((answer >> 8) & 1); }
@@ -267,6 +275,26 @@ uint64_t ostrubel_store_extract(uint32_t flags, uint32_t has_mask, uint32_t has_
                                 size_t a, size_t mask, size_t c, uint32_t *store, size_t store_len,
                                 const uint32_t *is, size_t is_len, const uint32_t *js, size_t js_len, uint32_t *work,
                                 size_t work_len);
+
+/* ---- Files and texts: bytes that the caller owns, passed as a pointer and their number ---- */
+
+/*
+ * A file is the words of a valid matrix and nothing more, four bytes each, the lowest byte first. Every grid has one file,
+ * and reading what was written gives the words back. Any number of bytes may be passed.
+ */
+
+/* The matrix of a file at the front of the words. Answers its entries. Refused by 15, 11. */
+uint64_t ostrubel_read_file(const uint8_t *bytes, size_t bytes_len, uint32_t *words, size_t words_len);
+
+/* The file of a matrix at the front of the bytes; the matrix's spare words are not written. Refused by 3, 11. */
+uint64_t ostrubel_write_file(const uint32_t *words, size_t words_len, uint8_t *bytes, size_t bytes_len);
+
+/*
+ * The matrix as text at the front of the bytes: a line "R C N", then a line "row column value" for each entry, row by row
+ * and from left to right, in signed decimals, each line ended by a newline byte. Answers how many bytes were written; take
+ * it by ostrubel_text_length. Refused by 3, and by 11 where there are fewer than OSTRUBEL_MAX_TEXT_BYTES bytes.
+ */
+uint64_t ostrubel_write_text(const uint32_t *words, size_t words_len, uint8_t *bytes, size_t bytes_len);
 
 #ifdef __cplusplus
 }

@@ -285,6 +285,38 @@ static void test_store_operations(void) {
     SAME(c, 15, 2, 2, 2, 3, 0, 2, 3, 3, 0, 1, 1, 3, 2, 3, 5, 0);
 }
 
+/* Files, both ways, and the text. */
+static void test_files(void) {
+    static uint8_t text[OSTRUBEL_MAX_TEXT_BYTES];
+    const char lines[] = "1 4 3\n0 0 10\n0 1 20\n0 3 40\n";
+    uint8_t file[57];
+    uint32_t words[15];
+    memset(file, 9, sizeof(file));
+    memset(words, 0, sizeof(words));
+    words[14] = 7;
+    CHECK(OSTRUBEL_MAX_FILE_BYTES == 4 * OSTRUBEL_MAX_MATRIX_WORDS);
+
+    REFUSED(ostrubel_write_file(words, 14, file, 0), OSTRUBEL_INVALID_FIRST);
+    REFUSED(ostrubel_write_file(WORDS(strip), file, 55), OSTRUBEL_INSUFFICIENT_SPACE);
+    CHECK(file[0] == 9);
+    ACCEPTED(ostrubel_write_file(WORDS(strip), file, sizeof(file)), 3);
+    CHECK(file[0] == 2 && file[1] == 0 && file[52] == 40 && file[55] == 0 && file[56] == 9);
+
+    REFUSED(ostrubel_read_file(file, 57, words, 0), OSTRUBEL_INVALID_FILE);
+    REFUSED(ostrubel_read_file(file, 55, WORDS(words)), OSTRUBEL_INVALID_FILE);
+    REFUSED(ostrubel_read_file(file, 0, WORDS(words)), OSTRUBEL_INVALID_FILE);
+    REFUSED(ostrubel_read_file(file, 56, words, 13), OSTRUBEL_INSUFFICIENT_SPACE);
+    SAME(words, 0, 0);
+    ACCEPTED(ostrubel_read_file(file, 56, WORDS(words)), 3);
+    SAME(words, 2, 1, 4, 2, 0, 3, 3, 0, 1, 3, 3, 10, 20, 40, 7);
+
+    REFUSED(ostrubel_write_text(words, 13, text, sizeof(text)), OSTRUBEL_INVALID_FIRST);
+    REFUSED(ostrubel_write_text(WORDS(words), text, sizeof(text) - 1), OSTRUBEL_INSUFFICIENT_SPACE);
+    const uint64_t answer = ostrubel_write_text(WORDS(words), text, sizeof(text));
+    CHECK(ostrubel_code(answer) == 0 && ostrubel_text_length(answer) == strlen(lines));
+    CHECK(memcmp(text, lines, strlen(lines)) == 0 && text[strlen(lines)] == 0);
+}
+
 /* Both sides of the limits. */
 static void test_limits(void) {
     static uint32_t a[OSTRUBEL_MAX_ROWS + 7];
@@ -316,6 +348,7 @@ int main(void) {
     test_write_back();
     test_store_cells();
     test_store_operations();
+    test_files();
     test_limits();
     printf("ok\n");
     return 0;

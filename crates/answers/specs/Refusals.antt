@@ -55,6 +55,10 @@ invalidStore = 12
 abbrev pub emptySlot : ℕ
 emptySlot = 13
 
+-- document 02, A1: "A file of another length than its sheet's, or of no valid sheet, is refusal 15"
+abbrev pub invalidFile : ℕ
+invalidFile = 15
+
 -- every code is below it
 abbrev pub codeLimit : ℕ
 codeLimit = 256

@@ -12,6 +12,7 @@ use model::Roles;
 use products::Engine;
 use row_view::Place;
 use row_view::Section;
+use text::TextAnswer;
 ghost use mathlib.Core.Path.{_≡_};
 ghost use mathlib.Core.List.{[]};
 ghost use Prim.Native.Nat.{_≤_};
@@ -25,6 +26,7 @@ ghost use Rattle.model.specs.Calls.{newEmpty, dropSlot, setCell, clearCell, rea
 ghost use Rattle.exports.specs.Packing.{packed, packedCell, presentBit, SmallRead, packedPlace, secondBit};
 ghost use Rattle.exports.specs.Packing.{SmallPlace, codeLimit};
 ghost use Rattle.exports.specs.Exported.{optionsOf, rolesNamed, sectionOf};
+ghost use Rattle.exports.specs.Files.{packedText, LentFileRead, LentFileWritten, LentTextWritten};
 ghost use Rattle.exports.specs.Exported.{LentCreated, LentCompleted, StorePerformed, StoreRead};
 
 // In the answer of a read, what stands for a cell that is present.
@@ -765,4 +767,35 @@ fn options_of(flags: u32, has_mask: u32, has_accumulator: u32, accumulator: u32)
         has_accumulator: has_accumulator != 0,
         accumulator: accumulator,
     }
+}
+
+// The matrix of a file at the front of the words.
+#[no_mangle]
+pub extern "C" fn ostrubel_read_file(bytes: &[u8], words: &mut [u32]) -> u64
+    ensures { λ r. ⌜ LentFileRead (now (bytes .entry)) (now (words .entry)) r (now (words .exit)) ⌝ }
+{
+    pack(files::read_file(bytes, words))
+}
+
+// The file of a matrix at the front of the bytes.
+#[no_mangle]
+pub extern "C" fn ostrubel_write_file(words: &[u32], bytes: &mut [u8]) -> u64
+    ensures { λ r. ⌜ LentFileWritten (now (words .entry)) (now (bytes .entry)) r (now (bytes .exit)) ⌝ }
+{
+    pack(files::write_file(words, bytes))
+}
+
+// The text of a matrix at the front of the bytes.
+#[no_mangle]
+pub extern "C" fn ostrubel_write_text(words: &[u32], bytes: &mut [u8]) -> u64
+    ensures { λ r. ⌜ LentTextWritten (now (words .entry)) (now (bytes .entry)) r (now (bytes .exit)) ⌝ }
+{
+    pack_text(text::write_text(words, bytes))
+}
+
+// The code in the lower word, the number of bytes in the upper.
+fn pack_text(answer: TextAnswer) -> u64
+    ensures { λ r. ⌜ r ≡ packedText answer ⌝ }
+{
+    answer.code as u64 + answer.length as u64 * UPPER_WORD
 }

@@ -35,7 +35,8 @@ impl Arguments {
     pub fn split_with_file(command: Command, words: &[OsString]) -> Result<(PathBuf, Arguments), Usage> {
         let mut arguments = Arguments::collect(command, words)?;
         if arguments.plain.is_empty() {
-            return Err(arguments.wrong_form("FILE is missing"));
+            let name = if command == Command::Print { "SHEET" } else { "FILE" };
+            return Err(arguments.wrong_form(format!("{name} is missing")));
         }
         let file = PathBuf::from(arguments.plain.remove(0));
         arguments.check_count()?;

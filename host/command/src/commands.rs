@@ -16,12 +16,15 @@ pub enum Command {
     EwiseAdd,
     Apply,
     Extract,
+    Import,
+    Export,
+    Print,
     Run,
     Help,
 }
 
 impl Command {
-    pub const ALL: [Command; 16] = [
+    pub const ALL: [Command; 19] = [
         Command::New,
         Command::Lay,
         Command::Drop,
@@ -36,6 +39,9 @@ impl Command {
         Command::EwiseAdd,
         Command::Apply,
         Command::Extract,
+        Command::Import,
+        Command::Export,
+        Command::Print,
         Command::Run,
         Command::Help,
     ];
@@ -56,12 +62,15 @@ impl Command {
             Command::EwiseAdd => "eWiseAdd",
             Command::Apply => "apply",
             Command::Extract => "extract",
+            Command::Import => "import",
+            Command::Export => "export",
+            Command::Print => "print",
             Command::Run => "run",
             Command::Help => "help",
         }
     }
 
-    /// The plain arguments after FILE, which all commands but `help` have.
+    /// The plain arguments after FILE, which all commands but `help` have; of `print` it is the sheet's file.
     pub fn arguments(self) -> &'static [&'static str] {
         match self {
             Command::New => &["WORDS"],
@@ -69,7 +78,8 @@ impl Command {
             Command::Drop | Command::Show => &["PLACE"],
             Command::Set => &["PLACE", "ROW", "COL", "VALUE"],
             Command::Clear | Command::Read => &["PLACE", "ROW", "COL"],
-            Command::List | Command::Help => &[],
+            Command::List | Command::Print | Command::Help => &[],
+            Command::Import | Command::Export => &["PLACE", "SHEET"],
             Command::Mxm | Command::EwiseMult | Command::EwiseAdd => &["C", "A", "B"],
             Command::Vxm => &["C", "U", "A"],
             Command::Apply | Command::Extract => &["C", "A"],

@@ -2,7 +2,9 @@
 
 use crate::commands::Command;
 use crate::{script, shelf_file};
-use ostrubel::{Error, MAX_COLS, MAX_ENTRIES, MAX_INDEXES, MAX_ROWS, MAX_STORE_WORDS, MIN_STORE_WORDS, SLOTS};
+use ostrubel::{
+    Error, MAX_COLS, MAX_ENTRIES, MAX_FILE_BYTES, MAX_INDEXES, MAX_ROWS, MAX_STORE_WORDS, MIN_STORE_WORDS, SLOTS,
+};
 
 const PAGE_WIDTH: usize = 98;
 
@@ -20,6 +22,7 @@ fn filled(text: &str) -> String {
         ("{MIN_WORDS}", MIN_STORE_WORDS),
         ("{MAX_WORDS}", MAX_STORE_WORDS),
         ("{MAX_BYTES}", shelf_file::MAX_BYTES),
+        ("{MAX_SHEET_BYTES}", MAX_FILE_BYTES),
         ("{MAX_SCRIPT_BYTES}", script::MAX_BYTES as usize),
         ("{MAX_PRINTED_BYTES}", script::MAX_PRINTED_BYTES),
     ];
@@ -74,6 +77,9 @@ fn command_text(command: Command) -> &'static str {
         Command::EwiseAdd => include_str!("help/ewise_add.txt"),
         Command::Apply => include_str!("help/apply.txt"),
         Command::Extract => include_str!("help/extract.txt"),
+        Command::Import => include_str!("help/import.txt"),
+        Command::Export => include_str!("help/export.txt"),
+        Command::Print => include_str!("help/print.txt"),
         Command::Run => include_str!("help/run.txt"),
         Command::Help => include_str!("help/overview.txt"),
     }
@@ -91,6 +97,7 @@ fn refusals() -> String {
         Error::InvalidShape,
         Error::TooManyEntries,
         Error::InsufficientSpace,
+        Error::InvalidFile,
     ] {
         let mut line = format!("{:>4} ", error.number());
         for word in error.to_string().split(' ') {
@@ -160,7 +167,8 @@ mod tests {
         for command in Command::ALL {
             assert!(overview().lines().any(|line| line.starts_with(&format!("  {} ", command.name()))), "{command:?}");
             let first = command_page(command);
-            assert!(command == Command::Help || first.starts_with(&format!("ostrubel {} FILE", command.name())));
+            let file = if command == Command::Print { "SHEET" } else { "FILE" };
+            assert!(command == Command::Help || first.starts_with(&format!("ostrubel {} {file}", command.name())));
         }
     }
 }

@@ -2,8 +2,8 @@
 //! store is a shelf, and a slot is a place on it.
 //!
 //! `task` reads the command line, `commands`, `arguments`, `names` and `call` what stands in it; `carry_out` does a
-//! call on a store in memory, `script` many of them; `shelf_file` reads and saves; `refusal` and `failure` say why
-//! something was not done. All rules about matrices are the library's.
+//! call on a store in memory, `script` many of them; `shelf_file` reads and saves, `sheet_file` carries one matrix in or
+//! out; `refusal` and `failure` say why something was not done. All rules about matrices are the library's.
 //!
 //! The exit status is 0, or 1 for a refused call, 2 for wrong usage, 3 where a file or the output cannot be read or
 //! written.
@@ -20,6 +20,7 @@ mod names;
 mod output;
 mod refusal;
 mod script;
+mod sheet_file;
 mod shelf_file;
 mod task;
 

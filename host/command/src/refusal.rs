@@ -41,6 +41,13 @@ impl Refusal {
         Refusal { error, sentence, about: Vec::new() }
     }
 
+    /// Of bytes that are no sheet's file. `size` is their number, as a text.
+    pub fn of_sheet(error: Error, name: &str, size: &str) -> Refusal {
+        let sentence =
+            format!("{name} is no sheet file, or is damaged ({size}): check the name, or take a sound copy.");
+        Refusal { error, sentence, about: Vec::new() }
+    }
+
     /// The refusal of a call on this store, which is as it was before the call.
     pub fn of_call(error: Error, call: &Call, store: &Store) -> Refusal {
         let (sentence, about) = match (error, call) {

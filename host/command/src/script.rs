@@ -116,7 +116,7 @@ fn parse_line(line: &str) -> Step {
     let mut words = line.split_whitespace();
     let name = words.next().unwrap_or_default();
     let call = match Command::find(name) {
-        Some(Command::New | Command::Run | Command::Help) => {
+        Some(Command::New | Command::Import | Command::Export | Command::Print | Command::Run | Command::Help) => {
             Err(Usage::new("run", format!("{name} is not for scripts")))
         }
         Some(command) => {

@@ -121,6 +121,23 @@ pub fn update(path: &Path, work: impl FnOnce(&mut Store) -> Result<(), Failure>)
     Ok(true)
 }
 
+/// Puts bytes into a file, as a shelf is saved: it has the old bytes or the new ones. Of a file that is there, `may_go`
+/// is asked about its bytes.
+pub fn write_over(path: &Path, bytes: &[u8], may_go: impl FnOnce(&[u8]) -> bool) -> Result<(), Failure> {
+    if !path.is_symlink() && !path.exists() {
+        let new = NewFile::with_bytes(folder(path), 0o666, bytes).map_err(|error| not_made(path, &error))?;
+        new.file.sync_all().and_then(|()| new.rename(path)).map_err(|error| Failure::io(path, error))?;
+        return sync_folder(path, path);
+    }
+    let old = LockedFile::open(path).map_err(|error| Failure::io(path, error))?;
+    let before = read_bounded(&old.file).map_err(|error| Failure::io(path, error))?;
+    if !may_go(&before) {
+        return Err(Failure::io(path, "is there already and is no sheet file, and stays as it is"));
+    }
+    replace(path, &old, bytes)?;
+    sync_folder(path, &old.target)
+}
+
 fn bytes_of(store: &Store) -> Vec<u8> {
     store.words().iter().flat_map(|word| word.to_le_bytes()).collect()
 }

@@ -8,9 +8,10 @@ use crate::failure::{Failure, Usage};
 use crate::help;
 use crate::names::Whole;
 use crate::output::Output;
+use crate::refusal::Refusal;
 use crate::script::Script;
-use crate::shelf_file;
-use ostrubel::Store;
+use crate::{sheet_file, shelf_file};
+use ostrubel::{Error, Store};
 use std::ffi::OsString;
 use std::path::{Path, PathBuf};
 
@@ -24,6 +25,19 @@ pub enum Task {
     Call {
         file: PathBuf,
         call: Call,
+    },
+    Import {
+        file: PathBuf,
+        slot: Whole,
+        sheet: OsString,
+    },
+    Export {
+        file: PathBuf,
+        slot: Whole,
+        sheet: OsString,
+    },
+    PrintSheet {
+        sheet: OsString,
     },
     Run {
         file: PathBuf,
@@ -69,6 +83,24 @@ impl Task {
                 output.print(&carry_out(call, store)?);
                 Ok(())
             }),
+            Task::Import { file, slot, sheet } => {
+                let matrix = sheet_file::read(sheet)?;
+                on_shelf(file, true, |store| {
+                    let put = store.put(slot.size(), &matrix);
+                    put.map_err(|error| refused(error, slot, store))?;
+                    output.print(&format!("place {slot}: {}", sheet_file::described(&matrix)));
+                    Ok(())
+                })
+            }
+            Task::Export { file, slot, sheet } => {
+                let store = shelf_file::read(file)?;
+                let matrix = store.matrix(slot.size()).map_err(|error| refused(error, slot, &store))?;
+                sheet_file::write(sheet, &matrix, output)
+            }
+            Task::PrintSheet { sheet } => {
+                output.print(&sheet_file::read(sheet)?.to_text());
+                Ok(false)
+            }
             Task::Run { file, script } => {
                 let script = Script::read(script)?;
                 on_shelf(file, script.writes(), |store| script.carry_out(store, output))
@@ -97,6 +129,18 @@ fn file_task(command: Command, words: &[OsString]) -> Result<Task, Usage> {
             arguments.finish()?;
             Ok(Task::New { file, words })
         }
+        Command::Import | Command::Export => {
+            let (slot, sheet) = (arguments.whole(0)?, arguments.word(1)?);
+            arguments.finish()?;
+            Ok(match command {
+                Command::Import => Task::Import { file, slot, sheet },
+                _ => Task::Export { file, slot, sheet },
+            })
+        }
+        Command::Print => {
+            arguments.finish()?;
+            Ok(Task::PrintSheet { sheet: file.into_os_string() })
+        }
         Command::Run => {
             let script = arguments.word(0)?;
             arguments.finish()?;
@@ -104,6 +148,11 @@ fn file_task(command: Command, words: &[OsString]) -> Result<Task, Usage> {
         }
         _ => Ok(Task::Call { file, call: Call::parse(command, arguments)? }),
     }
+}
+
+/// The refusal of a sheet that is put into a place, or taken from it.
+fn refused(error: Error, slot: &Whole, store: &Store) -> Refusal {
+    Refusal::of_call(error, &Call::Show { slot: slot.clone() }, store)
 }
 
 /// Does some work on the shelf in a file. Whether the file was written.

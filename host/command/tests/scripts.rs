@@ -159,16 +159,28 @@ fn scripts_that_are_too_long_or_no_text() {
     assert_eq!(folder.state("s"), before);
 }
 
-/// Runs a story on a fresh shelf: what it prints from the last `show` on. The sheet before is the same in both.
+/// The story's folder.
 fn story(name: &str) -> String {
-    let folder = Folder::with_shelf();
-    let script = std::fs::read_to_string(format!("{}/../story/{name}", env!("CARGO_MANIFEST_DIR"))).unwrap();
+    let script = std::fs::read_to_string(format!("{}/../story/{name}.txt", env!("CARGO_MANIFEST_DIR"))).unwrap();
     assert!(script.lines().count() <= 40, "{name}");
-    let printed = folder.script("s", &script);
+    script
+}
+
+/// Runs the story as host/story/run.sh does: the phone's sheet is carried in a file to the office. What the ending prints
+/// from the last `show` on.
+fn ending(name: &str) -> String {
+    let folder = Folder::with_shelf();
+    folder.accept("new phone 1000");
+    folder.script("phone", &story("phone"));
+    folder.accept("export phone 0 phone.sheet");
+    folder.prints("print phone.sheet", "5 4 3\n0 0 23503\n2 1 8301\n3 0 11202\n");
+    let printed = folder.script("s", &story("office"));
     let reports =
         "> show 0\n      0      1      2      3\n0  9101      .      .      .\n1     .      .      .  12402\n\
                    2     .  14053      .      .\n3     .      .      .      .\n4     .      .  10151      .\n";
     assert!(printed.contains(reports), "{printed}");
+    folder.prints("import s 1 phone.sheet", "place 1: 5 by 4, 3 entries\n");
+    let printed = folder.script("s", &story(name));
     let end = printed.rfind("> show 0\n").unwrap();
     printed[end..].lines().filter(|line| !line.starts_with('#')).map(|line| format!("{line}\n")).collect()
 }
@@ -177,13 +189,21 @@ fn story(name: &str) -> String {
 fn the_lost_key_is_still_lost() {
     let end = "> show 0\n       0      1      2      3\n0   9101      .      .      .\n1      .      .      .  12402\n\
                2      .  14053      .      .\n3  11202      .      .      .\n4      .      .  10151      .\n\
-               > read 0 2 1\n14053\n> read 0 3 0\n11202\n";
-    assert_eq!(story("lost_key.txt"), end);
+               > read 0 2 1\n14053\n> read 0 3 0\n11202\n> read 0 0 0\n9101\n";
+    assert_eq!(ending("merge"), end);
+}
+
+#[test]
+fn without_the_mask_a_report_is_lost() {
+    let end = "> show 0\n       0      1      2      3\n0  23503      .      .      .\n1      .      .      .  12402\n\
+               2      .  14053      .      .\n3  11202      .      .      .\n4      .      .  10151      .\n\
+               > read 0 0 0\n23503\n";
+    assert_eq!(ending("no_mask"), end);
 }
 
 #[test]
 fn an_overwrite_loses_it() {
-    let end = "> show 0\n       0     1  2  3\n0      .     .  .  .\n1      .     .  .  .\n2      .  8301  .  .\n\
+    let end = "> show 0\n       0     1  2  3\n0  23503     .  .  .\n1      .     .  .  .\n2      .  8301  .  .\n\
                3  11202     .  .  .\n4      .     .  .  .\n> read 0 2 1\n8301\n> read 0 1 3\nempty\n";
-    assert_eq!(story("overwrite.txt"), end);
+    assert_eq!(ending("overwrite"), end);
 }

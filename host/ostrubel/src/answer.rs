@@ -24,7 +24,7 @@ pub fn found(answer: u64) -> Result<Found, Error> {
     })
 }
 
-/// The codes are 0 to 13: no other can be answered.
+/// The codes are 0 to 13 and 15: no other can be answered.
 fn accepted(answer: u64) -> Result<(), Error> {
     match (answer & 255) as u32 {
         0 => Ok(()),

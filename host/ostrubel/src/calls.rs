@@ -22,6 +22,9 @@ mod c {
         pub fn ostrubel_store_set_cell(slot: usize, i: u32, j: u32, value: u32, store: *mut u32, n: usize) -> u64;
         pub fn ostrubel_store_clear_cell(slot: usize, i: u32, j: u32, store: *mut u32, n: usize) -> u64;
         pub fn ostrubel_store_read_cell(slot: usize, i: u32, j: u32, store: *const u32, n: usize) -> u64;
+        pub fn ostrubel_read_file(bytes: *const u8, bytes_n: usize, words: *mut u32, n: usize) -> u64;
+        pub fn ostrubel_write_file(words: *const u32, n: usize, bytes: *mut u8, bytes_n: usize) -> u64;
+        pub fn ostrubel_write_text(words: *const u32, n: usize, bytes: *mut u8, bytes_n: usize) -> u64;
     }
 }
 
@@ -83,6 +86,21 @@ pub fn store_clear_cell(slot: usize, i: u32, j: u32, store: &mut [u32]) -> u64 {
 /// The cell at row i and column j of a slot's matrix.
 pub fn store_read_cell(slot: usize, i: u32, j: u32, store: &[u32]) -> u64 {
     unsafe { c::ostrubel_store_read_cell(slot, i, j, store.as_ptr(), store.len()) }
+}
+
+/// The matrix of a file at the front of the words.
+pub fn read_file(bytes: &[u8], words: &mut [u32]) -> u64 {
+    unsafe { c::ostrubel_read_file(bytes.as_ptr(), bytes.len(), words.as_mut_ptr(), words.len()) }
+}
+
+/// The file of a matrix at the front of the bytes.
+pub fn write_file(words: &[u32], bytes: &mut [u8]) -> u64 {
+    unsafe { c::ostrubel_write_file(words.as_ptr(), words.len(), bytes.as_mut_ptr(), bytes.len()) }
+}
+
+/// The text of a matrix at the front of the bytes. The upper word of the answer is how many bytes were written.
+pub fn write_text(words: &[u32], bytes: &mut [u8]) -> u64 {
+    unsafe { c::ostrubel_write_text(words.as_ptr(), words.len(), bytes.as_mut_ptr(), bytes.len()) }
 }
 
 /// An operation on lent matrices and on a store: the C functions and a safe function for each. In brackets: its

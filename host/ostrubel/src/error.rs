@@ -1,7 +1,8 @@
 //! Refusals.
 
 use crate::limits::{
-    MAX_COLS, MAX_ENTRIES, MAX_INDEXES, MAX_ROWS, MAX_STORE_WORDS, MIN_STORE_WORDS, SLOTS, WORKSPACE_WORDS,
+    MAX_COLS, MAX_ENTRIES, MAX_FILE_BYTES, MAX_INDEXES, MAX_ROWS, MAX_STORE_WORDS, MIN_STORE_WORDS, SLOTS,
+    WORKSPACE_WORDS,
 };
 use std::borrow::Cow;
 use std::fmt;
@@ -51,11 +52,13 @@ pub enum Error {
     InvalidStore = 12,
     /// 13: a slot that must have a matrix is empty.
     EmptySlot = 13,
+    /// 15: bytes that are no file: their number is not that of a matrix's file, or they are no valid matrix.
+    InvalidFile = 15,
 }
 
 impl Error {
     /// All refusals, in the order of their numbers.
-    pub const ALL: [Error; 13] = [
+    pub const ALL: [Error; 14] = [
         Error::FlagsOutOfRange,
         Error::UnknownOperator,
         Error::InvalidFirst,
@@ -69,9 +72,10 @@ impl Error {
         Error::InsufficientSpace,
         Error::InvalidStore,
         Error::EmptySlot,
+        Error::InvalidFile,
     ];
 
-    /// The refusal's number, 1 to 13.
+    /// The refusal's number, 1 to 13 or 15.
     pub const fn number(self) -> u32 {
         self as u32
     }
@@ -129,6 +133,11 @@ impl Error {
             )
             .into(),
             Error::EmptySlot => "The place holds no sheet: lay one there first.".into(),
+            Error::InvalidFile => format!(
+                "This is no sheet file, or it is damaged or cut short: a sheet file has exactly its sheet's bytes, at most \
+                 {MAX_FILE_BYTES}; take a sound copy of it."
+            )
+            .into(),
         }
     }
 }

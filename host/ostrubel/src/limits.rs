@@ -27,5 +27,11 @@ pub const MAX_MATRIX_WORDS: usize = MAX_ROWS as usize + 2 * MAX_ENTRIES + 7;
 /// The words that an operation needs to work in: three of the largest matrices. `Matrix` and `Store` provide them.
 pub const WORKSPACE_WORDS: usize = 3 * MAX_MATRIX_WORDS;
 
+/// The bytes of the largest file: four for each word of the largest matrix.
+pub const MAX_FILE_BYTES: usize = 4 * MAX_MATRIX_WORDS;
+
+/// The bytes of the largest text: the line `1000 1000 2048`, and 2,048 lines such as `100 100 -2147483648`.
+pub const MAX_TEXT_BYTES: usize = 15 + 20 * MAX_ENTRIES;
+
 /// Bytes of stack that are enough for any of the library's calls ([`calls`](crate::calls)), at the largest shapes too.
 pub const STACK_BYTES: usize = 48 << 10;

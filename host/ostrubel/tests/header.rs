@@ -37,6 +37,8 @@ fn limits() {
         ("MAX_MATRIX_WORDS", ostrubel::MAX_MATRIX_WORDS),
         ("MIN_WORKSPACE_WORDS", ostrubel::WORKSPACE_WORDS),
         ("STACK_BYTES", ostrubel::STACK_BYTES),
+        ("MAX_FILE_BYTES", ostrubel::MAX_FILE_BYTES),
+        ("MAX_TEXT_BYTES", ostrubel::MAX_TEXT_BYTES),
     ];
     for (name, limit) in limits {
         assert_eq!(number(name).map(|number| number as usize), Some(limit), "{name}");

@@ -210,7 +210,7 @@ fn numbers_that_the_types_rule_out() -> Result<(), Error> {
 
 #[test]
 fn errors_have_numbers_and_sentences() {
-    assert_eq!(Error::ALL.map(Error::number), [1, 2, 3, 4, 5, 6, 7, 8, 9, 10, 11, 12, 13]);
+    assert_eq!(Error::ALL.map(Error::number), [1, 2, 3, 4, 5, 6, 7, 8, 9, 10, 11, 12, 13, 15]);
     for error in Error::ALL {
         assert_eq!(Error::from_number(error.number()), Some(error));
         let sentence = error.to_string();
@@ -228,6 +228,7 @@ fn sentences_have_the_limits() {
         (Error::InvalidShape, "a sheet has 1 to 1000 rows and 1 to 1000 columns, "),
         (Error::WorkspaceTooShort, "at least 15309 words."),
         (Error::TooManyEntries, "more than 2048 entries: "),
+        (Error::InvalidFile, "at most 20412; "),
         (Error::InvalidStore, "not one of 0 to 7, or the shelf is damaged or not 8 to 16384 words long: "),
     ] {
         assert!(error.to_string().contains(part), "{error}");

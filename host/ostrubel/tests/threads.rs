@@ -2,7 +2,8 @@
 
 use ostrubel::calls::{self, OptionNumbers};
 use ostrubel::{Error, Matrix, Store};
-use ostrubel::{MAX_COLS, MAX_ENTRIES, MAX_MATRIX_WORDS, MAX_ROWS, MAX_STORE_WORDS, STACK_BYTES, WORKSPACE_WORDS};
+use ostrubel::{MAX_COLS, MAX_ENTRIES, MAX_FILE_BYTES, MAX_MATRIX_WORDS, MAX_ROWS, MAX_STORE_WORDS, MAX_TEXT_BYTES};
+use ostrubel::{STACK_BYTES, WORKSPACE_WORDS};
 use std::thread;
 
 const PLUS: u32 = 3;
@@ -29,6 +30,8 @@ struct Buffers {
     rows: Vec<u32>,
     cols: Vec<u32>,
     work: Vec<u32>,
+    file: Vec<u8>,
+    text: Vec<u8>,
 }
 
 /// A matrix of the largest shape with so many entries; which ones and their values go by the seed.
@@ -63,12 +66,15 @@ impl Buffers {
             rows: (0..MAX_ROWS).rev().collect(),
             cols: (0..MAX_COLS).map(|k| k * 7 % MAX_COLS).collect(),
             work: vec![9; WORKSPACE_WORDS],
+            file: vec![0; MAX_FILE_BYTES],
+            text: vec![0; MAX_TEXT_BYTES],
         })
     }
 
     /// Every call once; its answers.
     fn run(&mut self) -> Vec<u64> {
         let mut answers = self.lent_calls();
+        answers.extend(self.file_calls());
         answers.extend(self.store_calls());
         answers
     }
@@ -90,6 +96,11 @@ impl Buffers {
             calls::extract(TRANSPOSED, a, rows, cols, mask, c, work),
             calls::new_empty(MAX_ROWS, MAX_COLS, c_row),
         ]
+    }
+
+    fn file_calls(&mut self) -> Vec<u64> {
+        let Buffers { a, c, file, text, .. } = self;
+        vec![calls::write_file(a, file), calls::read_file(file, c), calls::write_text(c, text)]
     }
 
     fn store_calls(&mut self) -> Vec<u64> {

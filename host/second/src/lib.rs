@@ -5,13 +5,14 @@
 //! `calls` says what a call is; `operators`, `grid`, `model`, `lent` and `store_grids` are the model, with
 //! places for the planted faults of `fault`; `generate*` makes calls, `full_rows` those on each cell of a row; `ffi` and
 //! `library` carry them out; `compare` finds differences; `shrink` and `describe` show a small failing case. `merges` merges
-//! sheets in several orders.
+//! sheets in several orders; `files` reads and writes files and texts, `program` runs the program that prints them.
 
 pub mod calls;
 pub mod compare;
 pub mod describe;
 pub mod fault;
 mod ffi;
+pub mod files;
 pub mod full_rows;
 mod generate;
 pub mod generate_lent;
@@ -22,6 +23,7 @@ pub mod library;
 pub mod merges;
 pub mod model;
 mod operators;
+pub mod program;
 pub mod rng;
 pub mod shrink;
 pub mod store_grids;

@@ -7,20 +7,21 @@ use second::compare::{judge_lent, judge_list, see_lent, see_list, Seen};
 use second::fault::{self, Fault};
 use second::model::{Model, SOUND};
 use second::rng::Rng;
-use second::{describe, full_rows, generate_lent, generate_store, merges, shrink};
+use second::{describe, files, full_rows, generate_lent, generate_store, merges, program, shrink};
 use std::collections::{BTreeMap, BTreeSet};
 use std::process::ExitCode;
 use std::time::Instant;
 
 const USAGE: &str = "\
-second [--seed N] [--calls N] [--lists N] [--faults] [--fault N]
+second [--seed N] [--calls N] [--lists N] [--faults] [--fault N] [--program PATH]
 
-Compares the library with a model on each cell of some rows, on random calls, and on sheets merged in several orders.
+Compares the library with a model on each cell of some rows, on random calls, and on sheets merged in several orders and carried in files.
   --seed N    the seed of all random choices (1)
   --calls N   calls on lent sheets (200000; 40000 with --faults)
   --lists N   lists of calls on a store, of about 15 calls (a twentieth of the calls)
   --faults    plants each fault in the model and demands that it is noticed
-  --fault N   plants one fault, and shows the shrunk case that notices it";
+  --fault N   plants one fault, and shows the shrunk case that notices it
+  --program PATH   runs the program that prints a file of standard input, and nothing else";
 
 struct Arguments {
     seed: u64,
@@ -28,12 +29,18 @@ struct Arguments {
     lists: u64,
     faults: bool,
     fault: Fault,
+    program: Option<String>,
 }
 
 fn arguments() -> Result<Arguments, String> {
     let (mut seed, mut calls, mut lists, mut faults, mut planted) = (1, None, None, false, Fault::None);
+    let mut program = None;
     let mut given = std::env::args().skip(1);
     while let Some(name) = given.next() {
+        if name == "--program" {
+            program = Some(given.next().ok_or("--program wants a path")?);
+            continue;
+        }
         let mut number = || -> Result<u64, String> {
             let text = given.next().ok_or(format!("{name} wants a number"))?;
             text.parse().map_err(|_| format!("{name} wants a number and not {text}"))
@@ -53,7 +60,7 @@ fn arguments() -> Result<Arguments, String> {
         }
     }
     let calls = calls.unwrap_or(if faults { 40_000 } else { 200_000 });
-    Ok(Arguments { seed, calls, lists: lists.unwrap_or(calls / 20), faults, fault: planted })
+    Ok(Arguments { seed, calls, lists: lists.unwrap_or(calls / 20), faults, fault: planted, program })
 }
 
 fn main() -> ExitCode {
@@ -66,8 +73,23 @@ fn main() -> ExitCode {
             eprintln!("{text}");
             ExitCode::from(2)
         }
+        Ok(Arguments { program: Some(program), seed, .. }) => run_program(&program, seed),
         Ok(arguments) if arguments.faults => plant_faults(&arguments),
         Ok(arguments) => compare_all(&arguments),
+    }
+}
+
+/// The program that prints a file.
+fn run_program(path: &str, seed: u64) -> ExitCode {
+    match program::judge(path, seed, 200) {
+        Ok(count) => {
+            println!("{path}: {count} inputs, each printed as it should be");
+            ExitCode::SUCCESS
+        }
+        Err(text) => {
+            println!("{text}");
+            ExitCode::FAILURE
+        }
     }
 }
 
@@ -159,6 +181,7 @@ fn compare_all(arguments: &Arguments) -> ExitCode {
     let all = || {
         compare_rows(arguments)?;
         compare_merges(arguments)?;
+        compare_files(arguments)?;
         compare_random(arguments)
     };
     match all() {
@@ -192,6 +215,19 @@ fn compare_merges(arguments: &Arguments) -> Result<(), Disagreement> {
         }
     }
     println!("seed {seed}: {lists} lists of sheets merged in two orders and one again: no disagreement");
+    Ok(())
+}
+
+/// Files and texts; as many as lists of calls.
+fn compare_files(arguments: &Arguments) -> Result<(), Disagreement> {
+    let &Arguments { seed, lists, .. } = arguments;
+    for number in 0..lists {
+        if let Err(text) = files::case(&mut Rng::of_case(seed, 4, number)).judge(files::Slip::None) {
+            println!("seed {seed}, file {number}: {text}");
+            return Err(Disagreement);
+        }
+    }
+    println!("seed {seed}: {lists} files read, and sheets written as files and as texts: no disagreement");
     Ok(())
 }
 

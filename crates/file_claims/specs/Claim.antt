@@ -1,0 +1,70 @@
+-- Document 02, A1: "Reading what was written gives the words back; each accepted file is what the writer gives." So a grid
+-- has one file.
+--
+-- The calls are `files::read_file` and `files::write_file`, and what they do is taken from their own contracts, by name:
+-- `Reads.Learnt` is what a caller learns when the function returns.
+use Prim.Native.Nat.{ℕ, _*_, _≤_}
+use mathlib.Core.Path.{_≡_}
+use mathlib.Core.Bool.{true}
+use mathlib.Core.List.{List, _++_}
+use lib.ListN.{length, take, drop}
+use contract.Lifetimes.{Lfts}
+use denote.Ref.{RefT}
+use borrow.Fn.Picked.{KnownAs}
+use Rattle.answers.specs.declared.Answer.{Answer}
+use Rattle.words.specs.Lent.{Address, lent}
+use Rattle.grid.specs.Grid.{Same}
+use Rattle.matrix.specs.Layout.{size, entries, gridOf}
+use Rattle.matrix.specs.Valid.{valid}
+use Rattle.encoding.specs.OneWriting.{AreWords, matrixWords}
+use Rattle.word_bytes.specs.Bytes.{AreBytes}
+use Rattle.files.proofs.read_file.Reads as read-file-reads
+use Rattle.files.proofs.read_file.Statement as read-file-statement
+use Rattle.files.proofs.read_file.Kinds as read-file-kinds
+use Rattle.files.proofs.write_file.Reads as write-file-reads
+use Rattle.files.proofs.write_file.Statement as write-file-statement
+use Rattle.files.proofs.write_file.Kinds as write-file-kinds
+
+-- the bytes f are read into the words w, which are w′ afterwards
+pub data Reading (f w : List ℕ) (answer : Answer) (w′ : List ℕ) : Type 0 where
+  reading : (p q : Address) (κs : Lfts 2)
+      → read-file-reads.Learnt κs (lent p f, (lent q w, tt)) answer (lent p f, (lent q w′, tt))
+      → Reading f w answer w′
+
+-- the matrix in the words s is written into the bytes b, which are b′ afterwards
+pub data Writing (s b : List ℕ) (answer : Answer) (b′ : List ℕ) : Type 0 where
+  writing : (p q : Address) (κs : Lfts 2)
+      → write-file-reads.Learnt κs (lent p s, (lent q b, tt)) answer (lent p s, (lent q b′, tt))
+      → Writing s b answer b′
+
+-- the file at the front of the bytes that the matrix in the words s was written into
+abbrev pub written : List ℕ → List ℕ → List ℕ
+written s b′ = take (size s * 4) b′
+
+-- `AreWords` and `AreBytes` are what the types `&[u32]` and `&[u8]` say of lent slices, and a list of numbers does not.
+pub record OneFile : Type 3 where
+  -- both functions meet their contracts, a caller learns what these say, and has nothing to show
+  pub read-met : {M : Type 1} → read-file-statement.statement M
+  pub read-known : KnownAs 2 read-file-kinds.ps read-file-kinds.r read-file-reads.Ghost read-file-reads.requires
+      read-file-reads.ensures read-file-reads.Asked read-file-reads.Learnt
+  pub read-free : (κs : Lfts 2) (f w : RefT (List ℕ)) → read-file-reads.Asked κs (f, (w, tt))
+  pub write-met : {M : Type 1} → write-file-statement.statement M
+  pub write-known : KnownAs 2 write-file-kinds.ps write-file-kinds.r write-file-reads.Ghost write-file-reads.requires
+      write-file-reads.ensures write-file-reads.Asked write-file-reads.Learnt
+  pub write-free : (κs : Lfts 2) (s b : RefT (List ℕ)) → write-file-reads.Asked κs (s, (b, tt))
+  -- "Reading what was written gives the words back", and answers alike; the words behind stay
+  pub words-back : {s b b′ w w′ : List ℕ} {x y : Answer} → AreWords s → Writing s b x b′ → x .code ≡ 0
+      → Reading (written s b′) w y w′ → size s ≤ length w
+      → (y ≡ x) × (w′ ≡ matrixWords s ++ drop (size s) w)
+  -- what an accepted file leaves is a valid matrix
+  pub valid-read : {f w w′ : List ℕ} {x : Answer} → Reading f w x w′ → x .code ≡ 0
+      → (valid w′ ≡ true) × (x .entries ≡ entries w′) × (length f ≡ size w′ * 4)
+  -- "each accepted file is what the writer gives": for what was read from it, with the same answer
+  pub file-back : {f w w′ b b′ : List ℕ} {x y : Answer} → AreBytes f → Reading f w x w′ → x .code ≡ 0
+      → Writing w′ b y b′ → length f ≤ length b
+      → (y ≡ x) × (b′ ≡ f ++ drop (length f) b)
+  -- a grid has one file: accepted files that hold it are the same bytes, and so are those that are written of it
+  pub one-file : {f g w w′ v v′ : List ℕ} {x y : Answer} → AreBytes f → AreBytes g
+      → Reading f w x w′ → x .code ≡ 0 → Reading g v y v′ → y .code ≡ 0 → Same (gridOf w′) (gridOf v′) → f ≡ g
+  pub one-written : {s t b b′ c c′ : List ℕ} {x y : Answer} → Writing s b x b′ → x .code ≡ 0
+      → Writing t c y c′ → y .code ≡ 0 → Same (gridOf s) (gridOf t) → written s b′ ≡ written t c′

@@ -1,0 +1,72 @@
+-- Document 01's strip as a file, computed: what is read and written, and what is refused.
+use Prim.Native.Nat.{ℕ}
+use mathlib.Core.Path.{_≡_, refl}
+use mathlib.Core.List.{List, [], _∷_, _++_}
+use mathlib.Core.Bool.{true, false}
+use lib.ListN.{take, replicate}
+use Rattle.conditions.specs.Tests.{_and_, all}
+use Rattle.limits.specs.Ranges.{inRange}
+use Rattle.answers.specs.Refusals.{accepted, refused}
+use Rattle.matrix.specs.Valid.{headerValid, startsValid, rowsValid, valid}
+use Rattle.word_bytes.specs.Bytes.{bytesOf, wordsOf}
+use Rattle.files.specs.File.{fileOf, fileValid, fileBytes, takenAnswer, takenWords, writtenAnswer, writtenBytes}
+
+-- 1 by 4 with 10, 20 and 40 at columns 0, 1 and 3
+abbrev strip : List ℕ
+strip = 2 ∷ 1 ∷ 4 ∷ 2 ∷ 0 ∷ 3 ∷ 3 ∷ 0 ∷ 1 ∷ 3 ∷ 3 ∷ 10 ∷ 20 ∷ 40 ∷ []
+
+abbrev file : List ℕ
+file = bytesOf strip
+
+-- 56 bytes that are a file; a word more, a byte more and a byte less are not
+strip-file : fileValid file ≡ true
+unfolding fileOf valid headerValid startsValid rowsValid _and_ all inRange bytesOf wordsOf
+strip-file = refl
+
+word-more : fileValid (file ++ (0 ∷ 0 ∷ 0 ∷ 0 ∷ [])) ≡ false
+unfolding fileOf valid headerValid startsValid rowsValid _and_ all inRange bytesOf wordsOf
+word-more = refl
+
+byte-more : fileValid (file ++ (0 ∷ [])) ≡ false
+unfolding fileOf valid headerValid startsValid rowsValid _and_ all inRange bytesOf wordsOf
+byte-more = refl
+
+byte-less : fileValid (take 55 file) ≡ false
+unfolding fileOf valid headerValid startsValid rowsValid _and_ all inRange bytesOf wordsOf
+byte-less = refl
+
+-- nothing at all
+no-bytes : fileValid [] ≡ false
+unfolding fileOf valid headerValid startsValid rowsValid _and_ all inRange wordsOf
+no-bytes = refl
+
+-- 15 before 11: no file, and no room for anything
+no-file-first : takenAnswer 0 (wordsOf []) 0 ≡ refused 15
+unfolding takenAnswer fileOf valid headerValid startsValid rowsValid _and_ all inRange wordsOf
+no-file-first = refl
+
+-- a word too few; exactly enough, with the word behind kept
+words-short : takenAnswer 56 (wordsOf file) 13 ≡ refused 11
+unfolding takenAnswer fileOf valid headerValid startsValid rowsValid _and_ all inRange bytesOf wordsOf
+words-short = refl
+
+read-over : takenWords 56 (wordsOf file) (replicate 15 9) ≡ strip ++ (9 ∷ [])
+unfolding takenWords takenAnswer fileOf valid headerValid startsValid rowsValid _and_ all inRange bytesOf wordsOf
+read-over = refl
+
+-- the writer: 3 before 11; a byte too few; spare words are not written, and the byte behind stays
+no-matrix-first : writtenAnswer (1 ∷ []) 0 ≡ refused 3
+unfolding writtenAnswer valid headerValid startsValid rowsValid _and_ all inRange
+no-matrix-first = refl
+
+bytes-short : writtenAnswer strip 55 ≡ refused 11
+unfolding writtenAnswer valid headerValid startsValid rowsValid _and_ all inRange
+bytes-short = refl
+
+written : writtenAnswer strip 56 ≡ accepted 3
+unfolding writtenAnswer valid headerValid startsValid rowsValid _and_ all inRange
+written = refl
+
+write-over : writtenBytes (strip ++ (7 ∷ 7 ∷ [])) (replicate 57 9) ≡ file ++ (9 ∷ [])
+unfolding writtenBytes writtenAnswer valid headerValid startsValid rowsValid _and_ all inRange bytesOf
+write-over = refl

@@ -1,0 +1,4 @@
+pub mod RowLines
+pub mod Lengths
+pub mod Room
+pub mod Cases
