@@ -48,6 +48,7 @@ extern "C" {
 #define OSTRUBEL_MAX_ENTRIES 2048
 #define OSTRUBEL_MAX_INDEXES 1000
 #define OSTRUBEL_SLOTS 8
+#define OSTRUBEL_MAX_ALLOWANCE 1000 /* rounds of ostrubel_open_doors */
 
 /* Codes of answers. */
 enum {
@@ -249,6 +250,25 @@ uint64_t ostrubel_store_extract(uint32_t flags, uint32_t has_mask, uint32_t has_
                                 size_t a, size_t mask, size_t c, uint32_t *store, size_t store_len,
                                 const uint32_t *is, size_t is_len, const uint32_t *js, size_t js_len, uint32_t *work,
                                 size_t work_len);
+
+/* ---- Keys behind doors ---- */
+
+/*
+ * The doors that open within an allowance of rounds: a new 1 by doors matrix at the front of out, whatever was there, in
+ * which each door that opens has the first round it opens in. An entry counts whatever its value, also 0.
+ *   allowance  0 to 1,000 rounds; one beyond the number of keys adds nothing
+ *   locks      keys by doors: the key opens the door
+ *   cabinets   doors by keys: the key is behind the door
+ *   hand       1 by keys: the keys in hand
+ *   out        2 times the doors that open and 8 words are needed
+ *   work       at least 15,309 words, any words; all zeros after the call
+ * In round 0 the keys in hand open doors; in each later round those, and the keys behind doors that were open in the
+ * round before. The answer's entries are the doors. Refused by 3 (locks), 4 (cabinets), 5 (hand), 7 (an allowance above
+ * 1,000), 8, 9, 11.
+ */
+uint64_t ostrubel_open_doors(uint32_t allowance, const uint32_t *locks, size_t locks_len, const uint32_t *cabinets,
+                             size_t cabinets_len, const uint32_t *hand, size_t hand_len, uint32_t *out,
+                             size_t out_len, uint32_t *work, size_t work_len);
 
 #ifdef __cplusplus
 }

@@ -37,7 +37,7 @@ use Rattle.exports.proofs.Codes.{
   store-read-small,
 }
 
-unpacked : (r : ℕ) (a : Answer) → r ≡ packed a → a .code < codeLimit → Unpacked r a
+pub unpacked : (r : ℕ) (a : Answer) → r ≡ packed a → a .code < codeLimit → Unpacked r a
 unpacked r a e h = record { code = omega arith; entries = omega arith }
 
 unpacked-cell : (r : ℕ) (a : CellAnswer) → r ≡ packedCell a → a .code < codeLimit → UnpackedCell r a

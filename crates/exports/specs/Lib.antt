@@ -1,3 +1,4 @@
 pub mod Packing
 pub mod Exported
 pub mod Unpacked
+pub mod Doors

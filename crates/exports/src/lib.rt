@@ -23,6 +23,7 @@ ghost use Rattle.model.specs.Calls.{newEmpty, dropSlot, setCell, clearCell, rea
 ghost use Rattle.exports.specs.Packing.{packed, packedCell, presentBit, packedPlace, secondBit, SmallPlace, codeLimit};
 ghost use Rattle.exports.specs.Exported.{optionsOf, rolesNamed, sectionOf};
 ghost use Rattle.exports.specs.Exported.{LentCreated, LentCompleted, StorePerformed, StoreRead};
+ghost use Rattle.exports.specs.Doors.{LentDoors};
 
 // In the answer of a read, what stands for a cell that is present.
 const PRESENT: u64 = 256;
@@ -661,4 +662,20 @@ fn options_of(flags: u32, has_mask: u32, has_accumulator: u32, accumulator: u32)
         has_accumulator: has_accumulator != 0,
         accumulator: accumulator,
     }
+}
+
+// "Keys behind doors": the doors that open within an allowance of rounds, as a vector in `out`.
+#[no_mangle]
+pub extern "C" fn ostrubel_open_doors(
+    allowance: u32,
+    locks: &[u32],
+    cabinets: &[u32],
+    hand: &[u32],
+    out: &mut [u32],
+    work: &mut [u32],
+) -> u64
+    ensures { λ r. ⌜ LentDoors allowance (now (locks .entry)) (now (cabinets .entry)) (now (hand .entry))
+        (now (out .entry)) (now (work .entry)) r (now (out .exit)) (now (work .exit)) ⌝ }
+{
+    pack(key_calls::open_doors(allowance, locks, cabinets, hand, out, work))
 }

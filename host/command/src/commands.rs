@@ -16,12 +16,13 @@ pub enum Command {
     EwiseAdd,
     Apply,
     Extract,
+    Doors,
     Run,
     Help,
 }
 
 impl Command {
-    pub const ALL: [Command; 16] = [
+    pub const ALL: [Command; 17] = [
         Command::New,
         Command::Lay,
         Command::Drop,
@@ -36,6 +37,7 @@ impl Command {
         Command::EwiseAdd,
         Command::Apply,
         Command::Extract,
+        Command::Doors,
         Command::Run,
         Command::Help,
     ];
@@ -56,6 +58,7 @@ impl Command {
             Command::EwiseAdd => "eWiseAdd",
             Command::Apply => "apply",
             Command::Extract => "extract",
+            Command::Doors => "doors",
             Command::Run => "run",
             Command::Help => "help",
         }
@@ -73,6 +76,7 @@ impl Command {
             Command::Mxm | Command::EwiseMult | Command::EwiseAdd => &["C", "A", "B"],
             Command::Vxm => &["C", "U", "A"],
             Command::Apply | Command::Extract => &["C", "A"],
+            Command::Doors => &["LOCKS", "CABINETS", "HAND", "ALLOWANCE"],
             Command::Run => &["SCRIPT"],
         }
     }

@@ -2,7 +2,9 @@
 
 use crate::commands::Command;
 use crate::{script, shelf_file};
-use ostrubel::{Error, MAX_COLS, MAX_ENTRIES, MAX_INDEXES, MAX_ROWS, MAX_STORE_WORDS, MIN_STORE_WORDS, SLOTS};
+use ostrubel::{
+    Error, MAX_ALLOWANCE, MAX_COLS, MAX_ENTRIES, MAX_INDEXES, MAX_ROWS, MAX_STORE_WORDS, MIN_STORE_WORDS, SLOTS,
+};
 
 const PAGE_WIDTH: usize = 98;
 
@@ -16,6 +18,7 @@ fn filled(text: &str) -> String {
         ("{MAX_COLS}", MAX_COLS as usize),
         ("{MAX_ENTRIES}", MAX_ENTRIES),
         ("{MAX_INDEXES}", MAX_INDEXES),
+        ("{MAX_ALLOWANCE}", MAX_ALLOWANCE as usize),
         ("{LAST_PLACE}", SLOTS - 1),
         ("{MIN_WORDS}", MIN_STORE_WORDS),
         ("{MAX_WORDS}", MAX_STORE_WORDS),
@@ -74,6 +77,7 @@ fn command_text(command: Command) -> &'static str {
         Command::EwiseAdd => include_str!("help/ewise_add.txt"),
         Command::Apply => include_str!("help/apply.txt"),
         Command::Extract => include_str!("help/extract.txt"),
+        Command::Doors => include_str!("help/doors.txt"),
         Command::Run => include_str!("help/run.txt"),
         Command::Help => include_str!("help/overview.txt"),
     }

@@ -2,7 +2,9 @@
 
 use ostrubel::calls::{self, OptionNumbers};
 use ostrubel::{Error, Matrix, Store};
-use ostrubel::{MAX_COLS, MAX_ENTRIES, MAX_MATRIX_WORDS, MAX_ROWS, MAX_STORE_WORDS, STACK_BYTES, WORKSPACE_WORDS};
+use ostrubel::{
+    MAX_ALLOWANCE, MAX_COLS, MAX_ENTRIES, MAX_MATRIX_WORDS, MAX_ROWS, MAX_STORE_WORDS, STACK_BYTES, WORKSPACE_WORDS,
+};
 use std::thread;
 
 const PLUS: u32 = 3;
@@ -29,6 +31,16 @@ struct Buffers {
     rows: Vec<u32>,
     cols: Vec<u32>,
     work: Vec<u32>,
+    corridor: [Vec<u32>; 3],
+    doors: Vec<u32>,
+}
+
+/// Key k opens door k, and key k + 1 is behind it; key 0 is in hand. So each door takes a round.
+fn corridor() -> Result<[Vec<u32>; 3], Error> {
+    let locks = Matrix::from_triples(MAX_ROWS, MAX_COLS, (0..MAX_ROWS).map(|k| (k, k, 0)))?;
+    let cabinets = Matrix::from_triples(MAX_ROWS, MAX_COLS, (1..MAX_ROWS).map(|k| (k - 1, k, 0)))?;
+    let hand = Matrix::from_triples(1, MAX_ROWS, [(0, 0, 0)])?;
+    Ok([locks, cabinets, hand].map(Matrix::into_words))
 }
 
 /// A matrix of the largest shape with so many entries; which ones and their values go by the seed.
@@ -63,6 +75,8 @@ impl Buffers {
             rows: (0..MAX_ROWS).rev().collect(),
             cols: (0..MAX_COLS).map(|k| k * 7 % MAX_COLS).collect(),
             work: vec![9; WORKSPACE_WORDS],
+            corridor: corridor()?,
+            doors: vec![7; MAX_MATRIX_WORDS],
         })
     }
 
@@ -70,7 +84,13 @@ impl Buffers {
     fn run(&mut self) -> Vec<u64> {
         let mut answers = self.lent_calls();
         answers.extend(self.store_calls());
+        answers.push(self.doors_call());
         answers
+    }
+
+    fn doors_call(&mut self) -> u64 {
+        let Buffers { corridor: [locks, cabinets, hand], doors, work, .. } = self;
+        calls::open_doors(MAX_ALLOWANCE, locks, cabinets, hand, doors, work)
     }
 
     fn lent_calls(&mut self) -> Vec<u64> {

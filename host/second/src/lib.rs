@@ -5,11 +5,12 @@
 //! `calls` says what a call is; `operators`, `grid`, `model`, `lent` and `store_grids` are the model, with
 //! places for the planted faults of `fault`; `generate*` makes calls, `full_rows` those on each cell of a row; `ffi` and
 //! `library` carry them out; `compare` finds differences; `shrink` and `describe` show a small failing case. `merges` merges
-//! sheets in several orders.
+//! sheets in several orders, `doors` asks which doors open within an allowance of rounds.
 
 pub mod calls;
 pub mod compare;
 pub mod describe;
+pub mod doors;
 pub mod fault;
 mod ffi;
 pub mod full_rows;

@@ -7,7 +7,7 @@ use second::compare::{judge_lent, judge_list, see_lent, see_list, Seen};
 use second::fault::{self, Fault};
 use second::model::{Model, SOUND};
 use second::rng::Rng;
-use second::{describe, full_rows, generate_lent, generate_store, merges, shrink};
+use second::{describe, doors, full_rows, generate_lent, generate_store, merges, shrink};
 use std::collections::{BTreeMap, BTreeSet};
 use std::process::ExitCode;
 use std::time::Instant;
@@ -159,6 +159,7 @@ fn compare_all(arguments: &Arguments) -> ExitCode {
     let all = || {
         compare_rows(arguments)?;
         compare_merges(arguments)?;
+        compare_doors(arguments)?;
         compare_random(arguments)
     };
     match all() {
@@ -192,6 +193,23 @@ fn compare_merges(arguments: &Arguments) -> Result<(), Disagreement> {
         }
     }
     println!("seed {seed}: {lists} lists of sheets merged in two orders and one again: no disagreement");
+    Ok(())
+}
+
+/// Keys behind doors; as many calls as lists of calls on a store.
+fn compare_doors(arguments: &Arguments) -> Result<(), Disagreement> {
+    let &Arguments { seed, lists, .. } = arguments;
+    let mut codes: BTreeMap<u32, u64> = BTreeMap::new();
+    for number in 0..lists {
+        match doors::doors(&mut Rng::of_case(seed, 4, number)).judge() {
+            Ok(answer) => *codes.entry(code_of(answer)).or_default() += 1,
+            Err(text) => {
+                println!("seed {seed}, doors {number}: {text}");
+                return Err(Disagreement);
+            }
+        }
+    }
+    println!("seed {seed}: {lists} calls of keys behind doors, by codes {codes:?}: no disagreement");
     Ok(())
 }
 
