@@ -28,7 +28,8 @@ module _ (doors : List ℕ) {oc ov : List ℕ} {n : ℕ} (h : Holds (length door
   pub vector-values : n ≡ length (take n ov)
   vector-values = h .count ∙ sym (gather-row (length doors) (roundAt doors) .even) ∙ sym (ap length (h .values))
 
-module _ (out : List ℕ) {doors oc₀ ov₀ oc ov : List ℕ} {n : ℕ} (r : Room doors oc₀ ov₀) (l : maxMatrixWords ≤ length out)
+module _ (out : List ℕ) {doors oc₀ ov₀ oc ov : List ℕ} {n : ℕ} (r : Room doors oc₀ ov₀)
+    (l : maxMatrixWords ≤ length out)
     (h : Holds (length doors) (roundAt doors) n oc ov) where
   -- the row fits
   pub vector-bounds : RowBounds 1 0 0 (take n oc) (take n ov) out
@@ -51,7 +52,8 @@ module _ (out : List ℕ) {doors oc₀ ov₀ oc ov : List ℕ} {n : ℕ} (r : Ro
 
   vector-staged : Staged (vectorOf doors) 1 n (stagedRow 1 0 0 (take n oc) (take n ov) out)
   vector-staged =
-      let s = staged-more (vectorOf doors) 0 0 (take n oc) (take n ov) out vector-bounds (staged-none (vectorOf doors) out)
+      let s = staged-more (vectorOf doors) 0 0 (take n oc) (take n ov) out vector-bounds
+      (staged-none (vectorOf doors) out)
       (h .columns) (h .values) in
       subst (λ (k : ℕ). Staged (vectorOf doors) 1 k (stagedRow 1 0 0 (take n oc) (take n ov) out))
       (omega (arith, vector-columns doors h)) s
@@ -59,7 +61,8 @@ module _ (out : List ℕ) {doors oc₀ ov₀ oc ov : List ℕ} {n : ℕ} (r : Ro
   pub vector-written : {out₁ out₂ : List ℕ} → out₁ ≡ stagedRow 1 0 0 (take n oc) (take n ov) out
       → length out₁ ≡ length out → out₂ ≡ finished 1 (length doors) n out₁ → Written (vectorOf doors) n out₂
   vector-written {out₁} {out₂} e z f =
-      let s : Staged (vectorOf doors) 1 n out₁ = subst (λ (x : List ℕ). Staged (vectorOf doors) 1 n x) (sym e) vector-staged in
+      let s : Staged (vectorOf doors) 1 n out₁ = subst (λ (x : List ℕ). Staged (vectorOf doors) 1 n x) (sym e)
+      vector-staged in
       record {
         count = s .count;
         words = subst (λ (x : List ℕ). x ≡ writtenOver (vectorOf doors) x) (sym f)

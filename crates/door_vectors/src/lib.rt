@@ -13,8 +13,8 @@ ghost use Rattle.key_requests.specs.Ready.{Ready};
 ghost use Rattle.key_requests.specs.Refusal.{lentDoors};
 ghost use Rattle.door_vectors.specs.Vectors.{roundAt, vectorOf, Room, Written};
 
-// The vector for matrices that fit, with the marks of keys and doors on the stack; its number of entries. `by_questions`
-// chooses the two questions that ask each other, else the product is repeated.
+// The vector for matrices that fit, with the marks of keys and doors on the stack; its number of entries.
+// `by_questions` chooses the two questions that ask each other, else the product is repeated.
 pub fn door_vector(
     by_questions: bool,
     allowance: u32,
@@ -105,7 +105,8 @@ fn write_vector(doors: &[u32], oc: &mut [u32], ov: &mut [u32], out: &mut [u32]) 
     n
 }
 
-// The doors that opened, in order, to the front of `oc`, and the first round of each to that of `ov`; how many they are.
+// The doors that opened, in order, to the front of `oc`, and the first round of each to that of `ov`; how many they
+// are.
 fn gather_doors(doors: &[u32], oc: &mut [u32], ov: &mut [u32]) -> usize
     requires { ⌜ Room (now doors) (now oc) (now ov) ⌝ }
     ensures { λ r. ⌜ Holds (length (now (doors .entry))) (roundAt (now (doors .entry))) r (now (oc .exit))

@@ -7,7 +7,8 @@ use Rattle.answers.specs.declared.Answer.{Answer}
 use Rattle.key_calls.specs.Doors.{Completed}
 use Rattle.exports.specs.Packing.{packed}
 
-pub record LentDoors (allowance : ℕ) (locks cabinets hand out work : List ℕ) (r : ℕ) (out′ work′ : List ℕ) : Type 0 where
+pub record LentDoors (allowance : ℕ) (locks cabinets hand out work : List ℕ) (r : ℕ) (out′ work′ : List ℕ)
+    : Type 0 where
   pub answer : Answer
   pub packed-is : r ≡ packed answer
   pub done : Completed allowance locks cabinets hand out work answer out′ work′

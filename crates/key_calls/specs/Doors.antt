@@ -18,8 +18,8 @@ abbrev pub doorsAnswer : ℕ → List ℕ → List ℕ → List ℕ → ℕ → 
 doorsAnswer allowance locks cabinets hand work room =
     answerFor (doorsRefusal allowance locks cabinets hand work room) (lentDoors allowance locks cabinets hand)
 
--- its buffer: "a new strip of doors .. each with the first round it opens in", and then the spare words as they were; "no
--- old sheet is needed there". Where refused, as it was
+-- its buffer: "a new strip of doors .. each with the first round it opens in", and then the spare words as they were;
+-- "no old sheet is needed there". Where refused, as it was
 pub record Attempted (allowance : ℕ) (locks cabinets hand out : List ℕ) (work : ℕ) (answer : Answer)
     (out′ : List ℕ) : Type 0 where
   pub answer-is : answer ≡ doorsAnswer allowance locks cabinets hand work (length out)

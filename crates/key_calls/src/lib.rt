@@ -1,6 +1,6 @@
-// "Keys behind doors" (document 02, A13) on lent matrices. Any words and any numbers may be lent: a call answers 0 and the
-// number of doors in the vector that it has written, or the lowest refusal that applies and 0. A refused call changes no
-// word but the workspace's, and every call leaves the workspace all zeros.
+// "Keys behind doors" (document 02, A13) on lent matrices. Any words and any numbers may be lent: a call answers 0
+// and the number of doors in the vector that it has written, or the lowest refusal that applies and 0. A refused call
+// changes no word but the workspace's, and every call leaves the workspace all zeros.
 use answers::Answer;
 use answers::INSUFFICIENT_SPACE;
 use matrix::layout::FIXED_WORDS;
@@ -10,9 +10,9 @@ ghost use Rattle.limits.specs.Limits.{maxCols};
 ghost use Rattle.matrix.specs.Layout.{sizeOf};
 ghost use Rattle.key_calls.specs.Doors.{Attempted, Completed, Committed};
 
-// The doors that open within the allowance, each with its first round, as a vector in `out`, whatever that held. `locks`
-// has a row for each key and a column for each door that it opens, `cabinets` a row for each door and a column for each
-// key behind it, and `hand` is the vector of the keys in hand; entries count whatever their value.
+// The doors that open within the allowance, each with its first round, as a vector in `out`, whatever that held.
+// `locks` has a row for each key and a column for each door that it opens, `cabinets` a row for each door and a
+// column for each key behind it, and `hand` is the vector of the keys in hand; entries count whatever their value.
 // Refusals: 3 locks, 4 cabinets, 5 hand, 7 an allowance above 1,000, 8 shapes, 9 the workspace, 11 the buffer.
 pub fn open_doors(
     allowance: u32,

@@ -35,8 +35,8 @@ pub record Alike (answer answer′ : Answer) (out out′ work work′ : List ℕ
   pub outs : out ≡ out′
   pub works : work ≡ work′
 
--- the repeated product and the two questions, called with the same numbers and words, whatever they are, in buffers that
--- may be elsewhere
+-- the repeated product and the two questions, called with the same numbers and words, whatever they are, in buffers
+-- that may be elsewhere
 abbrev pub Equal : Type 0
 Equal =
     (κs λs : Lfts 5) (p q : Places) (n : ℕ) (locks cabinets hand out work out₁ work₁ out₂ work₂ : List ℕ)
@@ -184,8 +184,8 @@ Beyond =
     )
     → Alike answer₁ answer₂ out₁ out₂ work₁ work₂
 
--- the claims, with what makes them claims of the code: each program meets its contract, what a caller learns follows from
--- that, and a caller has nothing to show
+-- the claims, with what makes them claims of the code: each program meets its contract, what a caller learns follows
+-- from that, and a caller has nothing to show
 pub record Programs : Type 3 where
   pub open-met : {M : Type 1} → open-doors-statement.statement M
   pub ask-met : {M : Type 1} → ask-doors-statement.statement M

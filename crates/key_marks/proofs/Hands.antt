@@ -12,7 +12,20 @@ use Rattle.matrix.proofs.Facts.{row-span}
 use Rattle.matrix.proofs.Rows.{row-even}
 use Rattle.key_rounds.specs.Rounds.{filled, _or_, inHand}
 use Rattle.key_rounds.proofs.Rounds.{keys-same, first-same}
-use Rattle.key_marks.specs.Marks.{mark, held, once, has, Below, Stamped, Lent, Asked, HandVector, HandMarked, doorWord, Rounds}
+use Rattle.key_marks.specs.Marks.{
+  mark,
+  held,
+  once,
+  has,
+  Below,
+  Stamped,
+  Lent,
+  Asked,
+  HandVector,
+  HandMarked,
+  doorWord,
+  Rounds,
+}
 use Rattle.key_marks.proofs.Stamps.{mark-zero, mark-stamped, has-lookup}
 use Rattle.key_marks.proofs.Rows.{row-below}
 

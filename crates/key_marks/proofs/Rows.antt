@@ -18,7 +18,8 @@ use Rattle.key_marks.proofs.Stamps.{mark-zero, mark-other, has-lookup, 
 
 -- the column numbers of a row are places
 pub row-below : {m : List ℕ} {n : ℕ} → Matrix m → n ≡ cols m → (i : ℕ) → i < rows m → Below n (rowColumns m i)
-row-below {m} v e i l = record { below = λ p u. omega (arith, e, rising-below (cols m) 0 (rowColumns m i) (v .rising i l) p u) }
+row-below {m} v e i l = record
+    { below = λ p u. omega (arith, e, rising-below (cols m) 0 (rowColumns m i) (v .rising i l) p u) }
 
 -- the columns of the named rows before row i
 abbrev pub before : List ℕ → List ℕ → ℕ → ℕ → Bool

@@ -72,7 +72,8 @@ module _ {s : ℕ} where
   stamped-none hit old h = record { size = refl; word = λ j l. rw (h j) }
 
   -- the same places
-  pub stamped-same : {p q : ℕ → Bool} {old new : List ℕ} → Stamped s p old new → ((j : ℕ) → p j ≡ q j) → Stamped s q old new
+  pub stamped-same : {p q : ℕ → Bool} {old new : List ℕ} → Stamped s p old new → ((j : ℕ) → p j ≡ q j)
+      → Stamped s q old new
   stamped-same {p} {q} h e = record { size = h .size; word = λ j l. rw (← (e j)) (h .word j l) }
 
   -- one place
@@ -103,7 +104,8 @@ has-more : (cols : List ℕ) (p j : ℕ) → p < length cols
 unfolding has _or_
 has-more [] p j l = absurd (omega arith)
 has-more (c ∷ cols) zero j l = sym (or-none (eqb c j))
-has-more (c ∷ cols) (suc p) j l = or-assoc (eqb c j) _ _ ∙ ap (λ (b : Bool). eqb c j or b) (has-more cols p j (omega arith))
+has-more (c ∷ cols) (suc p) j l = or-assoc (eqb c j) _ _ ∙ ap (λ (b : Bool). eqb c j or b)
+    (has-more cols p j (omega arith))
 
 pub has-next : (cols : List ℕ) (p j : ℕ) → p < length cols
     → (has (take p cols) j or eqb (at cols p) j) ≡ has (take (p + 1) cols) j

@@ -46,12 +46,15 @@ module _ {locks cabinets : Grid} {hand : ℕ → Bool} where
     opens = λ d l.
         s .word d (omega (arith, h .doors-size))
         ∙ rw (h .opens d l, reached-same locks (held keys) (keysAfter locks cabinets hand n) d (h .holds), add-one n)
-        (ap (λ (i : ℕ). cond (doorsAfter locks cabinets hand n d) (once i (doorWord (firstBefore locks cabinets hand n d))) (doorWord (firstBefore locks cabinets hand n d))) (sym (add-one n))
+        (ap (λ (i : ℕ). cond (doorsAfter locks cabinets hand n d)
+        (once i (doorWord (firstBefore locks cabinets hand n d))) (doorWord (firstBefore locks cabinets hand n d)))
+        (sym (add-one n))
         ∙ stamp-door n (firstBefore locks cabinets hand n d) (doorsAfter locks cabinets hand n d));
   }
 
   -- the keys behind them are taken
-  pub keys-stamped : {n : ℕ} {keys keys′ doors : List ℕ} → Fitting locks cabinets → Rounds locks cabinets hand n (n + 1) keys doors
+  pub keys-stamped : {n : ℕ} {keys keys′ doors : List ℕ} → Fitting locks cabinets
+      → Rounds locks cabinets hand n (n + 1) keys doors
       → Stamped 1 (reached cabinets (held doors)) keys keys′ → Rounds locks cabinets hand (n + 1) (n + 1) keys′ doors
   keys-stamped {n} {keys} {keys′} {doors} f h s = record {
     keys-size = s .size ∙ h .keys-size;
@@ -59,7 +62,12 @@ module _ {locks cabinets : Grid} {hand : ℕ → Bool} where
     holds = λ k l.
         ap mark (s .word k (omega (arith, h .keys-size)))
         ∙ mark-stamped 1 (at keys k) (reached cabinets (held doors) k) (omega arith)
-        ∙ rw (h .holds k l, reached-same cabinets (held doors) (doorsAfter locks cabinets hand n) k (λ d m. opened d (omega (arith, f .doors))), add-one n)
+        ∙ rw (
+          h .holds k l,
+          reached-same cabinets (held doors) (doorsAfter locks cabinets hand n) k
+              (λ d m. opened d (omega (arith, f .doors))),
+          add-one n,
+        )
         (sym (keys-next locks cabinets hand n k));
     opens = h .opens;
   }

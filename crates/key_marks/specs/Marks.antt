@@ -67,7 +67,8 @@ pub record Lent (locks cabinets keys doors : List ℕ) : Type 0 where
   pub doors-size : length doors ≡ cols locks
   pub shut : (d : ℕ) → d < cols locks → at doors d ≡ 0
 
--- three matrices that fit, the last a vector of the keys in hand, and two buffers with a word for each key and each door
+-- three matrices that fit, the last a vector of the keys in hand, and two buffers with a word for each key and each
+-- door
 pub record Asked (locks cabinets vector keys doors : List ℕ) : Type 0 where
   pub locks-valid : Matrix locks
   pub cabinets-valid : Matrix cabinets

@@ -1,6 +1,6 @@
-// Keys behind doors over matrices in words: a word for each key, not 0 where it is held, and a word for each door, 0 while
-// it is shut and one more than the first round that it opens in. `doors_open` and `keys_held` ask each other; `rounds`
-// repeats the product and stops when no key is added.
+// Keys behind doors over matrices in words: a word for each key, not 0 where it is held, and a word for each door, 0
+// while it is shut and one more than the first round that it opens in. `doors_open` and `keys_held` ask each other;
+// `rounds` repeats the product and stops when no key is added.
 ghost use Prim.Native.Nat.{_+_, _≤_};
 ghost use mathlib.Core.Path.{_≡_};
 ghost use mathlib.Core.Bool.{cond};
@@ -10,7 +10,8 @@ ghost use Rattle.conditions.specs.Tests.{_and_};
 ghost use Rattle.key_rounds.specs.Rounds.{filled, count, reached, inHand};
 ghost use Rattle.matrix.specs.Layout.{rowColumns, cellOf, gridOf};
 ghost use Rattle.matrix.specs.Facts.{Header, RowSpan};
-ghost use Rattle.key_marks.specs.Marks.{mark, held, once, has, Below, Stamped, Stampable, Lent, Asked, HandVector, HandMarked, Rounds};
+ghost use Rattle.key_marks.specs.Marks.{mark, held, once, has, Below, Stamped, Stampable};
+ghost use Rattle.key_marks.specs.Marks.{Lent, Asked, HandVector, HandMarked, Rounds};
 
 // The doors that open within the allowance, from a vector of the keys in hand; whatever the two buffers held.
 pub fn doors_within(

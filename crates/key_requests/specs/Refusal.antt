@@ -1,5 +1,5 @@
--- When "keys behind doors" is refused (document 02, A13): "Damaged sheets, wrong shapes and room use refusals 3 to 5 (the
--- strip is third), 8, 9 and 11; an allowance above 1,000 is 7." The lowest number that applies is given.
+-- When "keys behind doors" is refused (document 02, A13): "Damaged sheets, wrong shapes and room use refusals 3 to 5
+-- (the strip is third), 8, 9 and 11; an allowance above 1,000 is 7." The lowest number that applies is given.
 use Prim.Native.Nat.{ℕ}
 use mathlib.Core.List.{List, [], _∷_, _++_}
 use mathlib.Core.Bool.{Bool, not}

@@ -1,5 +1,5 @@
-// The refusals of "keys behind doors" (document 02, A13) that are looked at before it is worked out: 3 to 5, 7, 8 and 9,
-// in this order.
+// The refusals of "keys behind doors" (document 02, A13) that are looked at before it is worked out: 3 to 5, 7, 8 and
+// 9, in this order.
 use answers::INDEX_OUT_OF_BOUNDS;
 use answers::INVALID_FIRST;
 use answers::INVALID_MASK;
@@ -22,7 +22,8 @@ pub fn input_refusal(
     hand: &[u32],
     work: usize,
 ) -> u32
-    ensures { λ r. ⌜ r ≡ inputRefusal allowance (now (locks .entry)) (now (cabinets .entry)) (now (hand .entry)) work ⌝ }
+    ensures { λ r. ⌜ r ≡ inputRefusal allowance (now (locks .entry)) (now (cabinets .entry)) (now (hand .entry))
+        work ⌝ }
 {
     if !matrix::is_valid(locks) {
         return INVALID_FIRST;

@@ -65,7 +65,12 @@ module _ (locks cabinets : Grid) (hand : ℕ → Bool) where
   settled-next {n} s = record {
     same = λ k l.
         keys-next (suc n) k
-        ∙ rw (s .same k l, reached-same cabinets (doors (suc n)) (doors n) k (λ d m. settled-doors s d), ← (keys-next n k))
+        ∙ rw (
+          s .same k l,
+          reached-same cabinets (doors (suc n)) (doors n) k (λ d m. settled-doors s d),
+          ←
+              (keys-next n k),
+        )
         (s .same k l);
   }
 
@@ -159,8 +164,10 @@ module _ (locks cabinets : Grid) (hand other : ℕ → Bool) (h : (k : ℕ) → 
   keys-same (suc n) k l =
       rw (
         keys-same n k l,
-        reached-same cabinets (reached locks (keysAfter locks cabinets hand n)) (reached locks (keysAfter locks cabinets other n)) k
-            (λ d m. reached-same locks (keysAfter locks cabinets hand n) (keysAfter locks cabinets other n) d (keys-same n)),
+        reached-same cabinets (reached locks (keysAfter locks cabinets hand n))
+            (reached locks (keysAfter locks cabinets other n)) k
+            (λ d m. reached-same locks (keysAfter locks cabinets hand n) (keysAfter locks cabinets other n) d
+            (keys-same n)),
       )
 
   pub first-same : (n d : ℕ) → firstBefore locks cabinets hand n d ≡ firstBefore locks cabinets other n d

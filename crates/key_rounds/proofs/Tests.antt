@@ -40,7 +40,8 @@ unfolding some
 some-same zero p q h = refl
 some-same (suc n) p q h = rw (some-same n p q (λ i l. h i (omega arith)), h n (omega arith))
 
-pub some-grows : (n : ℕ) (p q : ℕ → Bool) → ((i : ℕ) → i < n → p i ≡ true → q i ≡ true) → some n p ≡ true → some n q ≡ true
+pub some-grows : (n : ℕ) (p q : ℕ → Bool) → ((i : ℕ) → i < n → p i ≡ true → q i ≡ true) → some n p ≡ true
+    → some n q ≡ true
 unfolding some
 some-grows zero p q h e = e
 some-grows (suc n) p q h e =
@@ -53,7 +54,8 @@ module _ (g : Grid) (from to : ℕ → Bool) (j : ℕ) where
   reached-same h = some-same (g .rows) _ _ (λ i l. ap (λ (b : Bool). b and filled (g .cell i j)) (h i l))
 
   -- more rows reach more
-  pub reached-grows : ((i : ℕ) → i < g .rows → from i ≡ true → to i ≡ true) → reached g from j ≡ true → reached g to j ≡ true
+  pub reached-grows : ((i : ℕ) → i < g .rows → from i ≡ true → to i ≡ true) → reached g from j ≡ true
+      → reached g to j ≡ true
   unfolding reached
   reached-grows h =
       some-grows (g .rows) _ _

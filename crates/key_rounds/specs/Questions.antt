@@ -1,5 +1,5 @@
--- "the doors' question and the keys' question as two that ask each other". Each asks about the round before; the doors of
--- a round are asked of that round's keys, which are written out.
+-- "the doors' question and the keys' question as two that ask each other". Each asks about the round before; the
+-- doors of a round are asked of that round's keys, which are written out.
 use Prim.Native.Nat.{ℕ, zero, suc}
 use mathlib.Core.Bool.{Bool}
 use Rattle.grid.specs.Grid.{Grid}

@@ -1,5 +1,5 @@
--- "Keys behind doors" on plain grids. `locks` has a row for each key and a column for each door, `cabinets` a row for each
--- door and a column for each key; "entries count whatever their value".
+-- "Keys behind doors" on plain grids. `locks` has a row for each key and a column for each door, `cabinets` a row for
+-- each door and a column for each key; "entries count whatever their value".
 use Prim.Native.Nat.{ℕ, zero, suc, _+_}
 use mathlib.Core.Path.{_≡_}
 use mathlib.Core.Bool.{Bool, true, false, cond}
@@ -7,11 +7,6 @@ use Rattle.conditions.specs.Tests.{_and_}
 use Rattle.grid.specs.declared.Cell.{Cell}
 use Rattle.grid.specs.declared.Cell.the-variants.{Absent, Present}
 use Rattle.grid.specs.Grid.{Grid}
-
--- whether a cell has a value
-unfoldable pub filled : Cell → Bool
-filled Absent = false
-filled (Present v) = true
 
 infixr 15 _or_
 -- one of two tests holds
@@ -28,6 +23,11 @@ some (suc n) p = some n p or p n
 unfoldable pub count : ℕ → (ℕ → Bool) → ℕ
 count zero p = 0
 count (suc n) p = count n p + cond (p n) 1 0
+
+-- whether a cell has a value: "entries count whatever their value"
+unfoldable pub filled : Cell → Bool
+filled Absent = false
+filled (Present v) = true
 
 -- the columns where one of the named rows has an entry
 unfoldable pub reached : Grid → (ℕ → Bool) → ℕ → Bool

@@ -27,8 +27,8 @@ impl Matrix {
     ///
     /// # Errors
     ///
-    /// `IndexOutOfBounds` where the allowance is above [`MAX_ALLOWANCE`](crate::MAX_ALLOWANCE), `InvalidShape` where the
-    /// shapes are not keys by doors, doors by keys and 1 by keys.
+    /// `IndexOutOfBounds` where the allowance is above [`MAX_ALLOWANCE`](crate::MAX_ALLOWANCE), `InvalidShape` where
+    /// the shapes are not keys by doors, doors by keys and 1 by keys.
     pub fn open_doors(locks: &Matrix, cabinets: &Matrix, hand: &Matrix, allowance: u32) -> Result<Matrix, Error> {
         let mut doors = Matrix::new(1, 1)?;
         doors.write(|out, work| {

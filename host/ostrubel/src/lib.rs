@@ -1,10 +1,10 @@
 //! Sparse whole-number matrices with GraphBLAS operations: a safe interface to the proved library.
 //!
 //! A [`Matrix`] has a value or none in each cell. Six operations write into one: [`Matrix::mxm`], [`Matrix::vxm`],
-//! [`Matrix::ewise_mult`], [`Matrix::ewise_add`], [`Matrix::apply`] and [`Matrix::extract`], each by its [`Options`]: a
-//! mask, an accumulator and flags. [`Matrix::open_doors`] answers which
-//! doors open by keys of which some are behind doors. A [`Store`] has eight matrices in one buffer, and the same operations by slots. A
-//! refused call is an [`Error`] and changes nothing.
+//! [`Matrix::ewise_mult`], [`Matrix::ewise_add`], [`Matrix::apply`] and [`Matrix::extract`], each by its [`Options`]:
+//! a mask, an accumulator and flags. [`Matrix::open_doors`] answers which doors open by keys of which some are behind
+//! doors. A [`Store`] has eight matrices in one buffer, and the same operations by slots. A refused call is an
+//! [`Error`] and changes nothing.
 //!
 //! # A phone that was late
 //!

@@ -55,8 +55,8 @@ fn reached(sheet: &Grid, from: &BTreeSet<u32>, slip: Slip) -> BTreeSet<u32> {
     sheet.cells.iter().filter(|((i, _), value)| from.contains(i) && counts(**value)).map(|((_, j), _)| *j).collect()
 }
 
-/// "Keys after round 0 are those in hand. Doors after round n are what the keys after round n open; keys after round n+1
-/// are the keys after round n and those behind the doors after round n." The doors, each with its first round.
+/// "Keys after round 0 are those in hand. Doors after round n are what the keys after round n open; keys after round
+/// n+1 are the keys after round n and those behind the doors after round n." The doors, each with its first round.
 fn opened(locks: &Grid, cabinets: &Grid, hand: &Grid, allowance: u32, slip: Slip) -> Grid {
     let mut strip = Grid::empty(1, locks.cols);
     let mut keys = reached(hand, &BTreeSet::from([0]), slip);

@@ -1,5 +1,5 @@
--- `doors_open` and `keys_held` ask each other: round n asks its keys, and its keys the doors of the round before. So the
--- measures are 2n + 1 and 2n.
+-- `doors_open` and `keys_held` ask each other: round n asks its keys, and its keys the doors of the round before. So
+-- the measures are 2n + 1 and 2n.
 use native.Mathlib.Omega.{arith}
 use native.Mathlib.Nat.{pos-of-ne-zero, sub-add-cancel}
 use mathlib.Core.Path.{sym, subst, _∙_}
@@ -64,7 +64,8 @@ doors-open-add-mark-rows : (t : ℕ) → doors-open-lts.Need-add-mark-rows (
   mark-rows-reads.Learnt,
 ) (doors-open-at t) doors-open.Post
 doors-open-add-mark-rows t c =
-    let p = c .before .before .before .before .before .before .before .before .before .before .before .before .pre .1 in omega (arith, p .1)
+    let p = c .before .before .before .before .before .before .before .before .before .before .before .before .pre .1 in
+    omega (arith, p .1)
 
 doors-open-mark-rows-requires : (t : ℕ) → doors-open-lts.Need-mark-rows-requires (
   keys-held-below t,
@@ -73,7 +74,9 @@ doors-open-mark-rows-requires : (t : ℕ) → doors-open-lts.Need-mark-rows-requ
   mark-rows-reads.Learnt,
 ) (doors-open-at t) doors-open.Post
 doors-open-mark-rows-requires t c κs =
-    let q = c .before .before .before .before .before .before in locks-stampable (q .before .before .before .before .before .before .before .pre .1 .0) (q .keys-held .ensures) (omega arith)
+    let q = c .before .before .before .before .before .before in
+    locks-stampable (q .before .before .before .before .before .before .before .pre .1 .0) (q .keys-held .ensures)
+    (omega arith)
 
 doors-open-same-length : (t : ℕ) → doors-open-lts.Need-same-length (
   keys-held-below t,
@@ -82,7 +85,9 @@ doors-open-same-length : (t : ℕ) → doors-open-lts.Need-same-length (
   mark-rows-reads.Learnt,
 ) (doors-open-at t) doors-open.Post
 doors-open-same-length t c =
-    let q = c .before .before .before .before .before .before .before .before .before in q .keys-held .ensures .keys-size ∙ sym (q .before .before .before .before .before .before .before .pre .1 .0 .keys-size)
+    let q = c .before .before .before .before .before .before .before .before .before in
+    q .keys-held .ensures .keys-size
+    ∙ sym (q .before .before .before .before .before .before .before .pre .1 .0 .keys-size)
 
 doors-open-same-length-2 : (t : ℕ) → doors-open-lts.Need-same-length-2 (
   keys-held-below t,
@@ -92,7 +97,8 @@ doors-open-same-length-2 : (t : ℕ) → doors-open-lts.Need-same-length-2 (
 ) (doors-open-at t) doors-open.Post
 doors-open-same-length-2 t c =
     let q = c .before .before .before .before .before .before .before .before .before in
-    c .before .before .mark-rows .ensures .size ∙ q .keys-held .ensures .doors-size ∙ sym (q .before .before .before .before .before .before .before .pre .1 .0 .doors-size)
+    c .before .before .mark-rows .ensures .size ∙ q .keys-held .ensures .doors-size
+    ∙ sym (q .before .before .before .before .before .before .before .pre .1 .0 .doors-size)
 
 doors-open-returns : (t : ℕ) → doors-open-lts.Need-returns (
   keys-held-below t,
@@ -101,7 +107,8 @@ doors-open-returns : (t : ℕ) → doors-open-lts.Need-returns (
   mark-rows-reads.Learnt,
 ) (doors-open-at t) doors-open.Post
 doors-open-returns t c =
-    let q = c .before .before .before .before .before .before .before .before .before in doors-stamped (q .keys-held .ensures) (c .before .before .mark-rows .ensures)
+    let q = c .before .before .before .before .before .before .before .before .before in
+    doors-stamped (q .keys-held .ensures) (c .before .before .mark-rows .ensures)
 
 keys-held-returns : (t : ℕ) → keys-held-lts.Need-returns (
   doors-open-below t,
@@ -112,7 +119,8 @@ keys-held-returns : (t : ℕ) → keys-held-lts.Need-returns (
 keys-held-returns t c =
     let q = c .before .before .before .before .before in
     subst
-    (λ (i : ℕ). Rounds (gridOf (now (q .args .locks))) (gridOf (now (q .args .cabinets))) (held (now (q .args .keys))) i i
+    (λ (i : ℕ). Rounds (gridOf (now (q .args .locks))) (gridOf (now (q .args .cabinets)))
+    (held (now (q .args .keys))) i i
     (now (q .args .keys)) (now (q .args .doors)))
     (sym (c .if1 .taken)) (lent-rounds (q .pre .1 .0))
 
@@ -144,7 +152,9 @@ keys-held-mark-rows-requires : (t : ℕ) → keys-held-lts.Need-mark-rows-requir
   mark-rows-reads.Learnt,
 ) (keys-held-at t) keys-held.Post
 keys-held-mark-rows-requires t c κs =
-    let q = c .before .before .before .before .before .before in cabinets-stampable (q .before .before .before .before .before .before .before .before .pre .1 .0) (q .doors-open .ensures)
+    let q = c .before .before .before .before .before .before in
+    cabinets-stampable (q .before .before .before .before .before .before .before .before .pre .1 .0)
+    (q .doors-open .ensures)
 
 keys-held-same-length : (t : ℕ) → keys-held-lts.Need-same-length (
   doors-open-below t,
@@ -154,7 +164,8 @@ keys-held-same-length : (t : ℕ) → keys-held-lts.Need-same-length (
 ) (keys-held-at t) keys-held.Post
 keys-held-same-length t c =
     let q = c .before .before .before .before .before .before .before .before .before in
-    c .before .before .mark-rows .ensures .size ∙ q .doors-open .ensures .keys-size ∙ sym (q .before .before .before .before .before .before .before .before .pre .1 .0 .keys-size)
+    c .before .before .mark-rows .ensures .size ∙ q .doors-open .ensures .keys-size
+    ∙ sym (q .before .before .before .before .before .before .before .before .pre .1 .0 .keys-size)
 
 keys-held-same-length-2 : (t : ℕ) → keys-held-lts.Need-same-length-2 (
   doors-open-below t,
@@ -163,7 +174,9 @@ keys-held-same-length-2 : (t : ℕ) → keys-held-lts.Need-same-length-2 (
   mark-rows-reads.Learnt,
 ) (keys-held-at t) keys-held.Post
 keys-held-same-length-2 t c =
-    let q = c .before .before .before .before .before .before .before .before .before in q .doors-open .ensures .doors-size ∙ sym (q .before .before .before .before .before .before .before .before .pre .1 .0 .doors-size)
+    let q = c .before .before .before .before .before .before .before .before .before in
+    q .doors-open .ensures .doors-size
+    ∙ sym (q .before .before .before .before .before .before .before .before .pre .1 .0 .doors-size)
 
 keys-held-returns-2 : (t : ℕ) → keys-held-lts.Need-returns-2 (
   doors-open-below t,
@@ -173,7 +186,8 @@ keys-held-returns-2 : (t : ℕ) → keys-held-lts.Need-returns-2 (
 ) (keys-held-at t) keys-held.Post
 keys-held-returns-2 t c =
     let q = c .before .before .before .before .before .before .before .before .before in
-    keys-stamped-at (lent-fitting (q .before .before .before .before .before .before .before .before .pre .1 .0)) (sub-add-cancel (pos-of-ne-zero (q .before .before .before .if1 .left)))
+    keys-stamped-at (lent-fitting (q .before .before .before .before .before .before .before .before .pre .1 .0))
+    (sub-add-cancel (pos-of-ne-zero (q .before .before .before .if1 .left)))
     (q .doors-open .ensures) (c .before .before .mark-rows .ensures)
 
 pub +doors-open+keys-held-spec : {M : Type 1} → statement M

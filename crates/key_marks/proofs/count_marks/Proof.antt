@@ -22,7 +22,13 @@ counted : (c : tie.After-one-if-marked Inv-loop μ-loop)
     q .loop .n + c .one-if-marked .result ≡ count (q .loop .i + 1) (held (now (q .before .before .args .words)))
 counted c =
     let q = c .before .before .before in
-    omega (arith, q .loop .inv .0, c .one-if-marked .ensures, count-next (q .loop .i) (held (now (q .before .before .args .words))))
+    omega (
+      arith,
+      q .loop .inv .0,
+      c .one-if-marked .ensures,
+      count-next (q .loop .i)
+          (held (now (q .before .before .args .words))),
+    )
 
 loop-holds : tie.Need-loop-holds Inv-loop μ-loop
 loop-holds c = (count-none _, omega arith)

@@ -25,7 +25,8 @@ same-length-2 c = search needs
 
 returns : tie.Need-returns
 returns c =
-    let q = c .before .before .before .before .before .before .before .before .before .before .before in marked-rounds (start q .pre .0) (q .mark-hand .ensures) (c .before .before .before .before .doors-open .ensures)
+    let q = c .before .before .before .before .before .before .before .before .before .before .before in
+    marked-rounds (start q .pre .0) (q .mark-hand .ensures) (c .before .before .before .before .doors-open .ensures)
 
 pub doors-asked-spec : {M : Type 1} → statement M
 doors-asked-spec =

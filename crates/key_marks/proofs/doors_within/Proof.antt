@@ -25,7 +25,8 @@ same-length-2 c = search needs
 
 returns : tie.Need-returns
 returns c =
-    let q = c .before .before .before .before .before .before .before .before .before .before .before in marked-rounds (start q .pre .0) (q .mark-hand .ensures) (c .before .before .before .before .rounds .ensures)
+    let q = c .before .before .before .before .before .before .before .before .before .before .before in
+    marked-rounds (start q .pre .0) (q .mark-hand .ensures) (c .before .before .before .before .rounds .ensures)
 
 pub doors-within-spec : {M : Type 1} → statement M
 doors-within-spec =

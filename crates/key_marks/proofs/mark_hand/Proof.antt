@@ -21,7 +21,8 @@ clear-requires-2 c κs = search needs
 
 row-columns-requires : tie.Need-row-columns-requires
 row-columns-requires c κs =
-    let a = c .before .before .before .before .before .before .before .before .before .before .before .pre in (a .valid .header, vector-span a)
+    let a = c .before .before .before .before .before .before .before .before .before .before .before .pre in
+    (a .valid .header, vector-span a)
 
 mark-row-requires : tie.Need-mark-row-requires
 mark-row-requires c κs =

@@ -6,7 +6,8 @@ use Rattle.key_marks.proofs.mark_named.Statement.{statement}
 use Rattle.key_marks.proofs.mark_named.Tie as tie
 
 returns : tie.Need-returns
-returns c = row-unnamed (now (c .before .before .before .args .m)) (c .before .before .before .args .i) (c .before .before .before .args .named) _ (c .if1 .taken)
+returns c = row-unnamed (now (c .before .before .before .args .m)) (c .before .before .before .args .i)
+    (c .before .before .before .args .named) _ (c .if1 .taken)
 
 row-columns-requires : tie.Need-row-columns-requires
 row-columns-requires c κs = search needs

@@ -5,7 +5,15 @@ use denote.Ref.{now}
 use lib.ListN.{length, take}
 use Rattle.words.specs.Words.{at}
 use Rattle.key_marks.specs.Marks.{has, Stamped}
-use Rattle.key_marks.proofs.Stamps.{has-none, has-next, has-all, stamped-none, stamped-same, stamped-one, stamped-then}
+use Rattle.key_marks.proofs.Stamps.{
+  has-none,
+  has-next,
+  has-all,
+  stamped-none,
+  stamped-same,
+  stamped-one,
+  stamped-then,
+}
 use Rattle.key_marks.proofs.mark_row.Statement.{statement}
 use Rattle.key_marks.proofs.mark_row.Tie as tie
 
@@ -26,7 +34,11 @@ turn c = c .before .before .before
 place : (c : tie.In-loop Inv-loop μ-loop)
     → at (now (start (c .before) .args .columns)) (c .before .loop .p) < length (c .before .loop .marks)
 place c =
-    omega (arith, start (c .before) .pre .0 .below (c .before .loop .p) (c .loop-test .taken), c .before .loop .inv .size)
+    omega (
+      arith,
+      start (c .before) .pre .0 .below (c .before .loop .p) (c .loop-test .taken),
+      c .before .loop .inv .size,
+    )
 
 loop-holds : tie.Need-loop-holds Inv-loop μ-loop
 loop-holds c = stamped-none _ _ (has-none (now (c .before .before .args .columns)))
@@ -66,7 +78,8 @@ loop-again c =
     let q = turn c .before in
     stamped-same
     (stamped-then (start q .pre .1) (q .loop .inv)
-    (stamped-one (q .loop .marks) (at (now (start q .args .columns)) (q .loop .p)) (place (turn c)) (c .stamp-once .ensures)))
+    (stamped-one (q .loop .marks) (at (now (start q .args .columns)) (q .loop .p)) (place (turn c))
+    (c .stamp-once .ensures)))
     (λ j. has-next (now (start q .args .columns)) (q .loop .p) j (turn c .loop-test .taken))
 
 same-length : tie.Need-same-length Inv-loop μ-loop

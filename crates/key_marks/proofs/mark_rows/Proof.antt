@@ -39,8 +39,16 @@ mark-named-requires c κs =
     let t = c .before .before in
     let q = t .before in
     let p = start q .pre in
-    let l : q .loop .i < rows (now (start q .args .m)) = omega (arith, t .loop-test .taken, p .from-size) in
-    (p .valid .header, (row-span _ (p .valid .starts) _ l, (row-below (p .valid) (q .loop .inv .0 .size ∙ p .marks-size) _ l, p .marking)))
+    let l : q .loop .i < rows (now (start q .args .m)) = omega (arith, t .loop-test .taken, p .from-size) in (
+      p .valid .header,
+      (
+        row-span _ (p .valid .starts) _ l,
+        (
+          row-below (p .valid) (q .loop .inv .0 .size ∙ p .marks-size) _ l,
+          p .marking,
+        ),
+      ),
+    )
 
 add-i : tie.Need-add-i Inv-loop μ-loop
 add-i c = omega (arith, turn c .loop-test .taken)
@@ -51,8 +59,11 @@ loop-less c = omega (arith, turn c .loop-test .taken)
 loop-again : tie.Need-loop-again Inv-loop μ-loop
 loop-again c =
     let q = turn c .before in
-    let a = start q .args in
-    (rows-next (now (a .m)) (now (a .from)) (q .loop .i) (start q .pre .marking) (q .loop .inv .0) (c .before .before .mark-named .ensures), omega (arith, turn c .loop-test .taken))
+    let a = start q .args in (
+      rows-next (now (a .m)) (now (a .from)) (q .loop .i) (start q .pre .marking) (q .loop .inv .0)
+          (c .before .before .mark-named .ensures),
+      omega (arith, turn c .loop-test .taken),
+    )
 
 same-length : tie.Need-same-length Inv-loop μ-loop
 same-length c = c .before .loop .inv .0 .size
@@ -61,7 +72,8 @@ returns : tie.Need-returns Inv-loop μ-loop
 returns c =
     let q = c .before in
     let a = start q .args in
-    rows-all (now (a .m)) (now (a .from)) (q .loop .i) (q .loop .inv .0) (omega (arith, c .loop-test .left, q .loop .inv .1, start q .pre .from-size))
+    rows-all (now (a .m)) (now (a .from)) (q .loop .i) (q .loop .inv .0)
+    (omega (arith, c .loop-test .left, q .loop .inv .1, start q .pre .from-size))
 
 pub mark-rows-spec : {M : Type 1} → statement M
 mark-rows-spec =

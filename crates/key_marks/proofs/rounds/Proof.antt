@@ -5,7 +5,15 @@ use mathlib.Core.Path.{sym, subst, _∙_}
 use denote.Ref.{now}
 use Rattle.matrix.specs.Layout.{gridOf}
 use Rattle.key_marks.specs.Marks.{held, Rounds}
-use Rattle.key_marks.proofs.Steps.{doors-stamped, keys-stamped, rounds-settled, lent-rounds, lent-fitting, locks-stampable, cabinets-stampable}
+use Rattle.key_marks.proofs.Steps.{
+  doors-stamped,
+  keys-stamped,
+  rounds-settled,
+  lent-rounds,
+  lent-fitting,
+  locks-stampable,
+  cabinets-stampable,
+}
 use Rattle.key_marks.proofs.rounds.Statement.{statement}
 use Rattle.key_marks.proofs.rounds.Tie as tie
 
@@ -28,8 +36,11 @@ mark-rows-requires c κs =
     let l = c .before .before .before .before .before .before .pre .0 in locks-stampable l (lent-rounds l) (omega arith)
 
 loop-holds : tie.Need-loop-holds Inv-loop μ-loop
-loop-holds c =
-    (doors-stamped (lent-rounds (c .before .before .before .before .before .before .before .before .before .pre .0)) (c .before .before .mark-rows .ensures), omega arith)
+loop-holds c = (
+  doors-stamped (lent-rounds (c .before .before .before .before .before .before .before .before .before .pre .0))
+      (c .before .before .mark-rows .ensures),
+  omega arith,
+)
 
 count-marks-requires : tie.Need-count-marks-requires Inv-loop μ-loop
 count-marks-requires c κs = tt
@@ -49,7 +60,8 @@ same-length c =
 
 same-length-2 : tie.Need-same-length-2 Inv-loop μ-loop
 same-length-2 c =
-    let q = turn (c .before .before .before .before .before) .before in q .loop .inv .0 .doors-size ∙ sym (start q .pre .0 .doors-size)
+    let q = turn (c .before .before .before .before .before) .before in
+    q .loop .inv .0 .doors-size ∙ sym (start q .pre .0 .doors-size)
 
 returns : tie.Need-returns Inv-loop μ-loop
 returns c =
@@ -62,11 +74,13 @@ returns c =
 
 add-n : tie.Need-add-n Inv-loop μ-loop
 add-n c =
-    let t = turn (c .before .before .before .before .before) in omega (arith, t .loop-test .taken, start (t .before) .pre .1)
+    let t = turn (c .before .before .before .before .before) in
+    omega (arith, t .loop-test .taken, start (t .before) .pre .1)
 
 add-mark-rows : tie.Need-add-mark-rows Inv-loop μ-loop
 add-mark-rows c =
-    let t = turn (c .before .before .before .before .before .before) in omega (arith, t .loop-test .taken, start (t .before) .pre .1)
+    let t = turn (c .before .before .before .before .before .before) in
+    omega (arith, t .loop-test .taken, start (t .before) .pre .1)
 
 mark-rows-requires-3 : tie.Need-mark-rows-requires-3 Inv-loop μ-loop
 mark-rows-requires-3 c κs =
@@ -77,7 +91,8 @@ mark-rows-requires-3 c κs =
 
 loop-less : tie.Need-loop-less Inv-loop μ-loop
 loop-less c =
-    let t = turn (c .before .before .before .before .before .before .before .before .before .before) in omega (arith, t .loop-test .taken)
+    let t = turn (c .before .before .before .before .before .before .before .before .before .before) in
+    omega (arith, t .loop-test .taken)
 
 loop-again : tie.Need-loop-again Inv-loop μ-loop
 loop-again c =
