@@ -57,10 +57,11 @@ enum {
     OSTRUBEL_UNKNOWN_OPERATOR = 2,     /* no such operator, monoid or accumulator */
     OSTRUBEL_INVALID_FIRST = 3,        /* the first input is no valid matrix; also the one to check or read */
     OSTRUBEL_INVALID_SECOND = 4,       /* the second input is no valid matrix */
-    OSTRUBEL_INVALID_MASK = 5,         /* the mask is no valid matrix */
+    OSTRUBEL_INVALID_MASK = 5,         /* the mask, or the vector of the keys in hand, is no valid matrix */
     OSTRUBEL_INVALID_OUTPUT = 6,       /* old C is no valid matrix */
     OSTRUBEL_INDEX_OUT_OF_BOUNDS = 7,  /* an index list shorter than 1 or longer than 1,000, or with an index twice;
-                                          an index, row or column past A (as transposed) or past the matrix named */
+                                          an index, row or column past A (as transposed) or past the matrix named;
+                                          an allowance above 1,000 */
     OSTRUBEL_INVALID_SHAPE = 8,        /* rows or columns outside 1 to 1,000; shapes of inputs, mask, C and result
                                           disagree; no vector (one row) where one is due */
     OSTRUBEL_WORKSPACE_TOO_SHORT = 9,  /* a workspace under 15,309 words */

@@ -15,8 +15,8 @@ programs = record {
   ask-known = ask-doors-reads.known;
   open-free = λ κs n locks cabinets hand out work. tt;
   ask-free = λ κs n locks cabinets hand out work. tt;
-  equal = λ κs λs p q n locks cabinets hand out work out₁ work₁ out₂ work₂ answer₁ answer₂ x y. alike-same x y;
-  equal-marks = λ κs λs a b c d e f g h n locks cabinets keys doors keys₁ doors₁ keys₂ doors₂ x y. doors-equal x y;
-  beyond = λ κs λs p q n m locks cabinets hand out work out₁ work₁ out₂ work₂ answer₁ answer₂ u l v k x y.
-      alike-beyond n m locks cabinets hand out work u l v k x y;
+  equal = λ κs λs p q n a b c d e d₁ e₁ d₂ e₂ answer₁ answer₂ x y. alike-same x y;
+  equal-marks = λ κs λs p q r s t u v w n a b keys doors keys₁ doors₁ keys₂ doors₂ x y. doors-equal x y;
+  beyond = λ κs λs p q n m a b c d e d₁ e₁ d₂ e₂ answer₁ answer₂ u l v k x y.
+      alike-beyond n m a b c d e u l v k x y;
 }

@@ -29,160 +29,59 @@ pub record Places : Type 0 where
   pub out : Address
   pub work : Address
 
+-- What the contracts tell a caller of one call with allowance n: locks a, cabinets b and hand c are lent and stay, the
+-- answer's buffer has d before and d′ after it, and the workspace e and e′.
+
+-- of the repeated product
+abbrev pub ByRounds : Lfts 5 → Places → ℕ → List ℕ → List ℕ → List ℕ → List ℕ → List ℕ → Answer → List ℕ → List ℕ
+    → Type 0
+ByRounds κs p n a b c d e answer d′ e′ =
+    open-doors-reads.Learnt κs
+    (n, (lent (p .locks) a, (lent (p .cabinets) b, (lent (p .hand) c, (lent (p .out) d, (lent (p .work) e, tt))))))
+    answer
+    (n, (lent (p .locks) a, (lent (p .cabinets) b, (lent (p .hand) c, (lent (p .out) d′, (lent (p .work) e′, tt))))))
+
+-- of the two questions
+abbrev pub ByQuestions : Lfts 5 → Places → ℕ → List ℕ → List ℕ → List ℕ → List ℕ → List ℕ → Answer → List ℕ → List ℕ
+    → Type 0
+ByQuestions κs p n a b c d e answer d′ e′ =
+    ask-doors-reads.Learnt κs
+    (n, (lent (p .locks) a, (lent (p .cabinets) b, (lent (p .hand) c, (lent (p .out) d, (lent (p .work) e, tt))))))
+    answer
+    (n, (lent (p .locks) a, (lent (p .cabinets) b, (lent (p .hand) c, (lent (p .out) d′, (lent (p .work) e′, tt))))))
+
 -- two calls that end alike: the answer, and every word of the two buffers that a call writes
 pub record Alike (answer answer′ : Answer) (out out′ work work′ : List ℕ) : Type 0 where
   pub answers : answer ≡ answer′
   pub outs : out ≡ out′
   pub works : work ≡ work′
 
--- the repeated product and the two questions, called with the same numbers and words, whatever they are, in buffers
--- that may be elsewhere
+-- both programs, called with the same numbers and words, whatever they are, in buffers that may be elsewhere
 abbrev pub Equal : Type 0
 Equal =
-    (κs λs : Lfts 5) (p q : Places) (n : ℕ) (locks cabinets hand out work out₁ work₁ out₂ work₂ : List ℕ)
-    (answer₁ answer₂ : Answer)
-    → open-doors-reads.Learnt κs (
-      n,
-      (
-        lent (p .locks) locks,
-        (
-          lent (p .cabinets) cabinets,
-          (
-            lent (p .hand) hand,
-            (
-              lent (p .out) out,
-              (lent (p .work) work, tt),
-            ),
-          ),
-        ),
-      ),
-    ) answer₁ (
-      n,
-      (
-        lent (p .locks) locks,
-        (
-          lent (p .cabinets) cabinets,
-          (
-            lent (p .hand) hand,
-            (
-              lent (p .out) out₁,
-              (lent (p .work) work₁, tt),
-            ),
-          ),
-        ),
-      ),
-    )
-    → ask-doors-reads.Learnt λs (
-      n,
-      (
-        lent (q .locks) locks,
-        (
-          lent (q .cabinets) cabinets,
-          (
-            lent (q .hand) hand,
-            (
-              lent (q .out) out,
-              (lent (q .work) work, tt),
-            ),
-          ),
-        ),
-      ),
-    ) answer₂ (
-      n,
-      (
-        lent (q .locks) locks,
-        (
-          lent (q .cabinets) cabinets,
-          (
-            lent (q .hand) hand,
-            (
-              lent (q .out) out₂,
-              (lent (q .work) work₂, tt),
-            ),
-          ),
-        ),
-      ),
-    )
-    → Alike answer₁ answer₂ out₁ out₂ work₁ work₂
+    (κs λs : Lfts 5) (p q : Places) (n : ℕ) (a b c d e d₁ e₁ d₂ e₂ : List ℕ) (answer₁ answer₂ : Answer)
+    → ByRounds κs p n a b c d e answer₁ d₁ e₁
+    → ByQuestions λs q n a b c d e answer₂ d₂ e₂
+    → Alike answer₁ answer₂ d₁ d₂ e₁ e₂
 
 -- the same of the functions below them, on marks: the doors' question and the rounds leave the same words of doors
 abbrev pub EqualMarks : Type 0
 EqualMarks =
-    (κs λs : Lfts 4) (a b c d e f g h : Address) (n : ℕ) (locks cabinets keys doors keys₁ doors₁ keys₂ doors₂ : List ℕ)
-    → doors-open-reads.Learnt κs (n, (lent a locks, (lent b cabinets, (lent c keys, (lent d doors, tt))))) tt
-    (n, (lent a locks, (lent b cabinets, (lent c keys₁, (lent d doors₁, tt)))))
-    → rounds-reads.Learnt λs (n, (lent e locks, (lent f cabinets, (lent g keys, (lent h doors, tt))))) tt
-    (n, (lent e locks, (lent f cabinets, (lent g keys₂, (lent h doors₂, tt)))))
+    (κs λs : Lfts 4) (p q r s t u v w : Address) (n : ℕ) (a b keys doors keys₁ doors₁ keys₂ doors₂ : List ℕ)
+    → doors-open-reads.Learnt κs (n, (lent p a, (lent q b, (lent r keys, (lent s doors, tt))))) tt
+    (n, (lent p a, (lent q b, (lent r keys₁, (lent s doors₁, tt)))))
+    → rounds-reads.Learnt λs (n, (lent t a, (lent u b, (lent v keys, (lent w doors, tt))))) tt
+    (n, (lent t a, (lent u b, (lent v keys₂, (lent w doors₂, tt)))))
     → doors₁ ≡ doors₂
 
 -- "Show that an allowance beyond the number of keys adds nothing": two allowances that are no smaller, within the limit
 abbrev pub Beyond : Type 0
 Beyond =
-    (κs λs : Lfts 5) (p q : Places) (n m : ℕ) (locks cabinets hand out work out₁ work₁ out₂ work₂ : List ℕ)
-    (answer₁ answer₂ : Answer) → rows locks ≤ n → n ≤ maxAllowance → rows locks ≤ m → m ≤ maxAllowance
-    → open-doors-reads.Learnt κs (
-      n,
-      (
-        lent (p .locks) locks,
-        (
-          lent (p .cabinets) cabinets,
-          (
-            lent (p .hand) hand,
-            (
-              lent (p .out) out,
-              (lent (p .work) work, tt),
-            ),
-          ),
-        ),
-      ),
-    ) answer₁ (
-      n,
-      (
-        lent (p .locks) locks,
-        (
-          lent (p .cabinets) cabinets,
-          (
-            lent (p .hand) hand,
-            (
-              lent (p .out) out₁,
-              (lent (p .work) work₁, tt),
-            ),
-          ),
-        ),
-      ),
-    )
-    → open-doors-reads.Learnt λs (
-      m,
-      (
-        lent (q .locks) locks,
-        (
-          lent (q .cabinets) cabinets,
-          (
-            lent (q .hand) hand,
-            (
-              lent (q .out) out,
-              (lent (q .work) work, tt),
-            ),
-          ),
-        ),
-      ),
-    ) answer₂ (
-      m,
-      (
-        lent (q .locks) locks,
-        (
-          lent (q .cabinets) cabinets,
-          (
-            lent (q .hand) hand,
-            (
-              lent (q .out) out₂,
-              (lent (q .work) work₂, tt),
-            ),
-          ),
-        ),
-      ),
-    )
-    → Alike answer₁ answer₂ out₁ out₂ work₁ work₂
+    (κs λs : Lfts 5) (p q : Places) (n m : ℕ) (a b c d e d₁ e₁ d₂ e₂ : List ℕ) (answer₁ answer₂ : Answer)
+    → rows a ≤ n → n ≤ maxAllowance → rows a ≤ m → m ≤ maxAllowance
+    → ByRounds κs p n a b c d e answer₁ d₁ e₁
+    → ByRounds λs q m a b c d e answer₂ d₂ e₂
+    → Alike answer₁ answer₂ d₁ d₂ e₁ e₂
 
 -- the claims, with what makes them claims of the code: each program meets its contract, what a caller learns follows
 -- from that, and a caller has nothing to show
