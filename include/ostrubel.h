@@ -255,8 +255,8 @@ uint64_t ostrubel_store_extract(uint32_t flags, uint32_t has_mask, uint32_t has_
 /* ---- Keys behind doors ---- */
 
 /*
- * The doors that open within an allowance of rounds: a new 1 by doors matrix at the front of out, whatever was there, in
- * which each door that opens has the first round it opens in. An entry counts whatever its value, also 0.
+ * The doors that open within an allowance of rounds: a new 1 by doors matrix at the front of out, whatever was there,
+ * in which each door that opens has the first round it opens in. An entry counts whatever its value, also 0.
  *   allowance  0 to 1,000 rounds; one beyond the number of keys adds nothing
  *   locks      keys by doors: the key opens the door
  *   cabinets   doors by keys: the key is behind the door

@@ -1,6 +1,6 @@
 // Runs "keys behind doors" by both programs, the repeated product (`rounds`) and the two questions that ask each other
-// (`questions`): for each the answer, whether the workspace is clear, and the words of the answer's buffer, which has 0,
-// 1, 2 and so on before the call. Of a long buffer only the last word is printed.
+// (`questions`): for each the answer, whether the workspace is clear, and the words of the answer's buffer, which has
+// 0, 1, 2 and so on before the call. Of a long buffer only the last word is printed.
 
 // What a call needs.
 type Workspace = [u32; 15309];

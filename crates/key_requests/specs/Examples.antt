@@ -65,11 +65,13 @@ order-workspace = refl
 -- an empty vector takes 8 words
 order-room : doorsRefusal 0 sound sound sound 15309 7 ≡ 11
 unfolding doorsRefusal valid headerValid startsValid rowsValid inRange shapesFit _and_ all
-    encode tabulate flatten gather one sound tall firstBefore doorsAfter keysAfter reached some filled _or_ cellOf lookup
+    encode tabulate flatten gather one sound tall
+    firstBefore doorsAfter keysAfter reached some filled _or_ cellOf lookup
 order-room = refl
 
 -- and then none applies
 order-none : doorsRefusal 0 sound sound sound 15309 8 ≡ 0
 unfolding doorsRefusal valid headerValid startsValid rowsValid inRange shapesFit _and_ all
-    encode tabulate flatten gather one sound tall firstBefore doorsAfter keysAfter reached some filled _or_ cellOf lookup
+    encode tabulate flatten gather one sound tall
+    firstBefore doorsAfter keysAfter reached some filled _or_ cellOf lookup
 order-none = refl

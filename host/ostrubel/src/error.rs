@@ -105,8 +105,8 @@ impl Error {
             }
             Error::IndexOutOfBounds => format!(
                 "A row or column lies past the edge of the sheet, or a list of them does not have 1 to {MAX_INDEXES} \
-                 numbers, each once: count rows and columns from 0, stay within the sheet, and name none twice. Or more \
-                 than {MAX_ALLOWANCE} rounds are allowed for opening doors: allow fewer."
+                 numbers, each once: count rows and columns from 0, stay within the sheet, and name none twice. Or \
+                 more than {MAX_ALLOWANCE} rounds are allowed for opening doors: allow fewer."
             )
             .into(),
             Error::InvalidShape => format!(
