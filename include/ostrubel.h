@@ -52,6 +52,7 @@ extern "C" {
 #define OSTRUBEL_MAX_ENTRIES 2048
 #define OSTRUBEL_MAX_INDEXES 1000
 #define OSTRUBEL_SLOTS 8
+#define OSTRUBEL_MAX_ALLOWANCE 1000 /* rounds of ostrubel_open_doors */
 
 /* Codes of answers. */
 enum {
@@ -60,10 +61,11 @@ enum {
     OSTRUBEL_UNKNOWN_OPERATOR = 2,     /* no such operator, monoid or accumulator */
     OSTRUBEL_INVALID_FIRST = 3,        /* the first input is no valid matrix; also the one to check or read */
     OSTRUBEL_INVALID_SECOND = 4,       /* the second input is no valid matrix */
-    OSTRUBEL_INVALID_MASK = 5,         /* the mask is no valid matrix */
+    OSTRUBEL_INVALID_MASK = 5,         /* the mask, or the vector of the keys in hand, is no valid matrix */
     OSTRUBEL_INVALID_OUTPUT = 6,       /* old C is no valid matrix */
     OSTRUBEL_INDEX_OUT_OF_BOUNDS = 7,  /* an index list shorter than 1 or longer than 1,000, or with an index twice;
-                                          an index, row or column past A (as transposed) or past the matrix named */
+                                          an index, row or column past A (as transposed) or past the matrix named;
+                                          an allowance above 1,000 */
     OSTRUBEL_INVALID_SHAPE = 8,        /* rows or columns outside 1 to 1,000; shapes of inputs, mask, C and result
                                           disagree; no vector (one row) where one is due */
     OSTRUBEL_WORKSPACE_TOO_SHORT = 9,  /* a workspace under 15,309 words */
@@ -295,6 +297,25 @@ uint64_t ostrubel_write_file(const uint32_t *words, size_t words_len, uint8_t *b
  * it by ostrubel_text_length. Refused by 3, and by 11 where there are fewer than OSTRUBEL_MAX_TEXT_BYTES bytes.
  */
 uint64_t ostrubel_write_text(const uint32_t *words, size_t words_len, uint8_t *bytes, size_t bytes_len);
+
+/* ---- Keys behind doors ---- */
+
+/*
+ * The doors that open within an allowance of rounds: a new 1 by doors matrix at the front of out, whatever was there,
+ * in which each door that opens has the first round it opens in. An entry counts whatever its value, also 0.
+ *   allowance  0 to 1,000 rounds; one beyond the number of keys adds nothing
+ *   locks      keys by doors: the key opens the door
+ *   cabinets   doors by keys: the key is behind the door
+ *   hand       1 by keys: the keys in hand
+ *   out        2 times the doors that open and 8 words are needed
+ *   work       at least 15,309 words, any words; all zeros after the call
+ * In round 0 the keys in hand open doors; in each later round those, and the keys behind doors that were open in the
+ * round before. The answer's entries are the doors. Refused by 3 (locks), 4 (cabinets), 5 (hand), 7 (an allowance above
+ * 1,000), 8, 9, 11.
+ */
+uint64_t ostrubel_open_doors(uint32_t allowance, const uint32_t *locks, size_t locks_len, const uint32_t *cabinets,
+                             size_t cabinets_len, const uint32_t *hand, size_t hand_len, uint32_t *out,
+                             size_t out_len, uint32_t *work, size_t work_len);
 
 #ifdef __cplusplus
 }

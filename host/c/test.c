@@ -340,6 +340,42 @@ static void test_limits(void) {
                              OSTRUBEL_MIN_WORKSPACE_WORDS - 1), OSTRUBEL_WORKSPACE_TOO_SHORT);
 }
 
+/* Key 0 is in hand and opens door 1; behind that is key 1, which opens the doors 0 and 1. No key opens door 2. */
+static void test_doors(void) {
+    static const uint32_t locks[] = {2, 2, 3, 3, 0, 1, 3, 3, 1, 0, 1, 3, 0, 5, 0};
+    static const uint32_t cabinets[] = {2, 3, 2, 4, 0, 0, 1, 1, 1, 1, 1, 0};
+    static const uint32_t hand[] = {2, 1, 2, 2, 0, 1, 1, 0, 1, 0};
+    uint32_t out[13];
+    memset(out, 0x77, sizeof(out));
+    fill_work();
+    ACCEPTED(ostrubel_open_doors(0, WORDS(locks), WORDS(cabinets), WORDS(hand), WORDS(out), WORDS(work)), 1);
+    SAME(out, 2, 1, 3, 2, 0, 1, 1, 1, 1, 0, 0x77777777);
+    CHECK(work_cleared());
+    ACCEPTED(ostrubel_open_doors(OSTRUBEL_MAX_ALLOWANCE, WORDS(locks), WORDS(cabinets), WORDS(hand), WORDS(out),
+                                 WORDS(work)), 2);
+    SAME(out, 2, 1, 3, 2, 0, 2, 2, 0, 1, 2, 1, 0, 0x77777777);
+
+    fill_work();
+    REFUSED(ostrubel_open_doors(1001, WORDS(locks), WORDS(cabinets), hand, 9, WORDS(out), WORDS(work)),
+            OSTRUBEL_INVALID_MASK);
+    CHECK(work_cleared());
+    REFUSED(ostrubel_open_doors(1, locks, 14, cabinets, 11, WORDS(hand), WORDS(out), WORDS(work)),
+            OSTRUBEL_INVALID_FIRST);
+    REFUSED(ostrubel_open_doors(1, WORDS(locks), cabinets, 11, hand, 9, WORDS(out), WORDS(work)),
+            OSTRUBEL_INVALID_SECOND);
+    REFUSED(ostrubel_open_doors(1001, WORDS(locks), WORDS(locks), WORDS(hand), WORDS(out), WORDS(work)),
+            OSTRUBEL_INDEX_OUT_OF_BOUNDS);
+    REFUSED(ostrubel_open_doors(1, WORDS(locks), WORDS(locks), WORDS(hand), WORDS(out), work, 1),
+            OSTRUBEL_INVALID_SHAPE);
+    REFUSED(ostrubel_open_doors(1, WORDS(locks), WORDS(cabinets), WORDS(cabinets), WORDS(out), work, 1),
+            OSTRUBEL_INVALID_SHAPE);
+    REFUSED(ostrubel_open_doors(1, WORDS(locks), WORDS(cabinets), WORDS(hand), out, 11, work,
+                                OSTRUBEL_MIN_WORKSPACE_WORDS - 1), OSTRUBEL_WORKSPACE_TOO_SHORT);
+    REFUSED(ostrubel_open_doors(1, WORDS(locks), WORDS(cabinets), WORDS(hand), out, 11, WORDS(work)),
+            OSTRUBEL_INSUFFICIENT_SPACE);
+    SAME(out, 2, 1, 3, 2, 0, 2, 2, 0, 1, 2, 1, 0, 0x77777777);
+}
+
 int main(void) {
     test_format();
     test_row_view();
@@ -350,6 +386,7 @@ int main(void) {
     test_store_operations();
     test_files();
     test_limits();
+    test_doors();
     printf("ok\n");
     return 0;
 }

@@ -72,7 +72,7 @@ either-read true x y p q = p
 either-read false x y p q = q
 
 -- an answer by its refusal
-answer-small : (code : ℕ) (g : Grid) → Small code → SmallAnswer (answerFor code g)
+pub answer-small : (code : ℕ) (g : Grid) → Small code → SmallAnswer (answerFor code g)
 answer-small code g h = either-answer (eqb code 0) (accepted (entryCount g)) (refused code) (omega arith) h
 
 -- ---- matrices in buffers of their own

@@ -1,3 +1,4 @@
 pub mod Codes
 pub mod Unpacking
 pub mod FileAnswers
+pub mod Doors

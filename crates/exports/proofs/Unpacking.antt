@@ -39,7 +39,7 @@ use Rattle.exports.proofs.Codes.{
   store-read-small,
 }
 
-unpacked : (r : ℕ) (a : Answer) → r ≡ packed a → a .code < codeLimit → Unpacked r a
+pub unpacked : (r : ℕ) (a : Answer) → r ≡ packed a → a .code < codeLimit → Unpacked r a
 unpacked r a e h = record { code = omega arith; entries = omega arith }
 
 unpacked-cell : (r : ℕ) (a : CellAnswer) → r ≡ packedCell a → SmallRead a → UnpackedCell r a

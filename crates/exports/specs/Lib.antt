@@ -2,3 +2,4 @@ pub mod Packing
 pub mod Exported
 pub mod Unpacked
 pub mod Files
+pub mod Doors

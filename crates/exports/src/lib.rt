@@ -28,6 +28,7 @@ ghost use Rattle.exports.specs.Packing.{SmallPlace, codeLimit};
 ghost use Rattle.exports.specs.Exported.{optionsOf, rolesNamed, sectionOf};
 ghost use Rattle.exports.specs.Files.{packedText, LentFileRead, LentFileWritten, LentTextWritten};
 ghost use Rattle.exports.specs.Exported.{LentCreated, LentCompleted, StorePerformed, StoreRead};
+ghost use Rattle.exports.specs.Doors.{LentDoors};
 
 // In the answer of a read, what stands for a cell that is present.
 const PRESENT: u64 = 256;
@@ -798,4 +799,20 @@ fn pack_text(answer: TextAnswer) -> u64
     ensures { λ r. ⌜ r ≡ packedText answer ⌝ }
 {
     answer.code as u64 + answer.length as u64 * UPPER_WORD
+}
+
+// "Keys behind doors": the doors that open within an allowance of rounds, as a vector in `out`.
+#[no_mangle]
+pub extern "C" fn ostrubel_open_doors(
+    allowance: u32,
+    locks: &[u32],
+    cabinets: &[u32],
+    hand: &[u32],
+    out: &mut [u32],
+    work: &mut [u32],
+) -> u64
+    ensures { λ r. ⌜ LentDoors allowance (now (locks .entry)) (now (cabinets .entry)) (now (hand .entry))
+        (now (out .entry)) (now (work .entry)) r (now (out .exit)) (now (work .exit)) ⌝ }
+{
+    pack(key_calls::open_doors(allowance, locks, cabinets, hand, out, work))
 }

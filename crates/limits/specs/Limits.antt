@@ -28,3 +28,7 @@ slotCount = 8
 -- "The length is 8 to 16,384 words." (A6: "The shelf stays at 16,384 words."): each slot has at least its count
 abbrev pub maxStoreWords : ℕ
 maxStoreWords = 16384
+
+-- A13: "an allowance of 0 to 1,000 rounds"
+abbrev pub maxAllowance : ℕ
+maxAllowance = 1000

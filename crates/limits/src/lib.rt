@@ -23,3 +23,6 @@ pub const SLOTS: usize = 8;
 
 // The words of a store are at most this many.
 pub const MAX_STORE_WORDS: usize = 16384;
+
+// An allowance of rounds is 0 to this.
+pub const MAX_ALLOWANCE: u32 = 1000;

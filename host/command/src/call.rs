@@ -16,6 +16,7 @@ pub enum Call {
     Show { slot: Whole },
     List,
     Operation(Operation),
+    Doors(Doors),
 }
 
 #[derive(Debug)]
@@ -23,6 +24,15 @@ pub struct Cell {
     pub slot: Whole,
     pub row: Whole,
     pub col: Whole,
+}
+
+/// Keys behind doors: the slots of the three sheets that are read, and the rounds.
+#[derive(Debug)]
+pub struct Doors {
+    pub locks: Whole,
+    pub cabinets: Whole,
+    pub hand: Whole,
+    pub allowance: Whole,
 }
 
 /// One of the six operations; `c` is the slot that it writes.
@@ -101,7 +111,7 @@ impl Call {
 
     /// Whether the call can change the store.
     pub fn writes(&self) -> bool {
-        !matches!(self, Call::Read { .. } | Call::Show { .. } | Call::List)
+        !matches!(self, Call::Read { .. } | Call::Show { .. } | Call::List | Call::Doors(_))
     }
 
     /// The slots that the call names, inputs first.
@@ -112,7 +122,15 @@ impl Call {
             Call::Set { cell, .. } | Call::Clear { cell } | Call::Read { cell, .. } => plain(&cell.slot),
             Call::List => Vec::new(),
             Call::Operation(operation) => operation.roles(),
+            Call::Doors(doors) => doors.roles(),
         }
+    }
+}
+
+impl Doors {
+    pub fn roles(&self) -> Vec<Role<'_>> {
+        let role = |name, slot| Role { name, slot, transposed: false };
+        vec![role("LOCKS", &self.locks), role("CABINETS", &self.cabinets), role("HAND", &self.hand)]
     }
 }
 
@@ -146,6 +164,12 @@ fn call_of(command: Command, arguments: &mut Arguments) -> Result<Call, Usage> {
         Command::Read => Ok(Call::Read { cell: cell(arguments)?, position: arguments.flag("--position") }),
         Command::Show => Ok(Call::Show { slot: arguments.whole(0)? }),
         Command::List => Ok(Call::List),
+        Command::Doors => Ok(Call::Doors(Doors {
+            locks: arguments.whole(0)?,
+            cabinets: arguments.whole(1)?,
+            hand: arguments.whole(2)?,
+            allowance: arguments.whole(3)?,
+        })),
         _ => operation(command, arguments),
     }
 }

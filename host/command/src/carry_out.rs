@@ -1,9 +1,10 @@
 //! A call carried out on a store in memory.
 
-use crate::call::{Call, Kind, Operation};
+use crate::call::{Call, Doors, Kind, Operation};
 use crate::names::{IndexList, Whole};
 use crate::refusal::Refusal;
-use ostrubel::{Error, Found, Store, SLOTS};
+use ostrubel::{Error, Found, Matrix, Store, SLOTS};
+use std::collections::BTreeMap;
 
 /// Carries out the call and answers what it prints. A refused call leaves the store as it was.
 pub fn carry_out(call: &Call, store: &mut Store) -> Result<String, Refusal> {
@@ -42,6 +43,7 @@ fn attempt(call: &Call, store: &mut Store) -> Result<String, Error> {
             let entries = operate(operation, store)?;
             Ok(written(&operation.c, entries))
         }
+        Call::Doors(doors) => open_doors(doors, store),
     }
 }
 
@@ -99,5 +101,25 @@ fn list(store: &Store) -> Result<String, Error> {
     }
     let (used, all) = (store.used_words(), store.words().len());
     lines.push(format!("words: {used} used, {} free, {all} in all", all.saturating_sub(used)));
+    Ok(lines.join("\n"))
+}
+
+/// A line for each round in which doors open for the first time, and one for how many they are.
+fn open_doors(doors: &Doors, store: &Store) -> Result<String, Error> {
+    let Doors { locks, cabinets, hand, allowance } = doors;
+    if [locks, cabinets, hand].iter().any(|slot| slot.size() >= SLOTS) {
+        return Err(Error::InvalidStore);
+    }
+    let [locks, cabinets, hand] = [locks, cabinets, hand].map(|slot| store.matrix(slot.size()));
+    let opened = Matrix::open_doors(&locks?, &cabinets?, &hand?, allowance.index())?;
+    let mut rounds: BTreeMap<i32, Vec<String>> = BTreeMap::new();
+    for (_, door, round) in &opened {
+        rounds.entry(round).or_default().push(door.to_string());
+    }
+    let line = |(round, doors): (i32, Vec<String>)| {
+        format!("round {round}: {} {}", if doors.len() == 1 { "door" } else { "doors" }, doors.join(", "))
+    };
+    let mut lines: Vec<String> = rounds.into_iter().map(line).collect();
+    lines.push(format!("{} of {} open", opened.entries(), counted(opened.cols() as usize, "door", "doors")));
     Ok(lines.join("\n"))
 }

@@ -19,12 +19,13 @@ pub enum Command {
     Import,
     Export,
     Print,
+    Doors,
     Run,
     Help,
 }
 
 impl Command {
-    pub const ALL: [Command; 19] = [
+    pub const ALL: [Command; 20] = [
         Command::New,
         Command::Lay,
         Command::Drop,
@@ -42,6 +43,7 @@ impl Command {
         Command::Import,
         Command::Export,
         Command::Print,
+        Command::Doors,
         Command::Run,
         Command::Help,
     ];
@@ -65,6 +67,7 @@ impl Command {
             Command::Import => "import",
             Command::Export => "export",
             Command::Print => "print",
+            Command::Doors => "doors",
             Command::Run => "run",
             Command::Help => "help",
         }
@@ -83,6 +86,7 @@ impl Command {
             Command::Mxm | Command::EwiseMult | Command::EwiseAdd => &["C", "A", "B"],
             Command::Vxm => &["C", "U", "A"],
             Command::Apply | Command::Extract => &["C", "A"],
+            Command::Doors => &["LOCKS", "CABINETS", "HAND", "ALLOWANCE"],
             Command::Run => &["SCRIPT"],
         }
     }

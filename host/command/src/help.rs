@@ -3,7 +3,8 @@
 use crate::commands::Command;
 use crate::{script, shelf_file};
 use ostrubel::{
-    Error, MAX_COLS, MAX_ENTRIES, MAX_FILE_BYTES, MAX_INDEXES, MAX_ROWS, MAX_STORE_WORDS, MIN_STORE_WORDS, SLOTS,
+    Error, MAX_ALLOWANCE, MAX_COLS, MAX_ENTRIES, MAX_FILE_BYTES, MAX_INDEXES, MAX_ROWS, MAX_STORE_WORDS,
+    MIN_STORE_WORDS, SLOTS,
 };
 
 const PAGE_WIDTH: usize = 98;
@@ -18,6 +19,7 @@ fn filled(text: &str) -> String {
         ("{MAX_COLS}", MAX_COLS as usize),
         ("{MAX_ENTRIES}", MAX_ENTRIES),
         ("{MAX_INDEXES}", MAX_INDEXES),
+        ("{MAX_ALLOWANCE}", MAX_ALLOWANCE as usize),
         ("{LAST_PLACE}", SLOTS - 1),
         ("{MIN_WORDS}", MIN_STORE_WORDS),
         ("{MAX_WORDS}", MAX_STORE_WORDS),
@@ -80,6 +82,7 @@ fn command_text(command: Command) -> &'static str {
         Command::Import => include_str!("help/import.txt"),
         Command::Export => include_str!("help/export.txt"),
         Command::Print => include_str!("help/print.txt"),
+        Command::Doors => include_str!("help/doors.txt"),
         Command::Run => include_str!("help/run.txt"),
         Command::Help => include_str!("help/overview.txt"),
     }

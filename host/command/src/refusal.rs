@@ -1,9 +1,9 @@
 //! A refusal: its number, what is wrong, and what it is about.
 
-use crate::call::{Call, Kind, Operation, Role};
+use crate::call::{Call, Doors, Kind, Operation, Role};
 use crate::carry_out::{self, counted};
 use crate::names::{IndexList, Whole};
-use ostrubel::{Error, Store, MAX_COLS, MAX_INDEXES, MAX_ROWS, MAX_STORE_WORDS, MIN_STORE_WORDS, SLOTS};
+use ostrubel::{Error, Store, MAX_ALLOWANCE, MAX_COLS, MAX_INDEXES, MAX_ROWS, MAX_STORE_WORDS, MIN_STORE_WORDS, SLOTS};
 use std::collections::BTreeSet;
 use std::fmt;
 use std::path::Path;
@@ -57,6 +57,11 @@ impl Refusal {
                 (Some(sentence), vec![format!("{rows} by {cols}")])
             }
             (Error::InvalidShape, Call::Operation(operation)) => misfits(operation, store),
+            (Error::InvalidShape, Call::Doors(doors)) => doors_misfits(doors, store),
+            (Error::IndexOutOfBounds, Call::Doors(doors)) => {
+                let sentence = format!("ALLOWANCE is 0 to {MAX_ALLOWANCE} rounds, and not {}.", doors.allowance);
+                (Some(sentence), Vec::new())
+            }
             (Error::EmptySlot, _) => (None, places(call, |role| !store.occupied(role.slot.size()))),
             (Error::IndexOutOfBounds, _) => (None, outside(call, store)),
             (Error::TooManyEntries, _) => (None, entries(call, store)),
@@ -241,4 +246,16 @@ fn entries(call: &Call, store: &Store) -> Vec<String> {
 
 fn words(store: &Store) -> Vec<String> {
     vec![format!("{} of {} words are used now", store.used_words(), store.words().len())]
+}
+
+/// What keys behind doors needs, and the shapes that are not so.
+fn doors_misfits(doors: &Doors, store: &Store) -> (Option<String>, Vec<String>) {
+    let sheets: Option<Vec<Sheet>> = doors.roles().iter().map(|role| Sheet::of(role, store)).collect();
+    let Some([locks, cabinets, hand]) = sheets.as_deref() else {
+        return (None, Vec::new());
+    };
+    let need = "The shapes do not fit: CABINETS must have a row for each door and a column for each key, as LOCKS has \
+                columns and rows, and HAND one row and a column for each key.";
+    let about = facts([Some(locks.is()), cabinets.must_be((locks.cols, locks.rows)), hand.must_be((1, locks.rows))]);
+    (Some(need.to_string()), about)
 }

@@ -338,7 +338,7 @@ fn the_example_of_the_help() {
 fn the_examples_of_all_pages() {
     let folder = Folder::new();
     let mut lines = vec!["ostrubel new keys.shelf 5000".to_string()];
-    let pages = "lay set clear read show list drop mxm vxm eWiseMult eWiseAdd apply extract run";
+    let pages = "lay set clear read show list drop mxm vxm eWiseMult eWiseAdd apply extract doors run";
     let shapes = [
         ("mxm", "0 4 4, 1 4 4"),
         ("vxm", "1 1 5, 2 5 3, 3 1 3"),
@@ -346,6 +346,7 @@ fn the_examples_of_all_pages() {
         ("eWiseAdd", "0 5 4, 1 5 4, 2 5 4"),
         ("apply", "0 5 4, 1 5 4, 2 5 4"),
         ("extract", "0 10 3, 1 7 3"),
+        ("doors", "0 2 3, 1 3 2, 2 1 2"),
     ];
     for name in pages.split(' ') {
         let laid = shapes.iter().filter(|(page, _)| *page == name).flat_map(|(_, shapes)| shapes.split(", "));

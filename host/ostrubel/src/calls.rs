@@ -222,3 +222,45 @@ operation!(
     /// At (i, j) the cell of A at row `is[i]` and column `js[j]`.
     extract ostrubel_extract store_extract ostrubel_store_extract, [], [a a_n], [a], [is is_n, js js_n]
 );
+
+extern "C" {
+    fn ostrubel_open_doors(
+        allowance: u32,
+        locks: *const u32,
+        locks_n: usize,
+        cabinets: *const u32,
+        cabinets_n: usize,
+        hand: *const u32,
+        hand_n: usize,
+        out: *mut u32,
+        out_n: usize,
+        work: *mut u32,
+        work_n: usize,
+    ) -> u64;
+}
+
+/// The doors that open within an allowance of rounds, each with its first round, as a vector at the front of `out`.
+pub fn open_doors(
+    allowance: u32,
+    locks: &[u32],
+    cabinets: &[u32],
+    hand: &[u32],
+    out: &mut [u32],
+    work: &mut [u32],
+) -> u64 {
+    unsafe {
+        ostrubel_open_doors(
+            allowance,
+            locks.as_ptr(),
+            locks.len(),
+            cabinets.as_ptr(),
+            cabinets.len(),
+            hand.as_ptr(),
+            hand.len(),
+            out.as_mut_ptr(),
+            out.len(),
+            work.as_mut_ptr(),
+            work.len(),
+        )
+    }
+}

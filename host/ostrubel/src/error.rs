@@ -1,7 +1,7 @@
 //! Refusals.
 
 use crate::limits::{
-    MAX_COLS, MAX_ENTRIES, MAX_FILE_BYTES, MAX_INDEXES, MAX_ROWS, MAX_STORE_WORDS, MIN_STORE_WORDS, SLOTS,
+    MAX_ALLOWANCE, MAX_COLS, MAX_ENTRIES, MAX_FILE_BYTES, MAX_INDEXES, MAX_ROWS, MAX_STORE_WORDS, MIN_STORE_WORDS, SLOTS,
     WORKSPACE_WORDS,
 };
 use std::borrow::Cow;
@@ -32,12 +32,12 @@ pub enum Error {
     InvalidFirst = 3,
     /// 4: the second input is no valid matrix.
     InvalidSecond = 4,
-    /// 5: the mask is no valid matrix.
+    /// 5: the mask, or the vector of the keys in hand, is no valid matrix.
     InvalidMask = 5,
     /// 6: the output is no valid matrix.
     InvalidOutput = 6,
     /// 7: an index, row or column past the matrix, or an index list that is empty, has over [`MAX_INDEXES`] indexes or
-    /// has one of them twice.
+    /// has one of them twice, or an allowance above [`MAX_ALLOWANCE`].
     IndexOutOfBounds = 7,
     /// 8: rows or columns outside 1 to [`MAX_ROWS`] and [`MAX_COLS`], shapes that disagree, or more than one row where a
     /// vector is due.
@@ -108,7 +108,8 @@ impl Error {
             }
             Error::IndexOutOfBounds => format!(
                 "A row or column lies past the edge of the sheet, or a list of them does not have 1 to {MAX_INDEXES} \
-                 numbers, each once: count rows and columns from 0, stay within the sheet, and name none twice."
+                 numbers, each once: count rows and columns from 0, stay within the sheet, and name none twice. Or \
+                 more than {MAX_ALLOWANCE} rounds are allowed for opening doors: allow fewer."
             )
             .into(),
             Error::InvalidShape => format!(

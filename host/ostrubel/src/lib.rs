@@ -1,9 +1,10 @@
 //! Sparse whole-number matrices with GraphBLAS operations: a safe interface to the proved library.
 //!
 //! A [`Matrix`] has a value or none in each cell. Six operations write into one: [`Matrix::mxm`], [`Matrix::vxm`],
-//! [`Matrix::ewise_mult`], [`Matrix::ewise_add`], [`Matrix::apply`] and [`Matrix::extract`], each by its [`Options`]: a
-//! mask, an accumulator and flags. [`Matrix::to_bytes`] and [`Matrix::from_bytes`] carry one in a file. A [`Store`] has eight matrices in one buffer, and the same operations by slots. A
-//! refused call is an [`Error`] and changes nothing.
+//! [`Matrix::ewise_mult`], [`Matrix::ewise_add`], [`Matrix::apply`] and [`Matrix::extract`], each by its [`Options`]:
+//! a mask, an accumulator and flags. [`Matrix::to_bytes`] and [`Matrix::from_bytes`] carry one in a file.
+//! [`Matrix::open_doors`] answers which doors open by keys of which some are behind doors. A [`Store`] has eight
+//! matrices in one buffer, and the same operations by slots. A refused call is an [`Error`] and changes nothing.
 //!
 //! # A phone that was late
 //!
@@ -36,6 +37,7 @@ mod answer;
 #[allow(unsafe_code)]
 pub mod calls;
 mod descriptor;
+mod doors;
 mod entries;
 mod error;
 mod files;
@@ -54,8 +56,8 @@ pub use descriptor::Descriptor;
 pub use entries::Entries;
 pub use error::Error;
 pub use limits::{
-    MAX_COLS, MAX_ENTRIES, MAX_FILE_BYTES, MAX_INDEXES, MAX_MATRIX_WORDS, MAX_ROWS, MAX_STORE_WORDS, MAX_TEXT_BYTES,
-    MIN_STORE_WORDS, SLOTS, STACK_BYTES, WORKSPACE_WORDS,
+    MAX_ALLOWANCE, MAX_COLS, MAX_ENTRIES, MAX_FILE_BYTES, MAX_INDEXES, MAX_MATRIX_WORDS, MAX_ROWS, MAX_STORE_WORDS,
+    MAX_TEXT_BYTES, MIN_STORE_WORDS, SLOTS, STACK_BYTES, WORKSPACE_WORDS,
 };
 pub use matrix::{Found, Matrix, Section};
 pub use operators::{ApplyOp, BinaryOp, IndexUnaryOp, Monoid, Semiring, UnaryOp};

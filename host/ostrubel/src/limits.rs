@@ -35,3 +35,6 @@ pub const MAX_TEXT_BYTES: usize = 15 + 20 * MAX_ENTRIES;
 
 /// Bytes of stack that are enough for any of the library's calls ([`calls`](crate::calls)), at the largest shapes too.
 pub const STACK_BYTES: usize = 48 << 10;
+
+/// The most rounds that [`Matrix::open_doors`](crate::Matrix::open_doors) may be allowed.
+pub const MAX_ALLOWANCE: u32 = 1_000;

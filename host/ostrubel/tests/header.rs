@@ -32,6 +32,7 @@ fn limits() {
         ("MAX_ENTRIES", ostrubel::MAX_ENTRIES),
         ("MAX_INDEXES", ostrubel::MAX_INDEXES),
         ("SLOTS", ostrubel::SLOTS),
+        ("MAX_ALLOWANCE", ostrubel::MAX_ALLOWANCE as usize),
         ("MIN_STORE_WORDS", ostrubel::MIN_STORE_WORDS),
         ("MAX_STORE_WORDS", ostrubel::MAX_STORE_WORDS),
         ("MAX_MATRIX_WORDS", ostrubel::MAX_MATRIX_WORDS),

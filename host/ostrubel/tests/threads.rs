@@ -2,8 +2,8 @@
 
 use ostrubel::calls::{self, OptionNumbers};
 use ostrubel::{Error, Matrix, Store};
-use ostrubel::{MAX_COLS, MAX_ENTRIES, MAX_FILE_BYTES, MAX_MATRIX_WORDS, MAX_ROWS, MAX_STORE_WORDS, MAX_TEXT_BYTES};
-use ostrubel::{STACK_BYTES, WORKSPACE_WORDS};
+use ostrubel::{MAX_ALLOWANCE, MAX_COLS, MAX_ENTRIES, MAX_FILE_BYTES, MAX_MATRIX_WORDS, MAX_ROWS, MAX_STORE_WORDS};
+use ostrubel::{MAX_TEXT_BYTES, STACK_BYTES, WORKSPACE_WORDS};
 use std::thread;
 
 const PLUS: u32 = 3;
@@ -32,6 +32,16 @@ struct Buffers {
     work: Vec<u32>,
     file: Vec<u8>,
     text: Vec<u8>,
+    corridor: [Vec<u32>; 3],
+    doors: Vec<u32>,
+}
+
+/// Key k opens door k, and key k + 1 is behind it; key 0 is in hand. So each door takes a round.
+fn corridor() -> Result<[Vec<u32>; 3], Error> {
+    let locks = Matrix::from_triples(MAX_ROWS, MAX_COLS, (0..MAX_ROWS).map(|k| (k, k, 0)))?;
+    let cabinets = Matrix::from_triples(MAX_ROWS, MAX_COLS, (1..MAX_ROWS).map(|k| (k - 1, k, 0)))?;
+    let hand = Matrix::from_triples(1, MAX_ROWS, [(0, 0, 0)])?;
+    Ok([locks, cabinets, hand].map(Matrix::into_words))
 }
 
 /// A matrix of the largest shape with so many entries; which ones and their values go by the seed.
@@ -68,6 +78,8 @@ impl Buffers {
             work: vec![9; WORKSPACE_WORDS],
             file: vec![0; MAX_FILE_BYTES],
             text: vec![0; MAX_TEXT_BYTES],
+            corridor: corridor()?,
+            doors: vec![7; MAX_MATRIX_WORDS],
         })
     }
 
@@ -76,7 +88,13 @@ impl Buffers {
         let mut answers = self.lent_calls();
         answers.extend(self.file_calls());
         answers.extend(self.store_calls());
+        answers.push(self.doors_call());
         answers
+    }
+
+    fn doors_call(&mut self) -> u64 {
+        let Buffers { corridor: [locks, cabinets, hand], doors, work, .. } = self;
+        calls::open_doors(MAX_ALLOWANCE, locks, cabinets, hand, doors, work)
     }
 
     fn lent_calls(&mut self) -> Vec<u64> {

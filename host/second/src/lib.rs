@@ -5,11 +5,13 @@
 //! `calls` says what a call is; `operators`, `grid`, `model`, `lent` and `store_grids` are the model, with
 //! places for the planted faults of `fault`; `generate*` makes calls, `full_rows` those on each cell of a row; `ffi` and
 //! `library` carry them out; `compare` finds differences; `shrink` and `describe` show a small failing case. `merges` merges
-//! sheets in several orders; `files` reads and writes files and texts, `program` runs the program that prints them.
+//! sheets in several orders; `files` reads and writes files and texts, `program` runs the program that prints them;
+//! `doors` asks which doors open within an allowance of rounds.
 
 pub mod calls;
 pub mod compare;
 pub mod describe;
+pub mod doors;
 pub mod fault;
 mod ffi;
 pub mod files;

@@ -7,7 +7,7 @@ use second::compare::{judge_lent, judge_list, see_lent, see_list, Seen};
 use second::fault::{self, Fault};
 use second::model::{Model, SOUND};
 use second::rng::Rng;
-use second::{describe, files, full_rows, generate_lent, generate_store, merges, program, shrink};
+use second::{describe, doors, files, full_rows, generate_lent, generate_store, merges, program, shrink};
 use std::collections::{BTreeMap, BTreeSet};
 use std::process::ExitCode;
 use std::time::Instant;
@@ -182,6 +182,7 @@ fn compare_all(arguments: &Arguments) -> ExitCode {
         compare_rows(arguments)?;
         compare_merges(arguments)?;
         compare_files(arguments)?;
+        compare_doors(arguments)?;
         compare_random(arguments)
     };
     match all() {
@@ -228,6 +229,23 @@ fn compare_files(arguments: &Arguments) -> Result<(), Disagreement> {
         }
     }
     println!("seed {seed}: {lists} files read, and sheets written as files and as texts: no disagreement");
+    Ok(())
+}
+
+/// Keys behind doors; as many calls as lists of calls on a store.
+fn compare_doors(arguments: &Arguments) -> Result<(), Disagreement> {
+    let &Arguments { seed, lists, .. } = arguments;
+    let mut codes: BTreeMap<u32, u64> = BTreeMap::new();
+    for number in 0..lists {
+        match doors::doors(&mut Rng::of_case(seed, 4, number)).judge() {
+            Ok(answer) => *codes.entry(code_of(answer)).or_default() += 1,
+            Err(text) => {
+                println!("seed {seed}, doors {number}: {text}");
+                return Err(Disagreement);
+            }
+        }
+    }
+    println!("seed {seed}: {lists} calls of keys behind doors, by codes {codes:?}: no disagreement");
     Ok(())
 }
 

@@ -1,0 +1,4 @@
+pub mod Stamps
+pub mod Rows
+pub mod Steps
+pub mod Hands
