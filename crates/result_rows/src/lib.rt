@@ -4,6 +4,7 @@ use operations::Operation;
 use operators::ApplyOp;
 use operators::BinaryOp;
 use operators::Monoid;
+use select_ops::SelectOp;
 ghost use mathlib.Core.Path.{_≡_};
 ghost use Prim.Native.Nat.{_≤_, _<_};
 ghost use lib.ListN.{length};
@@ -11,7 +12,7 @@ ghost use Rattle.words.specs.Words.{at};
 ghost use Rattle.rows.specs.Row.{Holds};
 ghost use Rattle.matrix.specs.Layout.{rows, cols, cellOf, gridOf};
 ghost use Rattle.matrix.specs.Facts.{Matrix};
-ghost use Rattle.operations.specs.CellOperations.{dot, applyCell};
+ghost use Rattle.operations.specs.CellOperations.{dot, applyCell, selectCell};
 ghost use Rattle.operations.specs.GridOperations.{resultGrid};
 ghost use Rattle.merge.specs.Combined.{combined};
 ghost use Rattle.result_rows.specs.RowInputs.{RowInputs, Buffers, ProductInputs, PairInputs, ListInputs, noCell};
@@ -43,6 +44,8 @@ pub fn result_row(
         Operation::EwiseAdd(op) => pair(Combine::Unite(op), a, b, i, oc, ov),
         Operation::Apply(op) => applied(op, a, i, oc, ov),
         Operation::Extract => extracted(a, is, js, i, oc, ov),
+        Operation::Select(op) => selected(op, a, i, oc, ov),
+        Operation::ReduceRows(monoid) => reduce_rows::reduce_rows(monoid, a, oc, ov),
     }
 }
 
@@ -127,6 +130,25 @@ fn extracted(a: &[u32], is: &[u32], js: &[u32], i: usize, oc: &mut [u32], ov: &m
         matrix::row_columns(a, row),
         matrix::row_values(a, row),
         js,
+        oc,
+        ov,
+    )
+}
+
+// A row of select.
+fn selected(op: SelectOp, a: &[u32], i: usize, oc: &mut [u32], ov: &mut [u32]) -> usize
+    requires { ⌜ Matrix (now a) ⌝ ∗ ⌜ i < rows (now a) ⌝ }
+    requires { ⌜ (cols (now a) ≤ length (now oc)) × (cols (now a) ≤ length (now ov)) ⌝ }
+    ensures { λ r. ⌜ Holds (cols (now (a .entry)))
+        (λ j. selectCell op i j (cellOf (now (a .entry)) i j))
+        r (now (oc .exit)) (now (ov .exit)) ⌝ }
+{
+    select_rows::select_row(
+        matrix::col_count(a) as usize,
+        op,
+        i as u32,
+        matrix::row_columns(a, i),
+        matrix::row_values(a, i),
         oc,
         ov,
     )
