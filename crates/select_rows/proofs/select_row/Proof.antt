@@ -1,82 +1,98 @@
+-- `select_row` leaves the row that select gives: those entries before p that are kept are written.
+use Prim.Native.Nat.{_-_, _<_}
+use native.Mathlib.Omega.{arith}
+use mathlib.Core.Path.{sym, _∙_}
+use mathlib.Core.Logic.{⊎-elim}
+use lib.ListN.{length}
+use Rattle.select_rows.proofs.Selecting.{
+  Selecting,
+  selecting-start,
+  selecting-room,
+  selecting-kept,
+  selecting-left,
+  selecting-done,
+}
 use Rattle.select_rows.proofs.select_row.Statement.{statement}
 use Rattle.select_rows.proofs.select_row.Tie as tie
-use Rattle.select_rows.proofs.select_row.Reads as reads
-use Rattle.select_rows.proofs.select_row.Lts as lts
-use Rattle.select_ops.proofs.is_selected.Reads as is-selected-reads
+
+
 
 abbrev Inv-loop : tie.InvT-loop
-Inv-loop places op i columns values oc₀ ov₀ p₀ e₀ oc ov p e = ?
+Inv-loop places op i columns values oc₀ ov₀ p₀ e₀ oc ov p e =
+    Selecting places op i columns values oc₀ ov₀ oc ov p e
 
 abbrev μ-loop : tie.MeasureT-loop
-μ-loop places op i columns values oc₀ ov₀ p₀ e₀ oc ov p e = ?
+μ-loop places op i columns values oc₀ ov₀ p₀ e₀ oc ov p e = length columns - p
 
--- src/lib.rt:26:5
+-- the function's entry, seen from the loop, and the loop's turn, seen from the kept entry
+abbrev start : tie.At-loop Inv-loop μ-loop → tie.Start Inv-loop μ-loop
+start q = q .before .before .before .before .before
+
+abbrev turn : tie.Then1 Inv-loop μ-loop → tie.In-loop Inv-loop μ-loop
+turn c = c .before .before .before .before
+
+room : (c : tie.Then1 Inv-loop μ-loop) → turn c .before .loop .e < start (turn c .before) .args .places
+room c = selecting-room (start (turn c .before) .pre .0) (turn c .before .loop .inv) (turn c .loop-test .taken)
+
 loop-holds : tie.Need-loop-holds Inv-loop μ-loop
-loop-holds c = ?
+loop-holds c = selecting-start (c .before .before .before .before .pre .0) _ _ _ _
 
--- src/lib.rt:27:17
 mul-j : tie.Need-mul-j Inv-loop μ-loop
-mul-j c = ?
+mul-j c = omega arith
 
--- src/lib.rt:27:17
 shared-slice-read-j : tie.Need-shared-slice-read-j Inv-loop μ-loop
-shared-slice-read-j c = ?
+shared-slice-read-j c = omega arith
 
--- src/lib.rt:28:17
 mul-x : tie.Need-mul-x Inv-loop μ-loop
-mul-x c = ?
+mul-x c = omega (arith, start (c .before .before) .pre .0 .even)
 
--- src/lib.rt:28:17
 shared-slice-read-x : tie.Need-shared-slice-read-x Inv-loop μ-loop
-shared-slice-read-x c = ?
+shared-slice-read-x c = omega (arith, start (c .before .before .before) .pre .0 .even)
 
--- src/lib.rt:29:12
 is-selected-requires : tie.Need-is-selected-requires Inv-loop μ-loop
-is-selected-requires c κs = ?
+is-selected-requires c κs = tt
 
--- src/lib.rt:30:13
 mul-oc : tie.Need-mul-oc Inv-loop μ-loop
-mul-oc c = ?
+mul-oc c = omega (arith, room c, start (turn c .before) .pre .1)
 
--- src/lib.rt:30:13
 slice-write-oc : tie.Need-slice-write-oc Inv-loop μ-loop
-slice-write-oc c = ?
+slice-write-oc c = omega (arith, room c, start (turn c .before) .pre .1)
 
--- src/lib.rt:31:13
 mul-ov : tie.Need-mul-ov Inv-loop μ-loop
-mul-ov c = ?
+mul-ov c = omega (arith, room c, start (turn c .before) .pre .1)
 
--- src/lib.rt:31:13
 slice-write-ov : tie.Need-slice-write-ov Inv-loop μ-loop
-slice-write-ov c = ?
+slice-write-ov c = omega (arith, room c, start (turn c .before) .pre .1)
 
--- src/lib.rt:32:13
 add-e : tie.Need-add-e Inv-loop μ-loop
-add-e c = ?
+add-e c = omega (arith, room c)
 
--- src/lib.rt:34:9
 add-p : tie.Need-add-p Inv-loop μ-loop
-add-p c = ?
+add-p c = omega arith
 
--- src/lib.rt:26:5
 loop-less : tie.Need-loop-less Inv-loop μ-loop
-loop-less c = ?
+loop-less c = omega arith
 
--- src/lib.rt:26:5
 loop-again : tie.Need-loop-again Inv-loop μ-loop
-loop-again c = ?
+loop-again c =
+    let kept = c .before .is-selected .ensures in
+    let t = c .before .before .before .before in
+    let h = t .before .loop .inv in
+    let p = start (t .before) .pre in
+    ⊎-elim
+    (λ w. rw (w .1, w .2, w .3)
+    (selecting-kept (p .0) h (t .loop-test .taken) (p .1 .0) (p .1 .1) (sym kept ∙ w .0 .taken)))
+    (λ w. rw (w .1, w .2, w .3) (selecting-left (p .0) h (t .loop-test .taken) (sym kept ∙ w .0 .left)))
+    (c .if1 .came)
 
--- src/lib.rt:10:1
 same-length : tie.Need-same-length Inv-loop μ-loop
-same-length c = ?
+same-length c = c .before .loop .inv .long-cols
 
--- src/lib.rt:10:1
 same-length-2 : tie.Need-same-length-2 Inv-loop μ-loop
-same-length-2 c = ?
+same-length-2 c = c .before .loop .inv .long-vals
 
--- src/lib.rt:10:1
 returns : tie.Need-returns Inv-loop μ-loop
-returns c = ?
+returns c = selecting-done (start (c .before) .pre .0) (c .before .loop .inv) (c .loop-test .left)
 
 pub select-row-spec : {M : Type 1} → statement M
 select-row-spec =
