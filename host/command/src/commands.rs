@@ -16,12 +16,15 @@ pub enum Command {
     EwiseAdd,
     Apply,
     Extract,
+    Select,
+    ReduceRows,
+    Reduce,
     Run,
     Help,
 }
 
 impl Command {
-    pub const ALL: [Command; 16] = [
+    pub const ALL: [Command; 19] = [
         Command::New,
         Command::Lay,
         Command::Drop,
@@ -36,6 +39,9 @@ impl Command {
         Command::EwiseAdd,
         Command::Apply,
         Command::Extract,
+        Command::Select,
+        Command::ReduceRows,
+        Command::Reduce,
         Command::Run,
         Command::Help,
     ];
@@ -56,6 +62,9 @@ impl Command {
             Command::EwiseAdd => "eWiseAdd",
             Command::Apply => "apply",
             Command::Extract => "extract",
+            Command::Select => "select",
+            Command::ReduceRows => "reduceRows",
+            Command::Reduce => "reduce",
             Command::Run => "run",
             Command::Help => "help",
         }
@@ -66,21 +75,21 @@ impl Command {
         match self {
             Command::New => &["WORDS"],
             Command::Lay => &["PLACE", "ROWS", "COLS"],
-            Command::Drop | Command::Show => &["PLACE"],
+            Command::Drop | Command::Show | Command::Reduce => &["PLACE"],
             Command::Set => &["PLACE", "ROW", "COL", "VALUE"],
             Command::Clear | Command::Read => &["PLACE", "ROW", "COL"],
             Command::List | Command::Help => &[],
             Command::Mxm | Command::EwiseMult | Command::EwiseAdd => &["C", "A", "B"],
             Command::Vxm => &["C", "U", "A"],
-            Command::Apply | Command::Extract => &["C", "A"],
+            Command::Apply | Command::Extract | Command::Select | Command::ReduceRows => &["C", "A"],
             Command::Run => &["SCRIPT"],
         }
     }
 
-    /// Whether it is one of the six operations.
+    /// Whether it is one of the operations that write a sheet.
     pub fn is_operation(self) -> bool {
-        use Command::{Apply, EwiseAdd, EwiseMult, Extract, Mxm, Vxm};
-        matches!(self, Mxm | Vxm | EwiseMult | EwiseAdd | Apply | Extract)
+        use Command::{Apply, EwiseAdd, EwiseMult, Extract, Mxm, ReduceRows, Select, Vxm};
+        matches!(self, Mxm | Vxm | EwiseMult | EwiseAdd | Apply | Extract | Select | ReduceRows)
     }
 
     /// The command of a name, in any case and with hyphens or underscores anywhere but in front.

@@ -6,7 +6,7 @@ use ostrubel::{Error, MAX_COLS, MAX_ENTRIES, MAX_INDEXES, MAX_ROWS, MAX_STORE_WO
 
 const PAGE_WIDTH: usize = 98;
 
-/// What the pages of the six operations end with.
+/// What the pages of the operations end with.
 const OPTIONS: &str = include_str!("help/options.txt");
 
 /// The text with its limits: no page has one of its own.
@@ -37,7 +37,7 @@ pub fn page(topic: &str) -> Option<String> {
         return Some(command_page(command));
     }
     match topic.to_lowercase().as_str() {
-        "options" => Some(format!("Options of the six operations\n\n{OPTIONS}")),
+        "options" => Some(format!("Options of the operations that write a sheet\n\n{OPTIONS}")),
         "operators" => Some(include_str!("help/operators.txt").to_string()),
         "refusals" => Some(refusals()),
         _ => None,
@@ -74,6 +74,9 @@ fn command_text(command: Command) -> &'static str {
         Command::EwiseAdd => include_str!("help/ewise_add.txt"),
         Command::Apply => include_str!("help/apply.txt"),
         Command::Extract => include_str!("help/extract.txt"),
+        Command::Select => include_str!("help/select.txt"),
+        Command::ReduceRows => include_str!("help/reduce_rows.txt"),
+        Command::Reduce => include_str!("help/reduce.txt"),
         Command::Run => include_str!("help/run.txt"),
         Command::Help => include_str!("help/overview.txt"),
     }

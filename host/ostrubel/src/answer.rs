@@ -15,6 +15,12 @@ pub fn cell(answer: u64) -> Result<Option<i32>, Error> {
     Ok(is_present.then_some(upper_word(answer) as i32))
 }
 
+/// The number that a matrix was reduced to.
+pub fn number(answer: u64) -> Result<i32, Error> {
+    accepted(answer)?;
+    Ok(upper_word(answer) as i32)
+}
+
 /// The codes are 0 to 13: no other can be answered.
 fn accepted(answer: u64) -> Result<(), Error> {
     match (answer & 255) as u32 {

@@ -1,9 +1,10 @@
 //! Sparse whole-number matrices with GraphBLAS operations: a safe interface to the proved library.
 //!
-//! A [`Matrix`] has a value or none in each cell. Six operations write into one: [`Matrix::mxm`], [`Matrix::vxm`],
-//! [`Matrix::ewise_mult`], [`Matrix::ewise_add`], [`Matrix::apply`] and [`Matrix::extract`], each by its [`Options`]: a
-//! mask, an accumulator and flags. A [`Store`] has eight matrices in one buffer, and the same operations by slots. A
-//! refused call is an [`Error`] and changes nothing.
+//! A [`Matrix`] has a value or none in each cell. Eight operations write into one: [`Matrix::mxm`], [`Matrix::vxm`],
+//! [`Matrix::ewise_mult`], [`Matrix::ewise_add`], [`Matrix::apply`], [`Matrix::extract`], [`Matrix::select`] and
+//! [`Matrix::reduce_rows`], each by its [`Options`]: a mask, an accumulator and flags. [`Matrix::reduce`] gives one number.
+//! A [`Store`] has eight matrices in one buffer, and the same operations by slots. A refused call is an [`Error`] and
+//! changes nothing.
 //!
 //! # A phone that was late
 //!
@@ -57,6 +58,6 @@ pub use limits::{
     STACK_BYTES, WORKSPACE_WORDS,
 };
 pub use matrix::{Matrix, Section};
-pub use operators::{ApplyOp, BinaryOp, IndexUnaryOp, Monoid, Semiring, UnaryOp};
+pub use operators::{ApplyOp, BinaryOp, IndexUnaryOp, Monoid, SelectOp, Semiring, UnaryOp};
 pub use options::Options;
 pub use store::Store;
