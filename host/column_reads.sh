@@ -1,8 +1,9 @@
 #!/bin/sh
 # No column number is read uncounted while a cell is found: of the functions that find one, this lists every place of lent
-# words that is read and every call, and compares the list with the one below. Each function of a search is called once. There the columns of a
-# row are read by `row_valid`, which checks a matrix, and by `look`, which counts; the other places are the shape, the row
-# starts, N and the values. `row_columns` and `row_values` cut the parts of a row out without reading them.
+# words that is read and every call, and compares the list with the one below. Each function of a search is called once.
+# There the columns of a row are read by `look`, which counts; the other places are the shape, the row starts, N and the
+# values. `row_columns` and `row_values` cut the parts of a row out without reading them. `matrix::is_valid` checks the whole
+# matrix before.
 set -eu
 cd "$(dirname "$0")/.."
 
@@ -29,8 +30,7 @@ found=$(
     list matrix 'row_columns|row_values'
     list store_cells 'read_cell|cell_refusal'
 )
-expected='rows row_valid: columns[k]
-rows find_cell: find_column(
+expected='rows find_cell: find_column(
 rows find_cell: cell_beside(
 rows cell_at: look_at(
 rows cell_at: cell_beside(

@@ -9,6 +9,7 @@ use call_codes::Verb;
 use compute::Outcome;
 use matrix::layout::FIXED_WORDS;
 use operations::Call;
+use products::Engine;
 ghost use mathlib.Core.Path.{_≡_};
 ghost use Prim.Native.Nat.{_≤_};
 ghost use lib.ListN.{length};
@@ -34,8 +35,38 @@ pub fn operate<'a>(
     ensures { λ r. ⌜ Completed (decoded options verb) (now (a .entry)) (now (b .entry)) (now (mask .entry))
         (now (c .entry)) (now (is .entry)) (now (js .entry)) (now (work .entry)) r (now (c .exit)) (now (work .exit)) ⌝ }
 {
+    operate_with(
+        options,
+        verb,
+        a,
+        b,
+        mask,
+        is,
+        js,
+        c,
+        work,
+        Engine::ByEntries,
+    )
+}
+
+// The same with either engine of the product.
+pub fn operate_with<'a>(
+    options: Options,
+    verb: Verb,
+    a: &'a [u32],
+    b: &'a [u32],
+    mask: &[u32],
+    is: &[u32],
+    js: &[u32],
+    c: &mut [u32],
+    work: &mut [u32],
+    engine: Engine,
+) -> Answer
+    ensures { λ r. ⌜ Completed (decoded options verb) (now (a .entry)) (now (b .entry)) (now (mask .entry))
+        (now (c .entry)) (now (is .entry)) (now (js .entry)) (now (work .entry)) r (now (c .exit)) (now (work .exit)) ⌝ }
+{
     let call = call_codes::decode(options, verb);
-    let answer = attempt(call, a, b, mask, is, js, c, work);
+    let answer = attempt(call, a, b, mask, is, js, c, work, engine);
     words::clear(work);
     answer
 }
@@ -50,6 +81,7 @@ fn attempt<'a>(
     js: &[u32],
     c: &mut [u32],
     work: &mut [u32],
+    engine: Engine,
 ) -> Answer
     ensures { λ r. ⌜ Attempted call (now (a .entry)) (now (b .entry)) (now (mask .entry)) (now (c .entry))
         (now (is .entry)) (now (js .entry)) (length (now (work .entry))) r (now (c .exit)) ⌝ }
@@ -61,7 +93,7 @@ fn attempt<'a>(
             entries: 0,
         };
     }
-    let outcome = compute::compute(call, a, b, mask, &c[..], is, js, work);
+    let outcome = compute::compute(call, a, b, mask, &c[..], is, js, work, engine);
     match outcome {
         Outcome::Full => Answer {
             code: TOO_MANY_ENTRIES,

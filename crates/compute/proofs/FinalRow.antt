@@ -2,22 +2,24 @@
 use Prim.Native.Nat.{ℕ, _<_}
 use native.Mathlib.Omega.{arith}
 use mathlib.Core.Path.{_≡_, refl, ap, _∙_}
-use mathlib.Core.List.{List}
-use mathlib.Core.Bool.{true}
+use mathlib.Core.List.{List, []}
+use mathlib.Core.Bool.{Bool, true, false, cond}
 use lib.ListN.{take}
 use borrow.Author.Tests.{eqb-true}
 use Rattle.conditions.proofs.Tests.{and-left, and-right}
 use Rattle.grid.specs.declared.Cell.{Cell}
+use Rattle.grid.specs.declared.Cell.the-variants.{Absent}
 use Rattle.grid.specs.Grid.{Grid, Same}
 use Rattle.rows.specs.Row.{Holds, lookup}
 use Rattle.rows.proofs.Holds.{holds-same}
+use Rattle.rows.proofs.Walk.{row-wider}
 use Rattle.rows.proofs.Lookup.{gather-row, lookup-gather}
-use Rattle.matrix.specs.Layout.{rows, cols, cellOf, gridOf}
+use Rattle.matrix.specs.Layout.{rows, cols, rowColumns, rowValues, cellOf, gridOf}
 use Rattle.operations.specs.declared.Call.{Call}
 use Rattle.operations.specs.declared.WriteBack.{WriteBack}
 use Rattle.operations.specs.declared.Shapes.{Shapes}
 use Rattle.operations.specs.GridOperations.{oriented, needsOf, resultGrid}
-use Rattle.operations.specs.WriteBacks.{writeBack}
+use Rattle.operations.specs.WriteBacks.{accumulated, inside, writeBack}
 use Rattle.operations.specs.Calls.{
   transposeFirst,
   transposeSecond,
@@ -35,7 +37,9 @@ use Rattle.operations.specs.Calls.{
 use Rattle.requests.specs.Refusal.{lentFinal}
 use Rattle.requests.specs.Inputs.{Ready}
 use Rattle.result_rows.specs.RowInputs.{rowShapes, rowNeeds, RowInputs, Buffers}
-use Rattle.compute.specs.Computing.{OldRow, Source, RowBuffers}
+use Rattle.result_rows.proofs.Inputs.{matrix-row}
+use Rattle.masked_rows.specs.Inside.{MaskKnown, HoldsInside}
+use Rattle.compute.specs.Computing.{MaskThere, OldRow, Source, RowBuffers}
 use Rattle.operations.proofs.Results.{shapes-of-same, cell-same}
 
 -- what `shapesAgree` says
@@ -61,6 +65,34 @@ shapes-facts call a b m c is js h₀ =
       mask-rows = λ e. eqb-true _ _ (and-left _ _ (rw e at k));
       mask-cols = λ e. eqb-true _ _ (and-right _ _ (rw e at k));
     }
+
+-- the write-back looks at T inside the mask only
+write-inside : (w : WriteBack) (m c t t′ : Cell) → (inside w m ≡ true → t ≡ t′) → writeBack w m c t ≡ writeBack w m c t′
+unfolding writeBack
+write-inside w m c t t′ e = go (inside w m) e
+  where
+    go : (b : Bool) → (b ≡ true → t ≡ t′)
+        → cond b (accumulated (w .accumulator) c t) (cond (w .replace) Absent c)
+        ≡ cond b (accumulated (w .accumulator) c t′) (cond (w .replace) Absent c)
+    go true f = ap (accumulated (w .accumulator) c) (f refl)
+    go false f = refl
+
+-- the mask's row as it is handed on has the mask's own cells, where there is a mask
+pub mask-inside : (w : WriteBack) (b : Bool) → w .«has_mask» ≡ b → (m : List ℕ) (i : ℕ) {n : ℕ} {f : ℕ → Cell} {e : ℕ}
+    {oc ov : List ℕ} → HoldsInside w (lookup (cond b (rowColumns m i) []) (cond b (rowValues m i) [])) n f e oc ov
+    → HoldsInside w (cellOf m i) n f e oc ov
+unfolding cellOf
+mask-inside w true k m i h = record { row = h .row; holds = h .holds; same = h .same }
+mask-inside w false k m i h = record {
+  row = h .row;
+  holds = h .holds;
+  same = λ j l. h .same j (rw k (rw k at l));
+}
+
+pub mask-known : (w : WriteBack) (m : List ℕ) (i : ℕ) (mc mv : List ℕ) → MaskThere w m i
+    → mc ≡ cond (w .«has_mask») (rowColumns m i) [] → mv ≡ cond (w .«has_mask») (rowValues m i) [] → MaskKnown w mc mv
+mask-known w m i mc mv h a b e =
+    rw (a, b, e) (row-wider (matrix-row m (h e .matrix) i (h e .row)) (h e .matrix .header .col-range .most))
 
 same-refl : {g : Grid} → Same g g
 same-refl = record { rows = refl; cols = refl; cell = λ i j l m. refl }
@@ -111,16 +143,16 @@ module _ (call : Call) (a b m c is js x y : List ℕ) (r : Ready call a b m c is
       let k = r .inputs .output .header .col-range .most in
       record { columns = omega (arith, cols-are); values = omega (arith, cols-are) }
 
-  -- the row of T, once it is left in its buffers
-  module _ (i t : ℕ) (tc tv : List ℕ) (l : i < rows c)
-      (h : Holds (resultGrid (call .operation) (gridOf x) (gridOf y) (gridOf c) is js .cols)
-      (resultGrid (call .operation) (gridOf x) (gridOf y) (gridOf c) is js .cell i) t tc tv) (W : WriteBack)
-      (v : W ≡ writeBackOf call) where
-    abbrev T : ℕ → Cell
-    T = resultGrid (call .operation) (gridOf x) (gridOf y) (gridOf c) is js .cell i
+  pub mask-there : (W : WriteBack) → W ≡ writeBackOf call → (i : ℕ) → i < rows c → MaskThere W m i
+  mask-there W v i l =
+      rw v (λ e. record { matrix = r .inputs .mask e; row = rw (shapes .mask-rows e) l })
 
-    held : Holds (cols c) T t tc tv
-    held = rw cols-are at h
+  -- the row of T, once it is left in its buffers
+  module _ (i t : ℕ) (tc tv : List ℕ) (l : i < rows c) (W : WriteBack) (v : W ≡ writeBackOf call)
+      (h : HoldsInside W (cellOf m i) (resultGrid (call .operation) (gridOf x) (gridOf y) (gridOf c) is js .cols)
+      (resultGrid (call .operation) (gridOf x) (gridOf y) (gridOf c) is js .cell i) t tc tv) where
+    held : Holds (cols c) (h .row) t tc tv
+    held = rw cols-are at (h .holds)
 
     pub old-row : OldRow W m c (take t tc) (take t tv) i
     old-row = rw v (record {
@@ -128,23 +160,22 @@ module _ (call : Call) (a b m c is js x y : List ℕ) (r : Ready call a b m c is
       row = l;
       mask = λ e. record { matrix = r .inputs .mask e; row = rw (shapes .mask-rows e) l };
       mask-cols = λ e. shapes .mask-cols e;
-      result = rw (held .columns, held .values) (gather-row (cols c) T);
+      result = rw (held .columns, held .values) (gather-row (cols c) (h .row));
     })
 
-    -- it is the definition's row
-    t-cell : (j : ℕ) → j < cols c
+    -- inside the mask it is the definition's row
+    t-cell : (j : ℕ) → j < cols c → inside W (cellOf m i j) ≡ true
         → lookup (take t tc) (take t tv) j ≡ callResult call (gridOf a) (gridOf b) (gridOf c) is js .cell i j
-    t-cell j k =
-        let p : lookup (take t tc) (take t tv) j ≡ T j =
-        rw (held .columns, held .values) (lookup-gather (cols c) T j k) in
-        let q : T j ≡ callResult call (gridOf a) (gridOf b) (gridOf c) is js .cell i j =
-        cell-same (gridOf x) A (gridOf y) B (gridOf c) (gridOf c) is js (s .same) same-refl (call .operation) second-same
-        (shapes .inputs) lists i j (rw (shapes .result-rows) l) (rw (shapes .result-cols) k) in
-        p ∙ q
+    t-cell j k n =
+        let p : lookup (take t tc) (take t tv) j ≡ h .row j =
+        rw (held .columns, held .values) (lookup-gather (cols c) (h .row) j k) in
+        p ∙ h .same j n
+        ∙ cell-same (gridOf x) A (gridOf y) B (gridOf c) (gridOf c) is js (s .same) same-refl (call .operation) second-same
+        (shapes .inputs) lists i j (rw (shapes .result-rows) l) (rw (shapes .result-cols) k)
 
     pub final-row : (e : ℕ) (oc ov : List ℕ)
         → Holds (cols c) (λ j. writeBack W (cellOf m i j) (cellOf c i j) (lookup (take t tc) (take t tv) j)) e oc ov
         → Holds (cols c) (lentFinal call a b m c is js .cell i) e oc ov
     unfolding callFinal
     final-row e oc ov q =
-        holds-same q _ (λ j k. rw v (ap (writeBack (writeBackOf call) (cellOf m i j) (cellOf c i j)) (t-cell j k)))
+        holds-same q _ (λ j k. rw (← v) (write-inside W (cellOf m i j) (cellOf c i j) _ _ (t-cell j k)))

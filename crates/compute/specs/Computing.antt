@@ -27,6 +27,10 @@ pub record MaskRow (m : List ℕ) (i : ℕ) : Type 0 where
   pub matrix : Matrix m
   pub row : i < rows m
 
+-- where there is a mask it has row i
+abbrev pub MaskThere : WriteBack → List ℕ → ℕ → Type 0
+MaskThere w m i = w .«has_mask» ≡ true → MaskRow m i
+
 -- row i of old C, of a mask of the same shape where there is one, and of T
 pub record OldRow (w : WriteBack) (m c tc tv : List ℕ) (i : ℕ) : Type 0 where
   pub matrix : Matrix c

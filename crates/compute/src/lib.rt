@@ -6,7 +6,9 @@ use limits::ROW_PLACES;
 use matrix::layout::MAX_MATRIX_WORDS;
 use merge::Combine;
 use operations::Call;
+use operations::Operation;
 use operations::WriteBack;
+use products::Engine;
 ghost use mathlib.Core.Path.{_≡_};
 ghost use mathlib.Core.Bool.{true, cond};
 ghost use mathlib.Core.List.{[]};
@@ -16,12 +18,14 @@ ghost use Rattle.rows.specs.Row.{Row, Holds, lookup};
 ghost use Rattle.matrix.specs.Layout.{rows, cols, rowColumns, rowValues, cellOf, gridOf, maxMatrixWords, workspaceWords};
 ghost use Rattle.matrix.specs.Facts.{Matrix};
 ghost use Rattle.encoding.specs.Encode.{writtenOver};
-ghost use Rattle.operations.specs.GridOperations.{transposed};
+ghost use Rattle.operations.specs.GridOperations.{transposed, resultGrid};
 ghost use Rattle.operations.specs.WriteBacks.{writeBack};
 ghost use Rattle.operations.specs.Calls.{transposeFirst, writeBackOf};
 ghost use Rattle.requests.specs.Refusal.{lentFinal};
 ghost use Rattle.requests.specs.Inputs.{Ready};
-ghost use Rattle.compute.specs.Computing.{MaskRow, OldRow, secondFlag, Sources, RowBuffers};
+ghost use Rattle.result_rows.specs.RowInputs.{RowInputs, Buffers};
+ghost use Rattle.masked_rows.specs.Inside.{HoldsInside};
+ghost use Rattle.compute.specs.Computing.{MaskRow, MaskThere, OldRow, secondFlag, Sources, RowBuffers};
 ghost use Rattle.compute.specs.Computing.{Progress, Advanced, Computed};
 
 const FIRST_AT: usize = MAX_MATRIX_WORDS;
@@ -36,7 +40,7 @@ pub enum Outcome {
     Full,
 }
 
-// The final C at the front of the workspace.
+// The final C at the front of the workspace. The engine is the product's.
 pub fn compute<'a>(
     call: Call,
     a: &'a [u32],
@@ -46,6 +50,7 @@ pub fn compute<'a>(
     is: &[u32],
     js: &[u32],
     work: &mut [u32],
+    engine: Engine,
 ) -> Outcome
     requires { ⌜ Ready call (now a) (now b) (now mask) (now c) (now is) (now js) ⌝
         ∗ ⌜ workspaceWords ≤ length (now work) ⌝ }
@@ -56,7 +61,7 @@ pub fn compute<'a>(
     orient(first, a, &mut work[FIRST_AT..SECOND_AT]);
     let second = second_flag(call);
     orient(second, b, &mut work[SECOND_AT..REGIONS_END]);
-    compute_rows(call, first, second, a, b, mask, c, is, js, work)
+    compute_rows(call, first, second, a, b, mask, c, is, js, work, engine)
 }
 
 // Whether there is a second input and it is transposed.
@@ -157,6 +162,50 @@ fn write_row(
     )
 }
 
+// Row i of T, as far as the mask lets it through.
+fn row_inside(
+    engine: Engine,
+    w: WriteBack,
+    mask: &[u32],
+    operation: Operation,
+    a: &[u32],
+    b: &[u32],
+    c: &[u32],
+    is: &[u32],
+    js: &[u32],
+    i: usize,
+    tc: &mut [u32],
+    tv: &mut [u32],
+) -> usize
+    requires { ⌜ RowInputs operation (now a) (now b) (now c) (now is) (now js) i ⌝ }
+    requires { ⌜ Buffers (resultGrid operation (gridOf (now a)) (gridOf (now b)) (gridOf (now c)) (now is) (now js))
+        (now tc) (now tv) ⌝ }
+    requires { ⌜ MaskThere w (now mask) i ⌝ }
+    ensures { λ r. ⌜ HoldsInside w (cellOf (now (mask .entry)) i)
+        (resultGrid operation (gridOf (now (a .entry))) (gridOf (now (b .entry)))
+        (gridOf (now (c .entry))) (now (is .entry)) (now (js .entry)) .cols)
+        (resultGrid operation (gridOf (now (a .entry))) (gridOf (now (b .entry)))
+        (gridOf (now (c .entry))) (now (is .entry)) (now (js .entry)) .cell i)
+        r (now (tc .exit)) (now (tv .exit)) ⌝ }
+{
+    let has_mask = w.has_mask;
+    masked_rows::result_row_inside(
+        engine,
+        w,
+        mask_columns(has_mask, mask, i),
+        mask_values(has_mask, mask, i),
+        operation,
+        a,
+        b,
+        c,
+        is,
+        js,
+        i,
+        tc,
+        tv,
+    )
+}
+
 // Row i of the final C: the row of T, written back.
 fn final_row<'a>(
     call: Call,
@@ -174,6 +223,7 @@ fn final_row<'a>(
     tv: &mut [u32],
     oc: &mut [u32],
     ov: &mut [u32],
+    engine: Engine,
 ) -> usize
     requires { ⌜ Ready call (now a) (now b) (now mask) (now c) (now is) (now js) ⌝
         ∗ ⌜ Sources call (now a) (now b) (now work) ⌝ }
@@ -187,8 +237,9 @@ fn final_row<'a>(
     let x = choose(first, &work[FIRST_AT..SECOND_AT], a);
     let y = choose(second, &work[SECOND_AT..REGIONS_END], b);
     let operation = call.operation;
-    let t = result_rows::result_row(operation, x, y, c, is, js, i, tc, tv);
-    write_row(write_back_of(call), mask, c, &tc[..t], &tv[..t], i, oc, ov)
+    let w = write_back_of(call);
+    let t = row_inside(engine, w, mask, operation, x, y, c, is, js, i, tc, tv);
+    write_row(w, mask, c, &tc[..t], &tv[..t], i, oc, ov)
 }
 
 // One more row: it is staged, unless there are then too many entries. The number of entries so far.
@@ -210,6 +261,7 @@ fn advance<'a>(
     tv: &mut [u32],
     oc: &mut [u32],
     ov: &mut [u32],
+    engine: Engine,
 ) -> usize
     requires { ⌜ Progress call (now a) (now b) (now mask) (now c) (now is) (now js) first second (now work) (now tc)
         (now tv) (now oc) (now ov) total n i ⌝ ∗ ⌜ i < total ⌝ }
@@ -233,6 +285,7 @@ fn advance<'a>(
         tv,
         oc,
         ov,
+        engine,
     );
     let next = n + m;
     if (MAX_ENTRIES as usize) < next {
@@ -265,6 +318,7 @@ fn all_rows<'a>(
     tv: &mut [u32],
     oc: &mut [u32],
     ov: &mut [u32],
+    engine: Engine,
 ) -> Outcome
     requires { ⌜ Ready call (now a) (now b) (now mask) (now c) (now is) (now js) ⌝
         ∗ ⌜ Sources call (now a) (now b) (now work) ⌝ }
@@ -295,6 +349,7 @@ fn all_rows<'a>(
             tv,
             oc,
             ov,
+            engine,
         );
         if (MAX_ENTRIES as usize) < n {
             return Outcome::Full;
@@ -322,6 +377,7 @@ fn compute_rows<'a>(
     is: &[u32],
     js: &[u32],
     work: &mut [u32],
+    engine: Engine,
 ) -> Outcome
     requires { ⌜ Ready call (now a) (now b) (now mask) (now c) (now is) (now js) ⌝
         ∗ ⌜ Sources call (now a) (now b) (now work) ⌝ }
@@ -348,5 +404,6 @@ fn compute_rows<'a>(
         &mut tv,
         &mut oc,
         &mut ov,
+        engine,
     )
 }

@@ -55,6 +55,12 @@ pub all-more : (p : ℕ → Bool) (i : ℕ) → all i p ≡ true → p i ≡ tru
 unfolding all
 all-more p i h k = rw (add-one i) (and-both h k)
 
+-- a turn of a loop that goes on after a failure, and keeps in a flag whether there was none
+pub all-kept : (p : ℕ → Bool) (i : ℕ) (b : Bool) → b ≡ all i p → p i ≡ true → b ≡ all (i + 1) p
+unfolding all _and_
+all-kept p i true e h = sym (all-more p i (sym e) h)
+all-kept p i false e h = rw (add-one i, ← e)
+
 -- what `all` says at one number
 pub all-at : (p : ℕ → Bool) (n i : ℕ) → i < n → all n p ≡ true → p i ≡ true
 unfolding all

@@ -10,6 +10,7 @@ use answers::NumberAnswer;
 use call_codes::Options;
 use call_codes::Verb;
 use model::Roles;
+use products::Engine;
 use row_view::Place;
 use row_view::Section;
 ghost use mathlib.Core.Path.{_≡_};
@@ -125,6 +126,76 @@ pub extern "C" fn ostrubel_vxm<'a>(
         r (now (c .exit)) (now (work .exit)) ⌝ }
 {
     lent(
+        flags,
+        has_mask,
+        has_accumulator,
+        accumulator,
+        Verb::Vxm(monoid, op),
+        u,
+        a,
+        mask,
+        &u[0..0],
+        &u[0..0],
+        c,
+        work,
+    )
+}
+
+// `ostrubel_mxm` by the first engine of the product, for comparison: the same answers and the same words.
+#[no_mangle]
+pub extern "C" fn ostrubel_mxm_by_places<'a>(
+    flags: u32,
+    has_mask: u32,
+    has_accumulator: u32,
+    accumulator: u32,
+    monoid: u32,
+    op: u32,
+    a: &'a [u32],
+    b: &'a [u32],
+    mask: &[u32],
+    c: &mut [u32],
+    work: &mut [u32],
+) -> u64
+    ensures { λ r. ⌜ LentCompleted (decoded (optionsOf flags «has_mask» «has_accumulator» accumulator) (verbs.Mxm monoid op))
+        (now (a .entry)) (now (b .entry)) (now (mask .entry)) (now (c .entry)) [] [] (now (work .entry))
+        r (now (c .exit)) (now (work .exit)) ⌝ }
+{
+    lent_by_places(
+        flags,
+        has_mask,
+        has_accumulator,
+        accumulator,
+        Verb::Mxm(monoid, op),
+        a,
+        b,
+        mask,
+        &a[0..0],
+        &a[0..0],
+        c,
+        work,
+    )
+}
+
+// `ostrubel_vxm` by the first engine, likewise.
+#[no_mangle]
+pub extern "C" fn ostrubel_vxm_by_places<'a>(
+    flags: u32,
+    has_mask: u32,
+    has_accumulator: u32,
+    accumulator: u32,
+    monoid: u32,
+    op: u32,
+    u: &'a [u32],
+    a: &'a [u32],
+    mask: &[u32],
+    c: &mut [u32],
+    work: &mut [u32],
+) -> u64
+    ensures { λ r. ⌜ LentCompleted (decoded (optionsOf flags «has_mask» «has_accumulator» accumulator) (verbs.Vxm monoid op))
+        (now (u .entry)) (now (a .entry)) (now (mask .entry)) (now (c .entry)) [] [] (now (work .entry))
+        r (now (c .exit)) (now (work .exit)) ⌝ }
+{
+    lent_by_places(
         flags,
         has_mask,
         has_accumulator,
@@ -746,6 +817,29 @@ fn lent<'a>(
 {
     let options = options_of(flags, has_mask, has_accumulator, accumulator);
     pack(calls::operate(options, verb, a, b, mask, is, js, c, work))
+}
+
+// The same by the first engine of the product.
+fn lent_by_places<'a>(
+    flags: u32,
+    has_mask: u32,
+    has_accumulator: u32,
+    accumulator: u32,
+    verb: Verb,
+    a: &'a [u32],
+    b: &'a [u32],
+    mask: &[u32],
+    is: &[u32],
+    js: &[u32],
+    c: &mut [u32],
+    work: &mut [u32],
+) -> u64
+    ensures { λ r. ⌜ LentCompleted (decoded (optionsOf flags «has_mask» «has_accumulator» accumulator) verb)
+        (now (a .entry)) (now (b .entry)) (now (mask .entry)) (now (c .entry)) (now (is .entry)) (now (js .entry))
+        (now (work .entry)) r (now (c .exit)) (now (work .exit)) ⌝ }
+{
+    let options = options_of(flags, has_mask, has_accumulator, accumulator);
+    pack(calls::operate_with(options, verb, a, b, mask, is, js, c, work, Engine::ByPlaces))
 }
 
 // Any operation on a store.

@@ -7,7 +7,7 @@ use mathlib.Core.List.{List}
 use mathlib.Core.Bool.{Bool, true}
 use lib.Dec.{leb}
 use borrow.Author.Tests.{le-leb, eq-eqb, leb-true, eqb-true}
-use Rattle.conditions.specs.Tests.{all}
+use Rattle.conditions.specs.Tests.{_and_, all}
 use Rattle.conditions.proofs.Tests.{and-left, and-right, and-both, all-at, all-made}
 pub use Rattle.limits.proofs.Ranges.{range-made, range-facts}
 use Rattle.rows.specs.Row.{rising}
@@ -64,11 +64,10 @@ starts-facts s h =
       up = λ i l. leb-true _ _ (all-at (climbs s) (rows s) i l (and-right _ _ k));
     }
 
--- the starts as a loop over them has tested them, one by one
-pub starts-from-tests : (s : List ℕ) → start s 0 ≡ 0 → start s (rows s) ≡ entries s → all (rows s) (climbs s) ≡ true
-    → startsValid s ≡ true
-unfolding startsValid
-starts-from-tests s f l u = and-both (eq-eqb _ _ f) (and-both (eq-eqb _ _ l) u)
+-- the starts as a loop over them tests them, once the first and the last are right
+pub starts-decide : (s : List ℕ) → start s 0 ≡ 0 → start s (rows s) ≡ entries s → all (rows s) (climbs s) ≡ startsValid s
+unfolding startsValid _and_
+starts-decide s f l = rw (eq-eqb _ _ f, eq-eqb _ _ l)
 
 -- no start is above the last: from the last one downwards
 start-most : (s : List ℕ) → Starts s → (n i : ℕ) → n + i ≡ rows s → start s i ≤ entries s

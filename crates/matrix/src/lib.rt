@@ -22,9 +22,11 @@ pub mod layout;
 ghost use mathlib.Core.Path.{_≡_};
 ghost use Prim.Native.Nat.{_+_};
 ghost use Rattle.words.specs.Lent.{PartOf};
+ghost use Rattle.column_order.specs.Falls.{one};
 ghost use Rattle.matrix.specs.Layout.{rows, cols, entries, columnsFrom, valuesFrom};
 ghost use Rattle.matrix.specs.Valid.{inRange, headerValid, startsValid, rowsValid, valid, checkAnswer};
 ghost use Rattle.matrix.specs.Facts.{Header, Starts, RowSpan};
+ghost use Rattle.matrix.specs.Falls.{fallsAtStart, startFalls};
 ghost use Rattle.matrix.specs.HeaderWords.{HeaderBounds, headed};
 
 // 0 and N where the words begin with a valid matrix, else INVALID_FIRST.
@@ -182,28 +184,59 @@ fn starts_valid(words: &[u32]) -> bool
     if words[r + STARTS_AT] != words[r + COUNT_PAST] {
         return false;
     }
+    let mut climb = true;
     let mut i = 0;
     while i < r {
         if words[i + 1 + STARTS_AT] < words[i + STARTS_AT] {
-            return false;
+            climb = false;
         }
         i += 1;
     }
-    true
+    climb
 }
 
-// The column numbers of every row.
+// The column numbers of every row: all are below the number of columns, and a word from N on is followed by one that is not
+// above it only where a row starts.
 fn rows_valid(words: &[u32]) -> bool
     requires { ⌜ Header (now words) ⌝ ∗ ⌜ Starts (now words) ⌝ }
     ensures { λ r. ⌜ r ≡ rowsValid (now (words .entry)) ⌝ }
 {
     let r = words[ROWS_AT] as usize;
+    let count_at = r + COUNT_PAST;
+    let from = r + COLUMNS_PAST;
+    let to = from + words[count_at] as usize;
+    if !column_order::all_below(&words[from..to], words[COLS_AT]) {
+        return false;
+    }
+    column_order::fall_count(&words[count_at..to]) == start_falls(words)
+}
+
+// How often the first column number of a row is not above the word before it.
+fn start_falls(words: &[u32]) -> u32
+    requires { ⌜ Header (now words) ⌝ ∗ ⌜ Starts (now words) ⌝ }
+    ensures { λ r. ⌜ r ≡ startFalls (now (words .entry)) ⌝ }
+{
+    let r = words[ROWS_AT] as usize;
+    let mut falls: u32 = 0;
     let mut i = 0;
     while i < r {
-        if !rows::row_valid(row_columns(words, i), words[COLS_AT]) {
-            return false;
-        }
+        falls = falls + start_fall(words, i);
         i += 1;
     }
-    true
+    falls
+}
+
+// 1 where row i has entries and its first column number is not above the word before it, else 0.
+fn start_fall(words: &[u32], i: usize) -> u32
+    requires { ⌜ Header (now words) ⌝ ∗ ⌜ RowSpan (now words) i ⌝ }
+    ensures { λ r. ⌜ r ≡ one (fallsAtStart (now (words .entry)) i) ⌝ }
+{
+    if words[i + 1 + STARTS_AT] <= words[i + STARTS_AT] {
+        return 0;
+    }
+    let at = words[ROWS_AT] as usize + COUNT_PAST + words[i + STARTS_AT] as usize;
+    if words[at] < words[at + 1] {
+        return 0;
+    }
+    1
 }

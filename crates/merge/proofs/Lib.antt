@@ -1,2 +1,3 @@
 pub mod Quiet
 pub mod Merging
+pub mod Ways

@@ -1,17 +1,20 @@
--- The loop of `merge_row`: how an entry is put behind the others, what holds before column q, and how a turn takes it on
--- to the next column with an entry.
+-- The loop of `write_masked`: how an entry is put behind the others, what holds before column q, and how a turn takes
+-- it on to the next column with an entry.
 use Prim.Native.Nat.{ℕ, _+_, _≤_, _<_, min}
 use native.Mathlib.Omega.{arith}
-use mathlib.Core.Path.{_≡_, refl, sym, _∙_}
+use native.Mathlib.Numerals.{add-one}
+use mathlib.Core.Path.{_≡_, refl, sym}
 use mathlib.Core.List.{List}
 use lib.ListN.{length, getD, set}
+use Rattle.words.specs.Words.{at}
 use Rattle.grid.specs.declared.Cell.{Cell}
 use Rattle.grid.specs.declared.Cell.the-variants.{Absent, Present}
 use Rattle.grid.specs.Entries.{one}
 use Rattle.rows.specs.Row.{lookup, position, Rises, Row, Holds}
-use Rattle.rows.proofs.Position.{position-zero}
-use Rattle.rows.proofs.Holds.{holds-none, holds-most, holds-put, holds-skip}
-use Rattle.rows.proofs.Cursors.{position-grows, position-after, front-low, front-high, position-front, absent-front}
+use Rattle.rows.proofs.Position.{Stands, stands, position-moves, position-stays}
+use Rattle.rows.proofs.Holds.{holds-put, holds-skip}
+use Rattle.rows.proofs.Cursors.{position-grows, position-after}
+use Rattle.row_pairs.proofs.Pairs.{Paired, paired-start, paired-room, paired-next, paired-up, paired-on}
 use Rattle.merge.specs.Steps.{Put}
 
 -- the two arms of `put_cell`
@@ -36,56 +39,40 @@ holds-cell {f} {e} {q} {r} {cell = Absent} h a b s p =
 holds-cell {f} {e} {q} {cell = Present v} h a b s p =
     rw (p .columns, p .values, p .count) (holds-put h a b s)
 
--- The columns before q are done: f is the output's row, and m, i and k are the indexes into the columns of the mask and
--- of the two rows.
+-- the two ways of `past`: from the position of column q to that of the column after
+module _ {cols : List ℕ} (rises : Rises cols) {q i : ℕ} (e : i ≡ position q cols) where
+  placed : Stands q cols i
+  placed = rw e (stands q cols rises)
+
+  pub past-entry : i < length cols → at cols i ≤ q → i + 1 ≡ position (q + 1) cols
+  past-entry l b =
+      rw (add-one i, add-one q)
+      (position-moves q cols i rises placed l (omega (arith, placed .after i (omega arith) l)))
+
+  pub past-none : (i < length cols → q < at cols i) → i ≡ position (q + 1) cols
+  past-none b = rw (add-one q) (position-stays q cols i rises placed (λ l s. omega (arith, b l)))
+
+-- The columns before q are done, and m is an index into the columns of the mask.
 pub record Merged (f : ℕ → Cell) (n : ℕ) (mc cc tc oc₀ ov₀ oc ov : List ℕ) (m i k e q : ℕ) : Type 0 where
-  pub bound : q ≤ n
   pub mask : m ≤ position q mc
-  pub first : i ≡ position q cc
-  pub second : k ≡ position q tc
-  pub row : Holds q f e oc ov
-  pub columns-kept : length oc ≡ length oc₀
-  pub values-kept : length ov ≡ length ov₀
+  pub pair : Paired f n cc tc oc₀ ov₀ oc ov i k e q
 
 -- before column 0
 pub merged-start : (f : ℕ → Cell) (n : ℕ) (mc cc tc oc ov : List ℕ) → Merged f n mc cc tc oc ov oc ov 0 0 0 0 0
-merged-start f n mc cc tc oc ov = record {
-  bound = omega arith;
-  mask = omega arith;
-  first = position-zero cc;
-  second = position-zero tc;
-  row = holds-none f oc ov;
-  columns-kept = refl;
-  values-kept = refl;
-}
+merged-start f n mc cc tc oc ov = record { mask = omega arith; pair = paired-start f n cc tc oc ov }
 
-module _ {f : ℕ → Cell} {n : ℕ} {mc cc tc oc₀ ov₀ oc ov : List ℕ} {m i k e q : ℕ}
-    (h : Merged f n mc cc tc oc₀ ov₀ oc ov m i k e q) where
-  -- there is room for an entry
-  pub merged-room : q < n → n ≤ length oc₀ → n ≤ length ov₀ → (e < length oc) × (e < length ov)
-  merged-room l a b =
-      let u = holds-most (h .row) in (omega (arith, h .columns-kept), omega (arith, h .values-kept))
-
-  -- column q is done
-  pub merged-put : {oc′ ov′ : List ℕ} {m′ i′ k′ r : ℕ} {cell : Cell} → q < n → n ≤ length oc₀ → n ≤ length ov₀
-      → Rises mc → cell ≡ f q → Put oc ov oc′ ov′ e q cell r → length oc′ ≡ length oc → length ov′ ≡ length ov
-      → m′ ≡ position q mc → i′ ≡ position (q + 1) cc → k′ ≡ position (q + 1) tc
-      → Merged f n mc cc tc oc₀ ov₀ oc′ ov′ m′ i′ k′ r (q + 1)
-  merged-put l a b rises s p u v x y z =
-      let room = merged-room l a b in
-      record {
-        bound = omega arith;
-        mask = position-after rises q x;
-        first = y;
-        second = z;
-        row = holds-cell (h .row) (room .0) (room .1) (sym s) p;
-        columns-kept = u ∙ h .columns-kept;
-        values-kept = v ∙ h .values-kept;
-      }
-
-  -- all columns are done
-  pub merged-done : n ≤ q → Holds n f e oc ov
-  merged-done l = let z : n ≡ q = omega (arith, h .bound) in rw z (h .row)
+-- column q is done
+pub merged-put : {f : ℕ → Cell} {n : ℕ} {mc cc tc oc₀ ov₀ oc ov oc′ ov′ : List ℕ} {m i k e q m′ i′ k′ r : ℕ}
+    {cell : Cell} → Merged f n mc cc tc oc₀ ov₀ oc ov m i k e q → q < n → n ≤ length oc₀ → n ≤ length ov₀
+    → Rises mc → cell ≡ f q → Put oc ov oc′ ov′ e q cell r → length oc′ ≡ length oc → length ov′ ≡ length ov
+    → m′ ≡ position q mc → i′ ≡ position (q + 1) cc → k′ ≡ position (q + 1) tc
+    → Merged f n mc cc tc oc₀ ov₀ oc′ ov′ m′ i′ k′ r (q + 1)
+merged-put {q = q} h l a b rises s p u v x y z =
+    let room = paired-room (h .pair) l a b in
+    record {
+      mask = position-after rises q x;
+      pair = paired-next (h .pair) l (holds-cell (h .pair .row) (room .0) (room .1) (sym s) p) u v y z;
+    }
 
 -- on to the next column q where one of the two rows has an entry
 module _ {f : ℕ → Cell} {n : ℕ} {mc cc cv tc tv oc₀ ov₀ oc ov : List ℕ} {m i k e p q : ℕ} (rises : Rises mc)
@@ -94,17 +81,11 @@ module _ {f : ℕ → Cell} {n : ℕ} {mc cc cv tc tv oc₀ ov₀ oc ov : List �
     (h : Merged f n mc cc tc oc₀ ov₀ oc ov m i k e p) (next : q ≡ min (getD cc i n) (getD tc k n)) where
   -- that is no earlier column
   pub merged-up : p ≤ q
-  merged-up = omega (arith, front-low w (h .first) (h .bound), front-low x (h .second) (h .bound))
+  merged-up = paired-up w x quiet (h .pair) next
 
   -- the columns up to it have no entries
   pub merged-on : Merged f n mc cc tc oc₀ ov₀ oc ov m i k e q
   merged-on = record {
-    bound = omega (arith, front-high w i);
     mask = omega (arith, h .mask, position-grows rises p q merged-up);
-    first = position-front w (h .first) merged-up (omega arith);
-    second = position-front x (h .second) merged-up (omega arith);
-    row = holds-skip (h .row) q merged-up
-        (λ j a b. quiet j (absent-front w (h .first) a (omega arith)) (absent-front x (h .second) a (omega arith)));
-    columns-kept = h .columns-kept;
-    values-kept = h .values-kept;
+    pair = paired-on w x quiet (h .pair) next;
   }

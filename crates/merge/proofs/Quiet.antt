@@ -1,5 +1,5 @@
 -- Where both rows have no entry the output has none, whatever the mask has. This is all that the walk over the entries
--- knows of the ways to combine.
+-- knows of the write-back.
 use Prim.Native.Nat.{ℕ}
 use mathlib.Core.Path.{_≡_, refl}
 use mathlib.Core.List.{List}
@@ -8,11 +8,10 @@ use Rattle.grid.specs.declared.Cell.{Cell}
 use Rattle.grid.specs.declared.Cell.the-variants.{Absent}
 use Rattle.operations.specs.declared.Accumulator.{Accumulator}
 use Rattle.operations.specs.declared.Accumulator.the-variants.{Absent as NoAccumulator, Present as By}
+use Rattle.operations.specs.declared.WriteBack.{WriteBack}
 use Rattle.operations.specs.WriteBacks.{accumulated, inside, writeBack}
 use Rattle.rows.specs.Row.{lookup}
-use Rattle.merge.specs.declared.Combine.{Combine}
-use Rattle.merge.specs.declared.Combine.the-variants.{Intersect, Unite, Write}
-use Rattle.merge.specs.Combined.{combined, combinedRow}
+use Rattle.merge.specs.Ways.{writtenRow}
 
 -- nothing accumulated onto nothing
 accumulated-quiet : (a : Accumulator) → accumulated a Absent Absent ≡ Absent
@@ -24,14 +23,12 @@ cond-quiet : (b : Bool) (z c : Cell) → z ≡ Absent → c ≡ Absent → cond 
 cond-quiet true z c h k = h
 cond-quiet false z c h k = k
 
-combined-quiet : (how : Combine) (m : Cell) → combined how m Absent Absent ≡ Absent
-unfolding combined writeBack
-combined-quiet (Intersect op) m = refl
-combined-quiet (Unite op) m = refl
-combined-quiet (Write w) m =
+written-quiet : (w : WriteBack) (m : Cell) → writeBack w m Absent Absent ≡ Absent
+unfolding writeBack
+written-quiet w m =
     cond-quiet (inside w m) _ _ (accumulated-quiet (w .accumulator)) (cond-quiet (w .replace) Absent Absent refl refl)
 
 -- so it is at every column of a row
-pub row-quiet : (how : Combine) (mc mv cc cv tc tv : List ℕ) (j : ℕ) → lookup cc cv j ≡ Absent
-    → lookup tc tv j ≡ Absent → combinedRow how mc mv cc cv tc tv j ≡ Absent
-row-quiet how mc mv cc cv tc tv j a b = rw (a, b) (combined-quiet how (lookup mc mv j))
+pub row-quiet : (w : WriteBack) (mc mv cc cv tc tv : List ℕ) (j : ℕ) → lookup cc cv j ≡ Absent
+    → lookup tc tv j ≡ Absent → writtenRow w mc mv cc cv tc tv j ≡ Absent
+row-quiet w mc mv cc cv tc tv j a b = rw (a, b) (written-quiet w (lookup mc mv j))

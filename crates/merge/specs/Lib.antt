@@ -1,2 +1,3 @@
 pub mod Combined
+pub mod Ways
 pub mod Steps

@@ -1,5 +1,6 @@
-// One merge of sparse rows, for the intersection, the union and the write-back: what becomes of the cells at one
-// position, and the walk over two rows and a mask's row by their entries.
+// One merge of sparse rows, for the intersection, the union and the write-back, by case. Without a mask the write-back
+// is a copy, a union or nothing (`row_pairs`). With one, here is what becomes of the cells at one position, and the walk
+// over two rows and a mask's row by their entries.
 use grid::Cell;
 use operations::Accumulator;
 use operations::WriteBack;
@@ -7,10 +8,11 @@ use operators::BinaryOp;
 ghost use mathlib.Core.Path.{_≡_};
 ghost use Prim.Native.Nat.{_+_, _≤_, _<_, min};
 ghost use lib.ListN.{length, getD};
-ghost use Rattle.rows.specs.Row.{lookup, position, Rises, Row, Holds};
-ghost use Rattle.operations.specs.CellOperations.{intersect, unite};
+ghost use Rattle.rows.specs.Row.{position, Rises, Row, Holds};
+ghost use Rattle.operations.specs.CellOperations.{unite};
 ghost use Rattle.operations.specs.WriteBacks.{accumulated, maskHolds, masked, inside, writeBack};
-ghost use Rattle.merge.specs.Combined.{combined, combinedRow};
+ghost use Rattle.merge.specs.Combined.{combinedRow};
+ghost use Rattle.merge.specs.Ways.{Means, writtenRow};
 ghost use Rattle.merge.specs.Steps.{Cursor, Put};
 
 // How the cells of two rows make one. Only the write-back looks at the mask.
@@ -18,6 +20,16 @@ pub enum Combine {
     Intersect(BinaryOp),
     Unite(BinaryOp),
     Write(WriteBack),
+}
+
+// The same by the simplest means: nothing, one of the two rows, a walk over both, or the write-back under a mask.
+enum Way {
+    Nothing,
+    First,
+    Second,
+    Intersect(BinaryOp),
+    Unite(BinaryOp),
+    Masked(WriteBack),
 }
 
 // Two rows of `places` columns, (cc, cv) and (tc, tv), made into one under the mask's row (mc, mv). The result is left
@@ -44,6 +56,71 @@ pub fn merge_row(
         (now (tc .entry)) (now (tv .entry)))
         r (now (oc .exit)) (now (ov .exit)) ⌝ }
 {
+    let way = way_of(how);
+    match way {
+        Way::Nothing => 0,
+        Way::First => row_pairs::copy_row(places, cc, cv, oc, ov),
+        Way::Second => row_pairs::copy_row(places, tc, tv, oc, ov),
+        Way::Intersect(op) => row_pairs::intersect_rows(op, places, cc, cv, tc, tv, oc, ov),
+        Way::Unite(op) => row_pairs::unite_rows(op, places, cc, cv, tc, tv, oc, ov),
+        Way::Masked(w) => write_masked(w, places, mc, mv, cc, cv, tc, tv, oc, ov),
+    }
+}
+
+// The way for each of the three.
+fn way_of(how: Combine) -> Way
+    ensures { λ r. ⌜ Means r how ⌝ }
+{
+    match how {
+        Combine::Intersect(op) => Way::Intersect(op),
+        Combine::Unite(op) => Way::Unite(op),
+        Combine::Write(w) => write_way(w),
+    }
+}
+
+// The way to write back. Without a mask every position is inside, and with complement none.
+fn write_way(w: WriteBack) -> Way
+    ensures { λ r. ⌜ Means r (Combine.Write w) ⌝ }
+{
+    let has_mask = w.has_mask;
+    if has_mask {
+        return Way::Masked(w);
+    }
+    if w.complement {
+        if w.replace {
+            return Way::Nothing;
+        }
+        return Way::First;
+    }
+    let accumulator = w.accumulator;
+    match accumulator {
+        Accumulator::Absent => Way::Second,
+        Accumulator::Present(op) => Way::Unite(op),
+    }
+}
+
+// The write-back of T, the row (tc, tv), over the old C under the mask's row.
+fn write_masked(
+    w: WriteBack,
+    places: u32,
+    mc: &[u32],
+    mv: &[u32],
+    cc: &[u32],
+    cv: &[u32],
+    tc: &[u32],
+    tv: &[u32],
+    oc: &mut [u32],
+    ov: &mut [u32],
+) -> usize
+    requires { ⌜ Row places (now mc) (now mv) ⌝ }
+    requires { ⌜ Row places (now cc) (now cv) ⌝ }
+    requires { ⌜ Row places (now tc) (now tv) ⌝ }
+    requires { ⌜ (places ≤ length (now oc)) × (places ≤ length (now ov)) ⌝ }
+    ensures { λ r. ⌜ Holds places
+        (writtenRow w (now (mc .entry)) (now (mv .entry)) (now (cc .entry)) (now (cv .entry))
+        (now (tc .entry)) (now (tv .entry)))
+        r (now (oc .exit)) (now (ov .exit)) ⌝ }
+{
     let mut m = 0;
     let mut i = 0;
     let mut k = 0;
@@ -51,11 +128,10 @@ pub fn merge_row(
     let mut q = next_column(cc, i, tc, k, places);
     while q < places {
         m = seek(mc, m, q);
-        let cell = combine_at(how, q, mc, mv, m, cc, cv, i, tc, tv, k);
+        let cell = write_back_at(w, q, mc, mv, m, cc, cv, i, tc, tv, k);
         e = put_cell(oc, ov, e, q, cell);
-        let after = q + 1;
-        i = seek(cc, i, after);
-        k = seek(tc, k, after);
+        i = past(cc, i, q);
+        k = past(tc, k, q);
         q = next_column(cc, i, tc, k, places);
     }
     e
@@ -99,9 +175,22 @@ fn seek(columns: &[u32], i: usize, q: u32) -> usize
     k
 }
 
-// The output's cell at column q, whose positions in the three rows are m, i and k.
-fn combine_at(
-    how: Combine,
+// The position of the column after q, from that of q.
+fn past(columns: &[u32], i: usize, q: u32) -> usize
+    requires { ⌜ Rises (now columns) ⌝ ∗ ⌜ i ≡ position q (now columns) ⌝ }
+    ensures { λ r. ⌜ r ≡ position (q + 1) (now (columns .entry)) ⌝ }
+{
+    if i < columns.len() {
+        if columns[i] <= q {
+            return i + 1;
+        }
+    }
+    i
+}
+
+// The final cell at column q, whose positions in the three rows are m, i and k.
+fn write_back_at(
+    w: WriteBack,
     q: u32,
     mc: &[u32],
     mv: &[u32],
@@ -117,13 +206,13 @@ fn combine_at(
     requires { ⌜ Cursor (now cc) (now cv) i q ⌝ }
     requires { ⌜ Cursor (now tc) (now tv) k q ⌝ }
     ensures { λ r. ⌜ r ≡
-        combinedRow how (now (mc .entry)) (now (mv .entry)) (now (cc .entry)) (now (cv .entry))
+        writtenRow w (now (mc .entry)) (now (mv .entry)) (now (cc .entry)) (now (cv .entry))
         (now (tc .entry)) (now (tv .entry)) q ⌝ }
 {
     let x = rows::cell_at(mc, mv, m, q);
     let y = rows::cell_at(cc, cv, i, q);
     let z = rows::cell_at(tc, tv, k, q);
-    combine_cells(how, x, y, z)
+    write_back_cell(w, x, y, z)
 }
 
 // Puts the entry of a cell at column q, if there is one, behind e entries. Returns how many there are then. An entry
@@ -139,30 +228,6 @@ fn put_cell(oc: &mut [u32], ov: &mut [u32], e: usize, q: u32, cell: Cell) -> usi
             ov[e] = v;
             e + 1
         }
-    }
-}
-
-// The cell that the output has where the mask has m, and the two rows c and t.
-pub fn combine_cells(how: Combine, m: Cell, c: Cell, t: Cell) -> Cell
-    ensures { λ r. ⌜ r ≡ combined how m c t ⌝ }
-{
-    match how {
-        Combine::Intersect(op) => intersect_cells(op, c, t),
-        Combine::Unite(op) => unite_cells(op, c, t),
-        Combine::Write(w) => write_back_cell(w, m, c, t),
-    }
-}
-
-// The operator where both are present, otherwise nothing.
-pub fn intersect_cells(op: BinaryOp, a: Cell, b: Cell) -> Cell
-    ensures { λ r. ⌜ r ≡ intersect op a b ⌝ }
-{
-    match a {
-        Cell::Absent => Cell::Absent,
-        Cell::Present(x) => match b {
-            Cell::Absent => Cell::Absent,
-            Cell::Present(y) => Cell::Present(operators::apply_binary(op, x, y)),
-        },
     }
 }
 

@@ -26,7 +26,7 @@ pub record Adding (monoid : Monoid) (op : BinaryOp) (x : ℕ) (cols vals : List 
   pub swept : Swept maxCols cols old (addedRow monoid op x (lookup cols vals) old) (dense marks cells) p
 
 -- where the row has no entry nothing is added
-keeps : (monoid : Monoid) (op : BinaryOp) (x : ℕ) (row old : ℕ → Cell) (j : ℕ) → row j ≡ Absent
+pub keeps : (monoid : Monoid) (op : BinaryOp) (x : ℕ) (row old : ℕ → Cell) (j : ℕ) → row j ≡ Absent
     → addedRow monoid op x row old j ≡ old j
 keeps monoid op x row old j e = rw e (unite-absent (monoidOp monoid) (old j))
 

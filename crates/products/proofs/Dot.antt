@@ -16,6 +16,10 @@ pub unite-absent : (op : BinaryOp) (c : Cell) → unite op c Absent ≡ c
 unite-absent op Absent = refl
 unite-absent op (Present x) = refl
 
+intersect-absent : (op : BinaryOp) (c : Cell) → intersect op c Absent ≡ Absent
+intersect-absent op Absent = refl
+intersect-absent op (Present x) = refl
+
 module _ (monoid : Monoid) (op : BinaryOp) (row col : ℕ → Cell) where
   -- one more place
   pub dot-next : (k : ℕ)
@@ -41,3 +45,10 @@ module _ (monoid : Monoid) (op : BinaryOp) (row col : ℕ → Cell) where
   pub dot-none : (n : ℕ) → ((k : ℕ) → k < n → row k ≡ Absent) → dot monoid op n row col ≡ Absent
   unfolding dot
   dot-none n h = dot-skip 0 n (omega arith) (λ k u w. h k w)
+
+  -- the same where the column has none
+  pub dot-empty : (n : ℕ) → ((k : ℕ) → k < n → col k ≡ Absent) → dot monoid op n row col ≡ Absent
+  unfolding dot
+  dot-empty zero h = refl
+  dot-empty (suc n) h =
+      rw (h n (omega arith), intersect-absent op (row n), unite-absent) (dot-empty n (λ k l. h k (omega arith)))

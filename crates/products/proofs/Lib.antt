@@ -1,3 +1,5 @@
 pub mod Dot
 pub mod Adding
+pub mod Sums
 pub mod Summing
+pub mod ByEntries

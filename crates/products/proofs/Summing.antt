@@ -1,7 +1,5 @@
 -- The loop of `add_rows`: the rows of the matrix b that the entries before p name are added up.
 use Prim.Native.Nat.{ℕ, _+_, _≤_, _<_}
-use native.Mathlib.Omega.{arith}
-use mathlib.Core.Path.{_≡_, sym, ap, _∙_}
 use mathlib.Core.List.{List}
 use lib.ListN.{length}
 use Rattle.limits.specs.Limits.{maxCols}
@@ -12,56 +10,37 @@ use Rattle.operators.specs.declared.BinaryOp.{BinaryOp}
 use Rattle.operators.specs.declared.Monoid.{Monoid}
 use Rattle.operations.specs.CellOperations.{dot}
 use Rattle.rows.specs.Row.{lookup, Row}
-use Rattle.rows.proofs.Walk.{front, front-at, front-end, front-above, lookup-entry, absent-first, absent-next, row-wider}
+use Rattle.rows.proofs.Walk.{row-wider}
 use Rattle.matrix.specs.Layout.{rows, rowColumns, rowValues}
 use Rattle.matrix.specs.Facts.{Matrix}
 use Rattle.matrix.proofs.Facts.{matrix-made}
 use Rattle.encoding.proofs.Canonical.{valid-row}
 use Rattle.dense_rows.specs.Dense.{dense, Sized, Spread}
 use Rattle.products.specs.Products.{addedRow}
-use Rattle.products.proofs.Dot.{dot-next, dot-skip}
+use Rattle.products.proofs.Sums.{Sums, sums-start, sums-step, sums-done}
 
 -- row k of a matrix fits the dense row
 pub matrix-row : (b : List ℕ) → Matrix b → (k : ℕ) → k < rows b → Row maxCols (rowColumns b k) (rowValues b k)
 matrix-row b m k l = row-wider (valid-row b (matrix-made b m) k l) (m .header .col-range .most)
 
--- at every column j the sum of the products at the places before entry p
+-- the dense row has the sums of the products at the places before entry p
 pub record Summing (monoid : Monoid) (op : BinaryOp) (n : ℕ) (cols vals : List ℕ) (b : ℕ → ℕ → Cell)
     (marks cells : List ℕ) (p : ℕ) : Type 0 where
   pub sized : Sized marks cells
-  pub sums : (j : ℕ) → dense marks cells j ≡ dot monoid op (front n cols p) (lookup cols vals) (λ k. b k j)
+  pub sums : Sums monoid op n cols vals b (dense marks cells) p
 
 module _ {n : ℕ} {cols vals : List ℕ} (w : Row n cols vals) {monoid : Monoid} {op : BinaryOp} {b : ℕ → ℕ → Cell} where
   pub summing-start : {marks cells : List ℕ} → Spread (λ j. Absent) marks cells
       → Summing monoid op n cols vals b marks cells 0
-  unfolding dot
-  summing-start s = record {
-    sized = s .sized;
-    sums = λ j.
-        s .cell j
-        ∙ sym (dot-skip monoid op _ (λ k. b k j) 0 (front n cols 0) (omega arith) (λ k u v. absent-first w k v));
-  }
+  summing-start s = record { sized = s .sized; sums = sums-start w (s .cell) }
 
   module _ {marks cells : List ℕ} {p : ℕ} (h : Summing monoid op n cols vals b marks cells p) where
     -- entry p times its row of b is added
     pub summing-step : {marks′ cells′ : List ℕ} → p < length cols
         → Spread (addedRow monoid op (at vals p) (b (at cols p)) (dense marks cells)) marks′ cells′
         → Summing monoid op n cols vals b marks′ cells′ (p + 1)
-    summing-step {marks′} {cells′} l s = record {
-      sized = s .sized;
-      sums = λ j.
-          let c = at cols p in
-          let past = dot-skip monoid op (lookup cols vals) (λ k. b k j) (c + 1) (front n cols (p + 1))
-          (omega (arith, front-above w p (p + 1) (omega arith) l)) (λ k u v. absent-next w p k l (omega arith) v) in
-          let before : dense marks cells j ≡ dot monoid op c (lookup cols vals) (λ k. b k j) =
-          h .sums j ∙ ap (λ (q : ℕ). dot monoid op q (lookup cols vals) (λ k. b k j)) (front-at n cols p l) in
-          s .cell j
-          ∙ rw (past, dot-next monoid op (lookup cols vals) (λ k. b k j) c, lookup-entry w p l, before);
-    }
+    summing-step l s = record { sized = s .sized; sums = sums-step w (h .sums) l (s .cell) }
 
     pub summing-done : length cols ≤ p
         → Spread (λ j. dot monoid op n (lookup cols vals) (λ k. b k j)) marks cells
-    summing-done l = record {
-      sized = h .sized;
-      cell = λ j. h .sums j ∙ ap (λ (x : ℕ). dot monoid op x (lookup cols vals) (λ k. b k j)) (front-end n cols p l);
-    }
+    summing-done l = record { sized = h .sized; cell = sums-done w (h .sums) l }

@@ -1,9 +1,13 @@
 // One row of the product: "over all k where A(i,k) and B(k,j) are both present, multiply, then add up with the monoid".
-// The rows of the second input that the entries of the row name are added up in a dense row, in rising order of k.
+// The rows of the second input that the entries of the row name are added up in rising order of k: in a dense row, which
+// is gone through by its places, or by entries (`by_entries`).
 use limits::ROW_PLACES;
 use matrix::layout::COLS_AT;
 use operators::BinaryOp;
 use operators::Monoid;
+
+pub mod by_entries;
+
 ghost use mathlib.Core.Path.{_≡_};
 ghost use Prim.Native.Nat.{_≤_};
 ghost use lib.ListN.{length};
@@ -16,6 +20,43 @@ ghost use Rattle.matrix.specs.Layout.{rows, cols, rowColumns, rowValues, cellOf
 ghost use Rattle.matrix.specs.Facts.{Header, RowSpan, Matrix};
 ghost use Rattle.dense_rows.specs.Dense.{marked, dense, Sized, Spread};
 ghost use Rattle.products.specs.Products.{productRow, addedRow};
+
+// The two engines of the product. They give the same rows.
+pub enum Engine {
+    ByPlaces,
+    ByEntries,
+}
+
+// The row of the first input times the matrix b, by either engine.
+pub fn product_row_by(
+    engine: Engine,
+    monoid: Monoid,
+    op: BinaryOp,
+    columns: &[u32],
+    values: &[u32],
+    b: &[u32],
+    oc: &mut [u32],
+    ov: &mut [u32],
+) -> usize
+    requires { ⌜ Row (rows (now b)) (now columns) (now values) ⌝ ∗ ⌜ Matrix (now b) ⌝ }
+    requires { ⌜ (cols (now b) ≤ length (now oc)) × (cols (now b) ≤ length (now ov)) ⌝ }
+    ensures { λ r. ⌜ Holds (cols (now (b .entry)))
+        (productRow monoid op (lookup (now (columns .entry)) (now (values .entry))) (now (b .entry)))
+        r (now (oc .exit)) (now (ov .exit)) ⌝ }
+{
+    match engine {
+        Engine::ByPlaces => product_row(monoid, op, columns, values, b, oc, ov),
+        Engine::ByEntries => by_entries::product_row_by_entries(
+            monoid,
+            op,
+            columns,
+            values,
+            b,
+            oc,
+            ov,
+        ),
+    }
+}
 
 // The row of the first input times the matrix b, to the front of `oc` and `ov`; its number of entries. A row without
 // entries costs nothing.

@@ -4,6 +4,7 @@ use operations::Operation;
 use operators::ApplyOp;
 use operators::BinaryOp;
 use operators::Monoid;
+use products::Engine;
 use select_ops::SelectOp;
 ghost use mathlib.Core.Path.{_≡_};
 ghost use Prim.Native.Nat.{_≤_, _<_};
@@ -17,8 +18,9 @@ ghost use Rattle.operations.specs.GridOperations.{resultGrid};
 ghost use Rattle.merge.specs.Combined.{combined};
 ghost use Rattle.result_rows.specs.RowInputs.{RowInputs, Buffers, ProductInputs, PairInputs, ListInputs, noCell};
 
-// Row i of T, left at the front of `oc` and `ov`: its number of entries.
+// Row i of T, left at the front of `oc` and `ov`: its number of entries. The engine is the product's.
 pub fn result_row(
+    engine: Engine,
     operation: Operation,
     a: &[u32],
     b: &[u32],
@@ -39,7 +41,7 @@ pub fn result_row(
         r (now (oc .exit)) (now (ov .exit)) ⌝ }
 {
     match operation {
-        Operation::Mxm(monoid, op) => product(monoid, op, a, b, i, oc, ov),
+        Operation::Mxm(monoid, op) => product(engine, monoid, op, a, b, i, oc, ov),
         Operation::EwiseMult(op) => pair(Combine::Intersect(op), a, b, i, oc, ov),
         Operation::EwiseAdd(op) => pair(Combine::Unite(op), a, b, i, oc, ov),
         Operation::Apply(op) => applied(op, a, i, oc, ov),
@@ -50,7 +52,8 @@ pub fn result_row(
 }
 
 // The product's row.
-fn product(
+pub fn product(
+    engine: Engine,
     monoid: Monoid,
     op: BinaryOp,
     a: &[u32],
@@ -65,7 +68,8 @@ fn product(
         (λ j. dot monoid op (cols (now (a .entry))) (cellOf (now (a .entry)) i) (λ k. cellOf (now (b .entry)) k j))
         r (now (oc .exit)) (now (ov .exit)) ⌝ }
 {
-    products::product_row(
+    products::product_row_by(
+        engine,
         monoid,
         op,
         matrix::row_columns(a, i),

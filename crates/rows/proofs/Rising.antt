@@ -1,35 +1,14 @@
--- Laws of `rising`: what each turn of a loop over a row does, and what a row that rises says of its columns.
+-- Laws of `rising`: what a row that rises says of its columns.
 use Prim.Native.Nat.{ℕ, zero, suc, _+_, _≤_, _<_}
 use native.Mathlib.Omega.{arith}
-use native.Mathlib.Numerals.{add-one}
 use mathlib.Core.Path.{_≡_, refl}
 use mathlib.Core.List.{List, [], _∷_}
-use mathlib.Core.Bool.{true, false}
-use lib.ListN.{length, drop, drop-of-length-le}
-use lib.Seq.{drop-cons}
-use borrow.Author.Tests.{le-leb, lt-leb, lt-ltb, le-ltb, leb-true, ltb-true}
+use mathlib.Core.Bool.{true}
+use lib.ListN.{length}
+use borrow.Author.Tests.{le-leb, lt-ltb, leb-true, ltb-true}
 use Rattle.words.specs.Words.{at}
-use Rattle.conditions.specs.Tests.{_and_}
 use Rattle.conditions.proofs.Tests.{and-left, and-right, and-both}
 use Rattle.rows.specs.Row.{rising, Rises}
-
--- the turns of a loop that stands at index k, with the lowest column number still allowed
-module _ (bound low : ℕ) (row : List ℕ) (k : ℕ) where
-  pub rising-end : length row ≤ k → rising bound low (drop k row) ≡ true
-  rising-end h = rw (drop-of-length-le row h)
-
-  pub rising-low : k < length row → at row k < low → rising bound low (drop k row) ≡ false
-  unfolding _and_
-  rising-low h l = rw (drop-cons row k 0 h, lt-leb _ _ l)
-
-  pub rising-high : k < length row → low ≤ at row k → bound ≤ at row k → rising bound low (drop k row) ≡ false
-  unfolding _and_
-  rising-high h l u = rw (drop-cons row k 0 h, le-leb _ _ l, le-ltb _ _ u)
-
-  pub rising-step : k < length row → low ≤ at row k → at row k < bound
-      → rising bound low (drop k row) ≡ rising bound (at row k + 1) (drop (k + 1) row)
-  unfolding _and_
-  rising-step h l u = rw (drop-cons row k 0 h, le-leb _ _ l, lt-ltb _ _ u, add-one k)
 
 -- the facts of a row that rises, at its first column
 record Step (bound low c : ℕ) (l : List ℕ) : Type 0 where

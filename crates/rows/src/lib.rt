@@ -5,7 +5,7 @@ ghost use mathlib.Core.Path.{_≡_};
 ghost use Prim.Native.Nat.{_+_, _≤_, _<_};
 ghost use lib.ListN.{length};
 ghost use Rattle.words.specs.Words.{at};
-ghost use Rattle.rows.specs.Row.{rising, Rises, position, lookup};
+ghost use Rattle.rows.specs.Row.{Rises, position, lookup};
 ghost use Rattle.rows.specs.Place.{columnAt, Inside, cellBeside};
 ghost use Rattle.rows.specs.Looks.{positionLooks, lookThere, looksFor};
 
@@ -37,26 +37,6 @@ struct Bound {
 struct Seen {
     column: u32,
     looks: usize,
-}
-
-// Whether the column numbers are below `bound` and rise strictly.
-pub fn row_valid(columns: &[u32], bound: u32) -> bool
-    ensures { λ r. ⌜ r ≡ rising bound 0 (now (columns .entry)) ⌝ }
-{
-    let mut low: u32 = 0;
-    let mut k = 0;
-    while k < columns.len() {
-        let c = columns[k];
-        if c < low {
-            return false;
-        }
-        if bound <= c {
-            return false;
-        }
-        low = c + 1;
-        k += 1;
-    }
-    true
 }
 
 // The cell at column j of a valid row.

@@ -1,14 +1,15 @@
 -- The tests of a store as the code reaches them: the words of a slot, a section, all sections, the zeros, the whole.
 use Prim.Native.Nat.{ℕ, _+_, _-_, _≤_, _<_}
 use native.Mathlib.Omega.{arith}
-use native.Mathlib.Decide.{decLt}
+use native.Mathlib.Decide.{decLt, ℕ-discrete}
 use mathlib.Core.Path.{_≡_, refl, sym, ap, _∙_}
 use mathlib.Core.Bool.{Bool, true, false, cond, false≢true}
 use mathlib.Core.List.{List}
 use lib.ListN.{length, drop, length-drop}
 use lib.Seq.{getD-drop}
 use lib.Dec.{eqb}
-use borrow.Author.Tests.{le-leb, lt-leb, ne-eqb, leb-true}
+use lib.Bits.{bitOr, or-add-and, and-le-l, and-le-r}
+use borrow.Author.Tests.{le-leb, lt-leb, eq-eqb, ne-eqb, leb-true}
 use Rattle.limits.specs.Limits.{slotCount, maxStoreWords}
 use Rattle.words.specs.Words.{at, part}
 use Rattle.conditions.specs.Tests.{_and_, all}
@@ -119,19 +120,50 @@ zeros-turn {s} {a} {i} z e = record { zero = λ j l h. go j l h (decLt j i) }
     go j l h (yes p) = z .zero j l p
     go j l h (no p) = let q : j ≡ i = omega arith in rw q e
 
--- a word that is not 0
-pub zeros-stop : (s : List ℕ) (a i : ℕ) → a ≤ i → i < length s → (at s i ≡ 0 → ⊥) → false ≡ allZero (drop a s)
-zeros-stop s a i l h f =
-    let d = length-drop a s in
-    let q : a + (i - a) ≡ i = omega arith in
-    sym (refuted (allZero (drop a s)) (λ z.
-    f (sym (ap (λ (j : ℕ). at s j) q) ∙ sym (getD-drop a s (i - a) 0) ∙ zeros-at (drop a s) z (i - a) (omega arith))))
-
 -- no word is left
 pub zeros-end : {s : List ℕ} {a i : ℕ} → Zeros s a i → length s ≤ i → true ≡ allZero (drop a s)
 zeros-end {s} {a} {i} z h =
     let d = length-drop a s in
     sym (zeros-made (drop a s) (λ j l. getD-drop a s j 0 ∙ z .zero (a + j) (omega arith) (omega arith)))
+
+-- ---- the same by one word that has the bits of all words seen: it is 0 where they are zeros, and only there
+
+pub record Collected (s : List ℕ) (a i bits : ℕ) : Type 0 where
+  pub clear : bits ≡ 0 → Zeros s a i
+  pub kept : Zeros s a i → bits ≡ 0
+
+pub collected-start : (s : List ℕ) (a : ℕ) → Collected s a a 0
+collected-start s a = record { clear = λ e. zeros-start s a; kept = λ z. refl }
+
+pub collected-turn : {s : List ℕ} {a i bits : ℕ} → a ≤ i → Collected s a i bits
+    → Collected s a (i + 1) (bitOr bits (at s i))
+collected-turn {s} {a} {i} {bits} l m =
+    let x = at s i in
+    record {
+      clear = λ e. zeros-turn
+          (m .clear (omega (arith, or-add-and bits x, and-le-l bits x, and-le-r bits x)))
+          (omega (arith, or-add-and bits x, and-le-l bits x, and-le-r bits x));
+      kept = λ z.
+          let e = m .kept (record { zero = λ j k h. z .zero j k (omega arith) }) in
+          let f : x ≡ 0 = z .zero i l (omega arith) in
+          omega (arith, or-add-and bits x);
+    }
+
+pub collected-end : {s : List ℕ} {a i bits : ℕ} → Collected s a i bits → a ≤ i → i ≤ length s → length s ≤ i
+    → eqb bits 0 ≡ allZero (drop a s)
+collected-end {s} {a} {i} {bits} m l k h = go (ℕ-discrete bits 0)
+  where
+    go : Dec (bits ≡ 0) → eqb bits 0 ≡ allZero (drop a s)
+    go (yes e) = eq-eqb bits 0 e ∙ zeros-end (m .clear e) h
+    go (no f) =
+        ne-eqb bits 0 f ∙ sym (refuted (allZero (drop a s)) (λ t.
+        f (m .kept (record {
+          zero = λ j p q.
+              let d = length-drop a s in
+              let r : a + (j - a) ≡ j = omega arith in
+              sym (ap (λ (n : ℕ). at s n) r) ∙ sym (getD-drop a s (j - a) 0)
+              ∙ zeros-at (drop a s) t (j - a) (omega arith);
+        }))))
 
 -- ---- the whole
 

@@ -13,6 +13,7 @@ use limits::SLOTS;
 use matrix::layout::FIXED_WORDS;
 use model::Roles;
 use operations::Call;
+use products::Engine;
 ghost use mathlib.Core.Path.{_≡_};
 ghost use mathlib.Core.Bool.{cond};
 ghost use lib.ListN.{length, replicate};
@@ -40,9 +41,27 @@ pub fn operate(
         (length (now (work .entry)))) (wrote r) (now (store .exit)) ⌝
         ∗ ⌜ now (work .exit) ≡ replicate (length (now (work .entry))) 0 ⌝ }
 {
+    operate_with(store, options, verb, named, is, js, work, Engine::ByEntries)
+}
+
+// The same with either engine of the product.
+pub fn operate_with(
+    store: &mut [u32],
+    options: Options,
+    verb: Verb,
+    named: Roles,
+    is: &[u32],
+    js: &[u32],
+    work: &mut [u32],
+    engine: Engine,
+) -> Answer
+    ensures { λ r. ⌜ Performed (now (store .entry)) (operate options verb named (now (is .entry)) (now (js .entry))
+        (length (now (work .entry)))) (wrote r) (now (store .exit)) ⌝
+        ∗ ⌜ now (work .exit) ≡ replicate (length (now (work .entry))) 0 ⌝ }
+{
     let call = call_codes::decode(options, verb);
     let roles = roles_of(call, named);
-    let answer = attempt(store, call, roles, is, js, work);
+    let answer = attempt(store, call, roles, is, js, work, engine);
     words::clear(work);
     answer
 }
@@ -74,6 +93,7 @@ fn attempt(
     is: &[u32],
     js: &[u32],
     work: &mut [u32],
+    engine: Engine,
 ) -> Answer
     ensures { λ r. ⌜ Operated (now (store .entry)) (asked call roles (now (is .entry)) (now (js .entry))
         (length (now (work .entry)))) r (now (store .exit)) ⌝ }
@@ -86,7 +106,7 @@ fn attempt(
     if code != 0 {
         return refused(code);
     }
-    let outcome = evaluate(&store[..], call, roles, is, js, work);
+    let outcome = evaluate(&store[..], call, roles, is, js, work, engine);
     match outcome {
         Evaluated::Refused(x) => refused(x),
         Evaluated::Done(n) => commit(store, roles.output, end, &work[..], n),
@@ -174,6 +194,7 @@ fn evaluate(
     is: &[u32],
     js: &[u32],
     work: &mut [u32],
+    engine: Engine,
 ) -> Evaluated
     requires { ⌜ Store (now store) ⌝ ∗ ⌜ Holding (now store) roles ⌝ }
     ensures { λ r. ⌜ Evaluation r (modelOf (now (store .entry)))
@@ -187,7 +208,7 @@ fn evaluate(
     if code != 0 {
         return Evaluated::Refused(code);
     }
-    match compute::compute(call, a, b, mask, c, is, js, work) {
+    match compute::compute(call, a, b, mask, c, is, js, work, engine) {
         Outcome::Full => Evaluated::Refused(TOO_MANY_ENTRIES),
         Outcome::Done(n) => Evaluated::Done(n),
     }

@@ -11,6 +11,8 @@ pub use ostrubel::{MAX_MATRIX_WORDS as MATRIX_WORDS, MAX_STORE_WORDS as STORE_WO
 pub const REPLACE: u32 = 1;
 pub const STRUCTURAL: u32 = 4;
 pub const TRANSPOSE_FIRST: u32 = 8;
+/// A call with higher flags is refused, and looks at nothing.
+const MAX_FLAGS: u32 = 31;
 
 /// The operators that are measured: PLUS as monoid and accumulator, TIMES everywhere else.
 pub const PLUS: u32 = 3;
@@ -89,6 +91,58 @@ impl Job {
     pub fn repeats(&self) -> bool {
         matches!(self, Job::Check(_) | Job::Fill | Job::ReadRow { .. } | Job::Store(StoreCall::ReadCell { .. }, _))
     }
+
+    /// Each word that the call is to look at is read once, each of C and of the workspace is written once. The workspace
+    /// is left as a call leaves it.
+    fn floor(&self, Buffers { c, store, work }: &mut Buffers) -> u32 {
+        match self {
+            Job::Check(words) => read(words),
+            Job::Fill => write(work),
+            Job::ReadRow { words, cols } => (0..*cols).fold(0, |bits, _| bits | read(black_box(words))),
+            Job::Lent(job) if job.options.flags > MAX_FLAGS => write(work),
+            Job::Lent(job) => {
+                let old = &mut c[..job.c.len()];
+                read_all(&job.inputs()) | read(old) | write(old) | write(work)
+            }
+            Job::Store(StoreCall::Operation { operation, .. }, _) => {
+                read(store) | read_all(&operation.lists()) | write(work)
+            }
+            Job::Store(..) => read(store),
+        }
+    }
+}
+
+impl LentJob {
+    /// What the call reads beside old C; no words for what it has not.
+    fn inputs(&self) -> [&[u32]; 5] {
+        let has_second = !matches!(self.operation, Operation::Apply | Operation::Extract { .. });
+        let b = if has_second { &self.b[..] } else { &[] };
+        let mask = if self.options.has_mask != 0 { &self.mask[..] } else { &[] };
+        let [rows, cols] = self.operation.lists();
+        [&self.a, b, mask, rows, cols]
+    }
+}
+
+impl Operation {
+    fn lists(&self) -> [&[u32]; 2] {
+        match self {
+            Operation::Extract { rows, cols } => [rows, cols],
+            _ => [&[], &[]],
+        }
+    }
+}
+
+fn read(words: &[u32]) -> u32 {
+    words.iter().fold(0, |bits, word| bits | word)
+}
+
+fn read_all(parts: &[&[u32]]) -> u32 {
+    parts.iter().fold(0, |bits, words| bits | read(words))
+}
+
+fn write(words: &mut [u32]) -> u32 {
+    words.fill(0);
+    0
 }
 
 /// A job by the library or by the ordinary program: the answer.
@@ -184,5 +238,9 @@ impl Subject for ProgramSubject {
 
     fn repeats(&self) -> bool {
         self.job.repeats()
+    }
+
+    fn floor(&mut self, buffers: &mut Buffers) {
+        black_box(black_box(&self.job).floor(buffers));
     }
 }

@@ -2,10 +2,11 @@
 //!
 //! `ordinary` is the ordinary program. `entries` and `scene` make the matrices, `cases` what is measured on them;
 //! `jobs` carries a call out by the library or the ordinary program, `peer` by SuiteSparse. `timing` takes samples,
-//! `rounds` all of them, `table` writes them down.
+//! `rounds` all of them, `instructions` counts by callgrind, `table` writes it all down.
 
 pub mod cases;
 pub mod entries;
+pub mod instructions;
 pub mod jobs;
 pub mod machine;
 pub mod ordinary;

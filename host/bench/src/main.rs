@@ -1,6 +1,7 @@
 //! Measures all cases and prints the tables.
 
 use bench::cases::{all_cases, Case};
+use bench::instructions::{self, COUNTED};
 use bench::rounds::measure;
 use bench::table::{insert, report};
 use std::fs;
@@ -10,19 +11,22 @@ use std::time::Duration;
 const USAGE: &str = "\
 bench [--seconds N] [--only TEXT] [--write FILE]
 
-Times the library's calls beside an ordinary Rust program and SuiteSparse:GraphBLAS (the feature suitesparse).
+Times the library's calls beside an ordinary Rust program and SuiteSparse:GraphBLAS (the feature suitesparse), and counts
+their instructions by valgrind, where it is there.
   --seconds N   about how long it takes (120)
   --only TEXT   only the cases whose call and variant have the text in them, as 'mxm, plain'; not with --write
-  --write FILE  puts the tables between the two marks in the file";
+  --write FILE  puts the tables between the two marks in the file
+  --counted     only carries the cases out, for valgrind";
 
 struct Arguments {
     seconds: u64,
     only: String,
     write: Option<String>,
+    counted: bool,
 }
 
 fn arguments() -> Result<Arguments, String> {
-    let mut arguments = Arguments { seconds: 120, only: String::new(), write: None };
+    let mut arguments = Arguments { seconds: 120, only: String::new(), write: None, counted: false };
     let mut given = std::env::args().skip(1);
     while let Some(name) = given.next() {
         let mut value = || given.next().ok_or(format!("{name} wants a value"));
@@ -33,6 +37,7 @@ fn arguments() -> Result<Arguments, String> {
             }
             "--only" => arguments.only = value()?,
             "--write" => arguments.write = Some(value()?),
+            COUNTED => arguments.counted = true,
             _ => return Err(USAGE.to_string()),
         }
     }
@@ -47,7 +52,7 @@ fn document(file: &str) -> Result<String, String> {
 }
 
 fn run() -> Result<(), String> {
-    let Arguments { seconds, only, write } = arguments()?;
+    let Arguments { seconds, only, write, counted } = arguments()?;
     if write.is_some() && !only.is_empty() {
         return Err("--write wants all cases, and so no --only".to_string());
     }
@@ -60,9 +65,14 @@ fn run() -> Result<(), String> {
     if cases.is_empty() {
         return Err(format!("no case has \"{only}\" in it"));
     }
+    if counted {
+        instructions::carry_out(&mut cases);
+        return Ok(());
+    }
     eprintln!("The sides agree on {} cases; measuring for about {seconds} s.", cases.len());
     let measured = measure(&mut cases, Duration::from_secs(seconds));
-    let report = report(&cases, &measured);
+    let counts = instructions::count(&cases, &only);
+    let report = report(&cases, &measured, &counts);
     print!("{report}");
     if let Some((document, file)) = target {
         fs::write(&file, insert(&document, &report)?).map_err(|error| format!("{file}: {error}"))?;

@@ -3,7 +3,7 @@
 use crate::cases::{Case, Section};
 use crate::jobs::STORE_WORDS;
 use crate::machine;
-use crate::rounds::Measured;
+use crate::rounds::{Measured, Sides, FLOOR, LIBRARY, ORDINARY, SUITESPARSE};
 use crate::scene::Size;
 use crate::timing::Summary;
 use std::fmt::Write;
@@ -11,19 +11,25 @@ use std::fmt::Write;
 const BEGIN: &str = "<!-- measured: begin -->";
 const END: &str = "<!-- measured: end -->";
 
-const SIDES: [&str; 3] = ["Library, µs", "Ordinary, µs", "SuiteSparse, µs"];
+/// What a table shows of a case: its times, and the instructions of the library's call.
+struct Row<'a> {
+    case: &'a Case,
+    sides: &'a Sides,
+    instructions: Option<u64>,
+}
 
-/// The whole report.
-pub fn report(cases: &[Case], measured: &Measured) -> String {
+/// The whole report. Of a case whose instructions were not counted there is "-".
+pub fn report(cases: &[Case], measured: &Measured, counts: &[Option<u64>]) -> String {
     let [machine, compilers] = machine::description();
     let mut text = format!("{machine}.\n\n{compilers}.\n\n");
     let Measured { rounds, load, clock_cost, .. } = measured;
     let load = load.map_or(String::new(), |load| format!("The load of the machine when the run began: {load}. "));
     let _ =
         writeln!(text, "{load}{rounds} rounds. A reading of the clock before and after a call: {clock_cost:.0} ns.");
-    let rows: Vec<(&Case, &[Option<Summary>; 3])> = cases.iter().zip(&measured.sides).collect();
-    for group in rows.chunk_by(|x, y| x.0.section == y.0.section) {
-        text.push_str(&table(group[0].0.section, group));
+    let row = |((case, sides), &instructions)| Row { case, sides, instructions };
+    let rows: Vec<Row> = cases.iter().zip(&measured.sides).zip(counts).map(row).collect();
+    for group in rows.chunk_by(|x, y| x.case.section == y.case.section) {
+        text.push_str(&table(group[0].case.section, group));
     }
     text
 }
@@ -39,27 +45,29 @@ fn title(section: Section) -> String {
 }
 
 /// A heading and a table. A side that has none of its rows has no columns.
-fn table(section: Section, rows: &[(&Case, &[Option<Summary>; 3])]) -> String {
-    let has_peer = rows.iter().any(|(_, sides)| sides[2].is_some());
-    let shown = if has_peer { 3 } else { 2 };
-    let has_entries = rows.iter().any(|(case, _)| case.entries.is_some());
+fn table(section: Section, rows: &[Row]) -> String {
+    let has_peer = rows.iter().any(|row| row.sides[SUITESPARSE].is_some());
+    let has_entries = rows.iter().any(|row| row.case.entries.is_some());
     let mut heads = vec!["Call", "Variant"];
     heads.extend(has_entries.then_some("Entries"));
-    heads.extend(&SIDES[..shown]);
-    heads.push("Library / ordinary");
+    heads.extend(["Library, µs", "Ordinary, µs"]);
+    heads.extend(has_peer.then_some("SuiteSparse, µs"));
+    heads.extend(["Floor, µs", "Library / ordinary"]);
     heads.extend(has_peer.then_some("Library / SuiteSparse"));
+    heads.extend(["Library / floor", "Library, instructions"]);
     let mut text = format!("\n### {}\n\n| {} |\n", title(section), heads.join(" | "));
     let _ = writeln!(text, "|---|---|{}", "---:|".repeat(heads.len() - 2));
-    for (case, sides) in rows {
+    for Row { case, sides, instructions } in rows {
+        let ratio = |under: usize| ratio(sides[LIBRARY], sides[under]);
         let mut cells = vec![case.call.to_string(), case.variant.clone()];
-        if has_entries {
-            cells.push(case.entries.map_or(String::new(), |entries| entries.to_string()));
-        }
-        cells.extend(sides[..shown].iter().map(|side| side.map_or(String::new(), time)));
-        cells.push(ratio(sides[0], sides[1]));
-        if has_peer {
-            cells.push(ratio(sides[0], sides[2]));
-        }
+        cells.extend(has_entries.then(|| case.entries.map_or(String::new(), |entries| entries.to_string())));
+        cells.extend([LIBRARY, ORDINARY].map(|side| sides[side].map_or(String::new(), time)));
+        cells.extend(has_peer.then(|| sides[SUITESPARSE].map_or(String::new(), time)));
+        cells.push(sides[FLOOR].map_or(String::new(), |floor| microseconds(floor.median)));
+        cells.push(ratio(ORDINARY));
+        cells.extend(has_peer.then(|| ratio(SUITESPARSE)));
+        cells.push(ratio(FLOOR));
+        cells.push(instructions.map_or("-".to_string(), |count| count.to_string()));
         let _ = writeln!(text, "| {} |", cells.join(" | "));
     }
     text

@@ -13,6 +13,26 @@ pub trait Subject {
 
     /// Whether a call changes nothing, so that nothing has to be put back.
     fn repeats(&self) -> bool;
+
+    /// What no such call can do without, and nothing else.
+    fn floor(&mut self, _: &mut Buffers) {}
+}
+
+/// The floor of a call, to be timed in its stead.
+pub struct Floor<'a>(pub &'a mut dyn Subject);
+
+impl Subject for Floor<'_> {
+    fn restore(&mut self, buffers: &mut Buffers) {
+        self.0.restore(buffers);
+    }
+
+    fn call(&mut self, buffers: &mut Buffers) {
+        self.0.floor(buffers);
+    }
+
+    fn repeats(&self) -> bool {
+        self.0.repeats()
+    }
 }
 
 /// The shortest sum of the times of a sample's calls.

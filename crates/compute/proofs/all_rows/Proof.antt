@@ -18,13 +18,13 @@ use Rattle.compute.proofs.all_rows.Statement.{statement}
 use Rattle.compute.proofs.all_rows.Tie as tie
 
 abbrev Inv-loop : tie.InvT-loop
-Inv-loop call first second a b mask c is js work₀ tc₀ tv₀ oc₀ ov₀ total n₀ i₀ work tc tv oc ov n i =
+Inv-loop call first second a b mask c is js work₀ tc₀ tv₀ oc₀ ov₀ engine total n₀ i₀ work tc tv oc ov n i =
     Progress call a b mask c is js first second work tc tv oc ov total n i
     × ((length work ≡ length work₀) × (length tc ≡ length tc₀) × (length tv ≡ length tv₀) × (length oc ≡ length oc₀)
     × (length ov ≡ length ov₀))
 
 abbrev μ-loop : tie.MeasureT-loop
-μ-loop call first second a b mask c is js work₀ tc₀ tv₀ oc₀ ov₀ total n₀ i₀ work tc tv oc ov n i = total - i
+μ-loop call first second a b mask c is js work₀ tc₀ tv₀ oc₀ ov₀ engine total n₀ i₀ work tc tv oc ov n i = total - i
 
 -- where the function starts, from where its slices are known
 abbrev start : tie.After-slice-known5 Inv-loop μ-loop → tie.Start Inv-loop μ-loop

@@ -9,7 +9,7 @@ use Rattle.rows.proofs.Holds.{holds-most}
 use Rattle.operations.specs.Calls.{transposeFirst, transposeSecond, hasSecond}
 use Rattle.compute.specs.Computing.{secondRegion, Source}
 use Rattle.compute.proofs.Sources.{first-read, second-read}
-use Rattle.compute.proofs.FinalRow.{row-inputs, row-buffers, old-row, final-row}
+use Rattle.compute.proofs.FinalRow.{row-inputs, row-buffers, mask-there, old-row, final-row}
 use borrow.Author.Needs.{needs}
 use Rattle.compute.proofs.final_row.Statement.{statement}
 use Rattle.compute.proofs.final_row.Tie as tie
@@ -20,13 +20,12 @@ start q =
     q .before .before .before .before .before .before .before .before
     .before .before .before .before .before .before .before
 
--- where they are chosen, from the row of T
-abbrev chosen : tie.After-result-row → tie.After-choose2
-chosen s = s .before .before .before
+-- where they are chosen, and how C is written, from the row of T
+abbrev written : tie.After-row-inside → tie.After-write-back-of
+written s = s .before .before .before
 
--- the row of T, from where it is to be written back
-abbrev made : tie.After-write-back-of → tie.After-result-row
-made c = c .before .before .before .before .before
+abbrev chosen : tie.After-row-inside → tie.After-choose2
+chosen s = written s .before
 
 -- the inputs as they are read
 first-source : (q : tie.After-choose2)
@@ -44,14 +43,14 @@ second-held q h =
     (p .1 .0 .second) h
 
 -- the row of T lies within its buffers
-row-fits : (s : tie.After-result-row) → let x = start (chosen s) .args in
-    (s .result-row .result ≤ length (now (x .tc))) × (s .result-row .result ≤ length (now (x .tv)))
+row-fits : (s : tie.After-row-inside) → let x = start (chosen s) .args in
+    (s .row-inside .result ≤ length (now (x .tc))) × (s .row-inside .result ≤ length (now (x .tv)))
 row-fits s =
     let q = chosen s in
     let p = start q .pre in
     let b =
     row-buffers _ _ _ _ _ _ _ _ _ (p .0) (first-source q) (second-held q) _ _ _ _ (p .1 .1 .1 .1 .1) in
-    let h = holds-most (s .result-row .ensures) in
+    let h = holds-most (s .row-inside .ensures .holds) in
     (omega arith, omega arith)
 
 sub-choose : tie.Need-sub-choose
@@ -78,39 +77,46 @@ part-choose-end-2 c = search needs
 choose-requires-2 : tie.Need-choose-requires-2
 choose-requires-2 c κs = search needs
 
-result-row-requires : tie.Need-result-row-requires
-result-row-requires c κs =
-    let q = c .before .before in
-    let p = start q .pre in (
-      row-inputs _ _ _ _ _ _ _ _ _ (p .0) (first-source q) (second-held q) _ (p .1 .1 .1 .1 .0),
-      row-buffers _ _ _ _ _ _ _ _ _ (p .0) (first-source q) (second-held q) _ _ _ _ (p .1 .1 .1 .1 .1),
-    )
-
 write-back-of-requires : tie.Need-write-back-of-requires
 write-back-of-requires c κs = search needs
 
+row-inside-requires : tie.Need-row-inside-requires
+row-inside-requires c κs =
+    let w = c .before .before in
+    let q = w .before in
+    let p = start q .pre in (
+      row-inputs _ _ _ _ _ _ _ _ _ (p .0) (first-source q) (second-held q) _ (p .1 .1 .1 .1 .0),
+      (
+        row-buffers _ _ _ _ _ _ _ _ _ (p .0) (first-source q) (second-held q) _ _ _ _ (p .1 .1 .1 .1 .1),
+        mask-there _ _ _ _ _ _ _ _ _ (p .0) (first-source q) (second-held q) _ (w .write-back-of .ensures) _
+            (p .1 .1 .1 .1 .0),
+      ),
+    )
+
 slice-reshare-prefix-write-row : tie.Need-slice-reshare-prefix-write-row
-slice-reshare-prefix-write-row c = let f = row-fits (made c) in omega arith
+slice-reshare-prefix-write-row c = let f = row-fits (c .before .before .before .before) in omega arith
 
 slice-aggregate-write-row : tie.Need-slice-aggregate-write-row
-slice-aggregate-write-row c = let f = row-fits (made (c .before)) in simp length-take (omega arith)
+slice-aggregate-write-row c =
+    let f = row-fits (c .before .before .before .before .before) in simp length-take (omega arith)
 
 slice-reshare-prefix-write-row-2 : tie.Need-slice-reshare-prefix-write-row-2
-slice-reshare-prefix-write-row-2 c = let f = row-fits (made (c .before)) in omega arith
+slice-reshare-prefix-write-row-2 c =
+    let f = row-fits (c .before .before .before .before .before) in omega arith
 
 slice-aggregate-write-row-2 : tie.Need-slice-aggregate-write-row-2
-slice-aggregate-write-row-2 c = let f = row-fits (made (c .before .before)) in simp length-take (omega arith)
+slice-aggregate-write-row-2 c =
+    let f = row-fits (c .before .before .before .before .before .before) in simp length-take (omega arith)
 
 write-row-requires : tie.Need-write-row-requires
 write-row-requires c κs =
-    let w = c .before .before .before .before in
-    let s = made w in
+    let s = c .before .before .before .before .before .before .before .before in
     let q = chosen s in
     let p = start q .pre in
     let k = p .0 .inputs .output .header .col-range .most in
     let b = p .1 .1 .1 .1 .1 in (
-      old-row _ _ _ _ _ _ _ _ _ (p .0) (first-source q) (second-held q) _ _ _ _ (p .1 .1 .1 .1 .0)
-          (s .result-row .ensures) _ (w .write-back-of .ensures),
+      old-row _ _ _ _ _ _ _ _ _ (p .0) (first-source q) (second-held q) _ _ _ _ (p .1 .1 .1 .1 .0) _
+          (written s .write-back-of .ensures) (s .row-inside .ensures),
       (omega arith, omega arith),
     )
 
@@ -129,12 +135,11 @@ same-length-4 c = search needs
 returns : tie.Need-returns
 returns c =
     let r = c .before .before .before .before in
-    let w = r .before .before .before .before .before in
-    let s = made w in
+    let s = r .before .before .before .before .before .before .before .before .before in
     let q = chosen s in
     let p = start q .pre in
-    final-row _ _ _ _ _ _ _ _ _ (p .0) (first-source q) (second-held q) _ _ _ _ (p .1 .1 .1 .1 .0)
-    (s .result-row .ensures) _ (w .write-back-of .ensures) _ _ _ (r .write-row .ensures)
+    final-row _ _ _ _ _ _ _ _ _ (p .0) (first-source q) (second-held q) _ _ _ _ (p .1 .1 .1 .1 .0) _
+    (written s .write-back-of .ensures) (s .row-inside .ensures) _ _ _ (r .write-row .ensures)
 
 pub final-row-spec : {M : Type 1} → statement M
 final-row-spec =
@@ -148,8 +153,8 @@ final-row-spec =
     part-choose-start-2
     part-choose-end-2
     choose-requires-2
-    result-row-requires
     write-back-of-requires
+    row-inside-requires
     slice-reshare-prefix-write-row
     slice-aggregate-write-row
     slice-reshare-prefix-write-row-2

@@ -1,93 +1,106 @@
--- `rows_valid` is the test `rowsValid`: every row passed rises.
-use native.Mathlib.Omega.{arith}
-use Prim.Native.Nat.{ℕ, _-_, _≤_}
-use mathlib.Core.Path.{_≡_, sym, ap, _∙_}
-use mathlib.Core.Bool.{true}
+-- `rows_valid` is the test `rowsValid`: all column numbers are below the bound, and fall only where a row starts.
 use denote.Ref.{now}
-use borrow.Author.Tests.{not-true, not-false}
-use Rattle.conditions.specs.Tests.{all}
-use Rattle.conditions.proofs.Tests.{all-none, all-more, all-not}
-use Rattle.rows.specs.Row.{rising}
-use Rattle.matrix.specs.Layout.{rows}
-use Rattle.matrix.specs.Valid.{rowsValid}
-use Rattle.matrix.proofs.Facts.{rowRises, row-span}
 use borrow.Author.Needs.{needs}
+use Rattle.conditions.proofs.Tests.{said-no, said-yes}
+use Rattle.matrix.proofs.Falls.{not-below, falls-decide}
 use Rattle.matrix.proofs.rows_valid.Statement.{statement}
 use Rattle.matrix.proofs.rows_valid.Tie as tie
 
-abbrev Inv-loop : tie.InvT-loop
-Inv-loop words r i₀ i = (r ≡ rows words) × (i ≤ r) × (all i (rowRises words) ≡ true)
-
-abbrev μ-loop : tie.MeasureT-loop
-μ-loop words r i₀ i = r - i
-
-shared-slice-read-r : tie.Need-shared-slice-read-r Inv-loop μ-loop
+shared-slice-read-r : tie.Need-shared-slice-read-r
 shared-slice-read-r c = search needs
 
-cast-r : tie.Need-cast-r Inv-loop μ-loop
+cast-r : tie.Need-cast-r
 cast-r c = search needs
 
-loop-holds : tie.Need-loop-holds Inv-loop μ-loop
-loop-holds c = (omega arith, omega arith, all-none _)
+add-count-at : tie.Need-add-count-at
+add-count-at c = search needs
 
-row-columns-requires : tie.Need-row-columns-requires Inv-loop μ-loop
-row-columns-requires c κs =
-    let p = c .before .before .before .before .pre in
-    (p .0, row-span _ (p .1) (c .before .loop .i) (omega arith))
+add-from : tie.Need-add-from
+add-from c = search needs
 
-shared-slice-read-row-valid : tie.Need-shared-slice-read-row-valid Inv-loop μ-loop
-shared-slice-read-row-valid c = search needs
+mul-to : tie.Need-mul-to
+mul-to c = search needs
 
-row-valid-requires : tie.Need-row-valid-requires Inv-loop μ-loop
-row-valid-requires c κs = search needs
+shared-slice-read-to : tie.Need-shared-slice-read-to
+shared-slice-read-to c = search needs
 
--- what the test of row i said
-tested : (q : tie.After-row-valid Inv-loop μ-loop)
-    → rowRises (now (q .before .before .before .before .before .before .before .args .words))
-    (q .before .before .before .before .loop .i) ≡ q .row-valid .result
-tested q = ap (rising _ 0) (sym (q .before .before .row-columns .ensures .words)) ∙ sym (q .row-valid .ensures)
+cast-to : tie.Need-cast-to
+cast-to c = search needs
 
-returns : tie.Need-returns Inv-loop μ-loop
-unfolding rowsValid
+add-to : tie.Need-add-to
+add-to c = search needs
+
+mul-all-below : tie.Need-mul-all-below
+mul-all-below c = search needs
+
+sub-all-below : tie.Need-sub-all-below
+sub-all-below c = search needs
+
+part-all-below-start : tie.Need-part-all-below-start
+part-all-below-start c = search needs
+
+part-all-below-end : tie.Need-part-all-below-end
+part-all-below-end c = search needs
+
+shared-slice-read-all-below : tie.Need-shared-slice-read-all-below
+shared-slice-read-all-below c = search needs
+
+all-below-requires : tie.Need-all-below-requires
+all-below-requires c κs = search needs
+
+returns : tie.Need-returns
 returns c =
-    let q = c .before in
-    sym (all-not _ _ (q .before .before .before .before .loop .i) (omega arith) (tested q ∙ not-true _ (c .if1 .taken)))
+    let q = c .before .before .before .before .before .before .before in
+    not-below (now (q .args .words)) (q .pre .0) (q .pre .1) (said-no (c .before .all-below .ensures) (c .if1 .taken))
 
-add-i : tie.Need-add-i Inv-loop μ-loop
-add-i c = search needs
+mul-fall-count : tie.Need-mul-fall-count
+mul-fall-count c = search needs
 
-loop-less : tie.Need-loop-less Inv-loop μ-loop
-loop-less c = search needs
+sub-fall-count : tie.Need-sub-fall-count
+sub-fall-count c = search needs
 
-loop-again : tie.Need-loop-again Inv-loop μ-loop
-loop-again c =
-    let q = c .before in (
-      omega arith,
-      omega arith,
-      all-more _ _ (q .before .before .before .before .loop .inv .2) (tested q ∙ not-false _ (c .if1 .left)),
-    )
+part-fall-count-start : tie.Need-part-fall-count-start
+part-fall-count-start c = search needs
 
-returns-2 : tie.Need-returns-2 Inv-loop μ-loop
-unfolding rowsValid
+part-fall-count-end : tie.Need-part-fall-count-end
+part-fall-count-end c = search needs
+
+fall-count-requires : tie.Need-fall-count-requires
+fall-count-requires c κs = search needs
+
+start-falls-requires : tie.Need-start-falls-requires
+start-falls-requires c κs = search needs
+
+returns-2 : tie.Need-returns-2
 returns-2 c =
-    let s = now (c .before .before .before .before .args .words) in
-    let e : c .before .loop .i ≡ rows s = omega arith in
-    sym (rw e at (c .before .loop .inv .2))
+    let q = c .before .before .before .before .before .before .before .before .before .before in
+    let tested = c .before .before .before in
+    rw (c .before .fall-count .ensures, c .start-falls .ensures) (falls-decide (now (q .args .words)) (q .pre .0) (q .pre .1)
+    (said-yes (tested .before .all-below .ensures) (tested .if1 .left)))
 
 pub rows-valid-spec : {M : Type 1} → statement M
 rows-valid-spec =
     tie.close
     (tie.spec
-    Inv-loop
-    μ-loop
     shared-slice-read-r
     cast-r
-    loop-holds
-    row-columns-requires
-    shared-slice-read-row-valid
-    row-valid-requires
+    add-count-at
+    add-from
+    mul-to
+    shared-slice-read-to
+    cast-to
+    add-to
+    mul-all-below
+    sub-all-below
+    part-all-below-start
+    part-all-below-end
+    shared-slice-read-all-below
+    all-below-requires
     returns
-    add-i
-    loop-less
-    loop-again
+    mul-fall-count
+    sub-fall-count
+    part-fall-count-start
+    part-fall-count-end
+    fall-count-requires
+    start-falls-requires
     returns-2)

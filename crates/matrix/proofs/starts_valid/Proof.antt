@@ -1,23 +1,23 @@
--- `starts_valid` is the test `startsValid`: the starts passed do not fall.
+-- `starts_valid` is the test `startsValid`: the flag tells of the starts passed.
 use native.Mathlib.Omega.{arith}
-use Prim.Native.Nat.{ℕ, _-_, _≤_}
-use mathlib.Core.Path.{_≡_, sym}
-use mathlib.Core.Bool.{true}
+use Prim.Native.Nat.{_-_, _≤_}
+use mathlib.Core.Path.{_≡_, sym, _∙_}
+use mathlib.Core.Logic.{⊎-elim}
 use denote.Ref.{now}
-use borrow.Author.Tests.{le-leb}
+use borrow.Author.Tests.{le-leb, lt-leb}
 use Rattle.conditions.specs.Tests.{all}
-use Rattle.conditions.proofs.Tests.{refuted, all-none, all-more}
+use Rattle.conditions.proofs.Tests.{refuted, all-none, all-kept, all-not}
 use Rattle.matrix.specs.Layout.{rows}
-use Rattle.matrix.proofs.Facts.{climbs, starts-facts, starts-from-tests}
+use Rattle.matrix.proofs.Facts.{climbs, starts-facts, starts-decide}
 use borrow.Author.Needs.{needs}
 use Rattle.matrix.proofs.starts_valid.Statement.{statement}
 use Rattle.matrix.proofs.starts_valid.Tie as tie
 
 abbrev Inv-loop : tie.InvT-loop
-Inv-loop words r i₀ i = (r ≡ rows words) × (i ≤ r) × (all i (climbs words) ≡ true)
+Inv-loop words r climb₀ i₀ climb i = (r ≡ rows words) × (i ≤ r) × (climb ≡ all i (climbs words))
 
 abbrev μ-loop : tie.MeasureT-loop
-μ-loop words r i₀ i = r - i
+μ-loop words r climb₀ i₀ climb i = r - i
 
 shared-slice-read-r : tie.Need-shared-slice-read-r Inv-loop μ-loop
 shared-slice-read-r c = search needs
@@ -53,7 +53,7 @@ returns-2 : tie.Need-returns-2 Inv-loop μ-loop
 returns-2 c = sym (refuted _ (λ h. let f = starts-facts _ h in omega arith))
 
 loop-holds : tie.Need-loop-holds Inv-loop μ-loop
-loop-holds c = (omega arith, omega arith, all-none _)
+loop-holds c = (omega arith, omega arith, sym (all-none _))
 
 add-if3 : tie.Need-add-if3 Inv-loop μ-loop
 add-if3 c = search needs
@@ -76,11 +76,6 @@ mul-if3-2 c = search needs
 shared-slice-read-if3-2 : tie.Need-shared-slice-read-if3-2 Inv-loop μ-loop
 shared-slice-read-if3-2 c = search needs
 
-returns-3 : tie.Need-returns-3 Inv-loop μ-loop
-returns-3 c =
-    let q = c .before .before .before in
-    sym (refuted _ (λ h. omega (arith, starts-facts _ h .up (q .before .loop .i) (omega arith))))
-
 add-i : tie.Need-add-i Inv-loop μ-loop
 add-i c = search needs
 
@@ -89,14 +84,20 @@ loop-less c = search needs
 
 loop-again : tie.Need-loop-again Inv-loop μ-loop
 loop-again c =
-    let q = c .before .before .before in
-    (omega arith, omega arith, all-more _ _ (q .before .loop .inv .2) (le-leb _ _ (c .if3 .left)))
+    let turn = c .before .before .before .before in (
+      omega arith,
+      omega arith,
+      ⊎-elim
+          (λ w. w .1 ∙ sym (all-not _ _ (turn .loop .i) (omega arith) (lt-leb _ _ (w .0 .taken))))
+          (λ w. w .1 ∙ all-kept _ _ _ (turn .loop .inv .2) (le-leb _ _ (w .0 .left)))
+          (c .if3 .came),
+    )
 
-returns-4 : tie.Need-returns-4 Inv-loop μ-loop
-returns-4 c =
+returns-3 : tie.Need-returns-3 Inv-loop μ-loop
+returns-3 c =
     let s = now (c .before .before .before .before .before .before .before .before .args .words) in
     let e : c .before .loop .i ≡ rows s = omega arith in
-    sym (starts-from-tests s (omega arith) (omega arith) (rw e at (c .before .loop .inv .2)))
+    rw e at (c .before .loop .inv .2) ∙ starts-decide s (omega arith) (omega arith)
 
 pub starts-valid-spec : {M : Type 1} → statement M
 starts-valid-spec =
@@ -123,8 +124,7 @@ starts-valid-spec =
     add-if3-3
     mul-if3-2
     shared-slice-read-if3-2
-    returns-3
     add-i
     loop-less
     loop-again
-    returns-4)
+    returns-3)

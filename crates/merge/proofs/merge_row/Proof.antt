@@ -1,151 +1,144 @@
--- `merge_row` leaves the combined row: `Merged` holds at each column where one of the two rows has an entry.
-use native.Mathlib.Omega.{arith}
-use Prim.Native.Nat.{ℕ, _+_, _-_, _≤_, min}
-use mathlib.Core.Path.{_≡_}
-use mathlib.Core.List.{List}
-use denote.Ref.{now}
-use lib.ListN.{getD}
+-- `merge_row` leaves the combined row, each way by the function for it.
+use Rattle.rows.proofs.Holds.{holds-absent, holds-same}
+use Rattle.merge.proofs.Ways.{nothing-told, first-told, second-told, intersect-told, unite-told, masked-told}
 use borrow.Author.Needs.{needs}
-use Rattle.rows.proofs.Cursors.{position-after}
-use Rattle.merge.specs.Combined.{combinedRow}
-use Rattle.merge.proofs.Quiet.{row-quiet}
-use Rattle.merge.proofs.Merging.{Merged, merged-start, merged-room, merged-put, merged-done}
-use Rattle.merge.proofs.Merging.{merged-up, merged-on}
 use Rattle.merge.proofs.merge_row.Statement.{statement}
 use Rattle.merge.proofs.merge_row.Tie as tie
 
-abbrev Inv-loop : tie.InvT-loop
-Inv-loop how places mc mv cc cv tc tv oc₀ ov₀ m₀ i₀ k₀ e₀ q₀ oc ov m i k e q =
-    Merged (combinedRow how mc mv cc cv tc tv) places mc cc tc oc₀ ov₀ oc ov m i k e q
+way-of-requires : tie.Need-way-of-requires
+way-of-requires c κs = search needs
 
-abbrev μ-loop : tie.MeasureT-loop
-μ-loop how places mc mv cc cv tc tv oc₀ ov₀ m₀ i₀ k₀ e₀ q₀ oc ov m i k e q = places - q
+enum-told : tie.Need-enum-told
+enum-told c = search needs
 
--- the function's entry, from the loop's head
-abbrev start : tie.At-loop Inv-loop μ-loop → tie.Start Inv-loop μ-loop
-start l = l .before .before .before .before .before .before .before .before .before .before
+enum-told-2 : tie.Need-enum-told-2
+enum-told-2 c = search needs
 
--- the loop's body, the call of `put_cell` in it, and the loop's head, from the end of a turn
-abbrev body : tie.After-next-column2 Inv-loop μ-loop → tie.In-loop Inv-loop μ-loop
-body c = c .before .before .before .before .before .before .before .before .before .before .before .before
+copy-row-requires : tie.Need-copy-row-requires
+copy-row-requires c κs = search needs
 
-abbrev put : tie.After-next-column2 Inv-loop μ-loop → tie.After-put-cell Inv-loop μ-loop
-put c = c .before .before .before .before .before .before .before
+enum-told-3 : tie.Need-enum-told-3
+enum-told-3 c = search needs
 
-abbrev top : tie.After-next-column2 Inv-loop μ-loop → tie.At-loop Inv-loop μ-loop
-top c = body c .before
+copy-row-requires-2 : tie.Need-copy-row-requires-2
+copy-row-requires-2 c κs = search needs
 
--- the columns before q are done
-abbrev Done : tie.Start Inv-loop μ-loop → List ℕ → List ℕ → ℕ → ℕ → ℕ → ℕ → ℕ → Type 0
-Done s oc ov m i k e q =
-    let a = s .args in
-    Merged (combinedRow (a .how) (now (a .mc)) (now (a .mv)) (now (a .cc)) (now (a .cv)) (now (a .tc)) (now (a .tv)))
-    (a .places) (now (a .mc)) (now (a .cc)) (now (a .tc)) (now (a .oc)) (now (a .ov)) oc ov m i k e q
+enum-known-way : tie.Need-enum-known-way
+enum-known-way c = search needs
 
--- on to the next column with an entry
-onward : (s : tie.Start Inv-loop μ-loop) {oc ov : List ℕ} {m i k e p q : ℕ} → Done s oc ov m i k e p
-    → q ≡ min (getD (now (s .args .cc)) i (s .args .places)) (getD (now (s .args .tc)) k (s .args .places))
-    → (p ≤ q) × Done s oc ov m i k e q
-onward s h next =
-    let a = s .args in
-    let w = s .pre in
-    let f = row-quiet (a .how) (now (a .mc)) (now (a .mv)) (now (a .cc)) (now (a .cv)) (now (a .tc)) (now (a .tv)) in (
-      merged-up (w .0 .rises) (w .1 .0) (w .1 .1 .0) f h next,
-      merged-on (w .0 .rises) (w .1 .0) (w .1 .1 .0) f h next,
-    )
+intersect-rows-requires : tie.Need-intersect-rows-requires
+intersect-rows-requires c κs = search needs
 
-next-column-requires : tie.Need-next-column-requires Inv-loop μ-loop
-next-column-requires c κs = search needs
+enum-known-way-2 : tie.Need-enum-known-way-2
+enum-known-way-2 c = search needs
 
-loop-holds : tie.Need-loop-holds Inv-loop μ-loop
-loop-holds c =
-    let s = c .before .before .before .before .before .before .before .before .before in
-    onward s (merged-start _ _ _ _ _ _ _) (c .next-column .ensures) .1
+unite-rows-requires : tie.Need-unite-rows-requires
+unite-rows-requires c κs = search needs
 
-seek-requires : tie.Need-seek-requires Inv-loop μ-loop
-seek-requires c κs = (start (c .before) .pre .0 .rises, c .before .loop .inv .mask)
+enum-known-way-3 : tie.Need-enum-known-way-3
+enum-known-way-3 c = search needs
 
-combine-at-requires : tie.Need-combine-at-requires Inv-loop μ-loop
-combine-at-requires c κs =
-    let l = c .before .before in
-    let w = start l .pre in (
-      record { even = w .0 .even; rises = w .0 .rises; stands = c .seek .ensures },
-      (
-        record { even = w .1 .0 .even; rises = w .1 .0 .rises; stands = l .loop .inv .first },
-        record { even = w .1 .1 .0 .even; rises = w .1 .1 .0 .rises; stands = l .loop .inv .second },
-      ),
-    )
+write-masked-requires : tie.Need-write-masked-requires
+write-masked-requires c κs = search needs
 
-put-cell-requires : tie.Need-put-cell-requires Inv-loop μ-loop
-put-cell-requires c κs =
-    let b = c .before .before .before .before in
-    let room = start (b .before) .pre .1 .1 .1 in
-    merged-room (b .before .loop .inv) (b .loop-test .taken) (room .0) (room .1)
+returns : tie.Need-returns
+returns c =
+    holds-absent _ _ _ _ (λ j. nothing-told _ _ (c .before .before .way-of .ensures) _ _ _ (c .enum-told .given .1))
 
-add-after : tie.Need-add-after Inv-loop μ-loop
-add-after c = search needs
+same-length : tie.Need-same-length
+same-length c = search needs
 
-seek-requires-2 : tie.Need-seek-requires-2 Inv-loop μ-loop
-seek-requires-2 c κs =
-    let l = c .before .before .before .before .before .before .before .before .before .before in
-    let rises = start l .pre .1 .0 .rises in
-    (rises, position-after rises (l .loop .q) (l .loop .inv .first))
+same-length-2 : tie.Need-same-length-2
+same-length-2 c = search needs
 
-seek-requires-3 : tie.Need-seek-requires-3 Inv-loop μ-loop
-seek-requires-3 c κs =
-    let l = c .before .before .before .before .before .before .before .before .before .before .before in
-    let rises = start l .pre .1 .1 .0 .rises in
-    (rises, position-after rises (l .loop .q) (l .loop .inv .second))
+returns-2 : tie.Need-returns-2
+returns-2 c =
+    let q = c .before .before .before .before in
+    let b = q .before .before .before in
+    holds-same (q .copy-row .ensures) _
+    (λ j l. first-told _ _ (b .before .before .way-of .ensures) _ _ _ (b .enum-told2 .given .1))
 
-next-column-requires-2 : tie.Need-next-column-requires-2 Inv-loop μ-loop
-next-column-requires-2 c κs = search needs
+same-length-3 : tie.Need-same-length-3
+same-length-3 c = search needs
 
--- a turn does column q
-turn : (c : tie.After-next-column2 Inv-loop μ-loop)
-    → Done (start (top c)) (put c .put-cell .last .0) (put c .put-cell .last .1 .0)
-    (put c .before .before .before .before .seek .result) (c .before .before .seek2 .result) (c .before .seek3 .result)
-    (put c .put-cell .result) (top c .loop .q + 1)
-turn c =
-    let w = start (top c) .pre in
-    let p = put c .put-cell in
-    let b = put c .before .before .before in
-    merged-put (top c .loop .inv) (body c .loop-test .taken) (w .1 .1 .1 .0) (w .1 .1 .1 .1) (w .0 .rises)
-    (b .combine-at .ensures) (p .ensures) (p .kept .0) (p .kept .1 .0) (b .before .seek .ensures)
-    (c .before .before .seek2 .ensures) (c .before .seek3 .ensures)
+same-length-4 : tie.Need-same-length-4
+same-length-4 c = search needs
 
-loop-less : tie.Need-loop-less Inv-loop μ-loop
-loop-less c =
-    omega (arith, onward (start (top c)) (turn c) (c .next-column2 .ensures) .0, body c .loop-test .taken)
+returns-3 : tie.Need-returns-3
+returns-3 c =
+    let q = c .before .before .before .before in
+    let b = q .before .before .before in
+    holds-same (q .copy-row2 .ensures) _
+    (λ j l. second-told _ _ (b .before .before .way-of .ensures) _ _ _ (b .enum-told3 .given .1))
 
-loop-again : tie.Need-loop-again Inv-loop μ-loop
-loop-again c = onward (start (top c)) (turn c) (c .next-column2 .ensures) .1
+same-length-5 : tie.Need-same-length-5
+same-length-5 c = search needs
 
-same-length : tie.Need-same-length Inv-loop μ-loop
-same-length c = c .before .loop .inv .columns-kept
+same-length-6 : tie.Need-same-length-6
+same-length-6 c = search needs
 
-same-length-2 : tie.Need-same-length-2 Inv-loop μ-loop
-same-length-2 c = c .before .loop .inv .values-kept
+returns-4 : tie.Need-returns-4
+returns-4 c =
+    let q = c .before .before .before .before in
+    let b = q .before .before .before in
+    holds-same (q .intersect-rows .ensures) _
+    (λ j l. intersect-told _ _ (b .before .before .before .way-of .ensures) _ _ _ (b .before .way .given .1))
 
-returns : tie.Need-returns Inv-loop μ-loop
-returns c = merged-done (c .before .loop .inv) (c .loop-test .left)
+same-length-7 : tie.Need-same-length-7
+same-length-7 c = search needs
+
+same-length-8 : tie.Need-same-length-8
+same-length-8 c = search needs
+
+returns-5 : tie.Need-returns-5
+returns-5 c =
+    let q = c .before .before .before .before in
+    let b = q .before .before .before in
+    holds-same (q .unite-rows .ensures) _
+    (λ j l. unite-told _ _ (b .before .before .before .way-of .ensures) _ _ _ (b .before .way2 .given .1))
+
+same-length-9 : tie.Need-same-length-9
+same-length-9 c = search needs
+
+same-length-10 : tie.Need-same-length-10
+same-length-10 c = search needs
+
+returns-6 : tie.Need-returns-6
+returns-6 c =
+    let q = c .before .before .before .before in
+    let b = q .before .before .before in
+    holds-same (q .write-masked .ensures) _
+    (λ j l. masked-told _ _ (b .before .before .before .way-of .ensures) _ _ _ (b .before .way3 .given .1))
 
 pub merge-row-spec : {M : Type 1} → statement M
 merge-row-spec =
     tie.close
     (tie.spec
-    Inv-loop
-    μ-loop
-    next-column-requires
-    loop-holds
-    seek-requires
-    combine-at-requires
-    put-cell-requires
-    add-after
-    seek-requires-2
-    seek-requires-3
-    next-column-requires-2
-    loop-less
-    loop-again
+    way-of-requires
+    enum-told
+    enum-told-2
+    copy-row-requires
+    enum-told-3
+    copy-row-requires-2
+    enum-known-way
+    intersect-rows-requires
+    enum-known-way-2
+    unite-rows-requires
+    enum-known-way-3
+    write-masked-requires
+    returns
     same-length
     same-length-2
-    returns)
+    returns-2
+    same-length-3
+    same-length-4
+    returns-3
+    same-length-5
+    same-length-6
+    returns-4
+    same-length-7
+    same-length-8
+    returns-5
+    same-length-9
+    same-length-10
+    returns-6)

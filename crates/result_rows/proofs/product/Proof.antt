@@ -15,8 +15,8 @@ row-values-requires c κs =
     let h = c .before .before .before .before .before .pre .0 in
     (h .first .header, matrix-span _ (h .first) _ (h .row))
 
-product-row-requires : tie.Need-product-row-requires
-product-row-requires c κs =
+product-row-by-requires : tie.Need-product-row-by-requires
+product-row-by-requires c κs =
     let p = c .before .before .before .before .before .before .before .before .pre in
     let h = p .0 in
     let r = c .before .before in (
@@ -42,7 +42,7 @@ returns c =
       ← (r .before .row-columns .ensures .words),
       ← (r .row-values .ensures .words),
     )
-    (q .product-row .ensures)
+    (q .product-row-by .ensures)
 
 pub product-spec : {M : Type 1} → statement M
 product-spec =
@@ -50,7 +50,7 @@ product-spec =
     (tie.spec
     row-columns-requires
     row-values-requires
-    product-row-requires
+    product-row-by-requires
     same-length
     same-length-2
     returns)
