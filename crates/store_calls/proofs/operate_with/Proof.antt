@@ -1,12 +1,12 @@
--- `operate` attempts the decoded call on its roles and clears the workspace.
+-- `operate_with` attempts the decoded call on its roles and clears the workspace.
 use mathlib.Core.Path.{_∙_}
 use denote.Ref.{now}
 use lib.ListN.{length}
 use Rattle.model.specs.Calls.{OperationCall}
 use Rattle.store_calls.proofs.Operations.{performed-run}
 use borrow.Author.Needs.{needs}
-use Rattle.store_calls.proofs.operate.Statement.{statement}
-use Rattle.store_calls.proofs.operate.Tie as tie
+use Rattle.store_calls.proofs.operate_with.Statement.{statement}
+use Rattle.store_calls.proofs.operate_with.Tie as tie
 
 -- what is asked
 abbrev asked : tie.Start → OperationCall
@@ -48,8 +48,8 @@ returns c =
       t .clear .ensures ∙ rw (s .attempt .kept .1 .1 .1 .1 .1 .0),
     )
 
-pub operate-spec : {M : Type 1} → statement M
-operate-spec =
+pub operate-with-spec : {M : Type 1} → statement M
+operate-with-spec =
     tie.close
     (tie.spec
     decode-requires
