@@ -118,7 +118,8 @@ reduce-small s monoid = go (monoidNumbered monoid)
   where
     go : (m : MonoidCode) → SmallNumber (answerBy m s)
     go (Known m) =
-        either-number (valid s) (numberAnswer (gridTotal m (gridOf s))) (refusedNumber invalidFirst) (omega arith) (omega arith)
+        either-number (valid s) (numberAnswer (gridTotal m (gridOf s))) (refusedNumber invalidFirst) (omega arith)
+        (omega arith)
     go Unknown = omega arith
 
 -- a place lies within the largest matrix

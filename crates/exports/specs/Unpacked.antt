@@ -1,6 +1,6 @@
--- What a caller takes out of an answer: the code is the remainder by 256, the entries, the value or the number are the upper
--- word, and bit 8 says whether a cell is present; of a place the lowest bit says which matrix, the three bytes above the lowest how
--- many words, and the upper word from where on.
+-- What a caller takes out of an answer: the code is the remainder by 256, the entries, the value or the number are the
+-- upper word, and bit 8 says whether a cell is present; of a place the lowest bit says which matrix, the three bytes
+-- above the lowest how many words, and the upper word from where on.
 use Prim.Native.Nat.{ℕ, _%_, _/_}
 use mathlib.Core.Path.{_≡_}
 use mathlib.Core.Bool.{cond}

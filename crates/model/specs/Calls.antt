@@ -46,8 +46,8 @@ use Rattle.model.specs.Effects.{
 
 -- ---- the calls
 
--- "the six operations naming places for A, B, mask and C" and document 02's "giving sheets", as it is asked for: its numbers
--- and slots as they come
+-- "the six operations naming places for A, B, mask and C" and document 02's "giving sheets", as it is asked for: its
+-- numbers and slots as they come
 pub record OperationCall : Type 0 where
   pub options : Options
   pub verb : Verb
@@ -56,8 +56,8 @@ pub record OperationCall : Type 0 where
   pub js : List ℕ
   pub work : ℕ
 
--- "Calls: lay (what was there goes), drop, set a cell, clear a cell, read a cell, and the six operations"; document 02, A4:
--- "all are shelf calls too"
+-- "Calls: lay (what was there goes), drop, set a cell, clear a cell, read a cell, and the six operations"; document 02,
+-- A4: "all are shelf calls too"
 pub data StoreCall : Type 0 where
   newEmpty : (slot rows cols : ℕ) → StoreCall
   dropSlot : (slot : ℕ) → StoreCall

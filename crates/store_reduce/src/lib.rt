@@ -1,4 +1,5 @@
-// Reducing the matrix in a slot of a store to one number (document 02, A4: "all are shelf calls too"). Any words may be lent.
+// Reducing the matrix in a slot of a store to one number (document 02, A4: "all are shelf calls too"). Any words may be
+// lent.
 use answers::EMPTY_SLOT;
 use answers::INVALID_STORE;
 use answers::NumberAnswer;

@@ -113,7 +113,9 @@ impl Call {
     pub fn roles(&self) -> Vec<Role<'_>> {
         let plain = |slot| vec![Role { name: "", slot, transposed: false }];
         match self {
-            Call::Lay { slot, .. } | Call::Drop { slot } | Call::Show { slot } | Call::Reduce { slot, .. } => plain(slot),
+            Call::Lay { slot, .. } | Call::Drop { slot } | Call::Show { slot } | Call::Reduce { slot, .. } => {
+                plain(slot)
+            }
             Call::Set { cell, .. } | Call::Clear { cell } | Call::Read { cell } => plain(&cell.slot),
             Call::List => Vec::new(),
             Call::Operation(operation) => operation.roles(),

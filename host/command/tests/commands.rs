@@ -371,7 +371,8 @@ fn the_example_of_the_help() {
 fn the_examples_of_all_pages() {
     let folder = Folder::new();
     let mut lines = vec!["ostrubel new keys.shelf 5000".to_string()];
-    let pages = "lay set clear read show list drop mxm vxm eWiseMult eWiseAdd apply extract select reduceRows reduce run";
+    let pages =
+        "lay set clear read show list drop mxm vxm eWiseMult eWiseAdd apply extract select reduceRows reduce run";
     let shapes = [
         ("mxm", "0 4 4, 1 4 4"),
         ("vxm", "1 1 5, 2 5 3, 3 1 3"),

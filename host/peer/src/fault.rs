@@ -4,7 +4,8 @@ use crate::plan::{Adjustment, Plan, Step};
 use crate::suite::Triple;
 use second::grid::Grid;
 use suitesparse::{
-    Apply, Binary, Condition, IndexUnary, Monoid, Unary, COMPLEMENT, REPLACE, STRUCTURAL, TRANSPOSE_FIRST, TRANSPOSE_SECOND,
+    Apply, Binary, Condition, IndexUnary, Monoid, Unary, COMPLEMENT, REPLACE, STRUCTURAL, TRANSPOSE_FIRST,
+    TRANSPOSE_SECOND,
 };
 
 macro_rules! faults {

@@ -109,9 +109,7 @@ fn fit(rng: &mut Rng, operation: &mut Operation, options: &Options, [m, k, n]: [
         Operation::EwiseMult { .. } | Operation::EwiseAdd { .. } => {
             Shapes { a: turned((m, n), first), b: turned((m, n), second), c: (m, n) }
         }
-        Operation::Apply { .. } | Operation::Select { .. } => {
-            Shapes { a: turned((m, n), first), b: (1, 1), c: (m, n) }
-        }
+        Operation::Apply { .. } | Operation::Select { .. } => Shapes { a: turned((m, n), first), b: (1, 1), c: (m, n) },
         Operation::ReduceRows { .. } => Shapes { a: turned((m, n), first), b: (1, 1), c: (1, m) },
         Operation::Extract { rows, cols } => {
             // No index occurs twice in lists that are no longer than A's sides.

@@ -22,11 +22,15 @@ refused-requires c κs = search needs
 
 returns : tie.Need-returns
 unfolding reduceAnswer
-returns c = rw (← (c .before .before .before .before .monoid-code .ensures), c .before .before .m .given .1) (c .reduce-by .ensures)
+returns c =
+    let a = c .before .before in
+    rw (← (a .before .before .monoid-code .ensures), a .m .given .1) (c .reduce-by .ensures)
 
 returns-2 : tie.Need-returns-2
 unfolding reduceAnswer
-returns-2 c = rw (← (c .before .before .before .monoid-code .ensures), c .before .enum-told .given .1) (c .refused .ensures)
+returns-2 c =
+    let a = c .before in
+    rw (← (a .before .before .monoid-code .ensures), a .enum-told .given .1) (c .refused .ensures)
 
 pub reduce-spec : {M : Type 1} → statement M
 reduce-spec =

@@ -60,8 +60,8 @@ returns-4 c =
     let a = c .before in
     let q = a .before .before in
     let e = q .before in
-    ap totalled (c .refused3 .ensures)
-    ∙ total-no-monoid _ _ _ (held (e .before) .valid) (e .if2 .left) (sym (q .monoid-code .ensures) ∙ a .enum-told .given .1)
+    let n = sym (q .monoid-code .ensures) ∙ a .enum-told .given .1 in
+    ap totalled (c .refused3 .ensures) ∙ total-no-monoid _ _ _ (held (e .before) .valid) (e .if2 .left) n
 
 pub reduce-spec : {M : Type 1} → statement M
 reduce-spec =

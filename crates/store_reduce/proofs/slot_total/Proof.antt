@@ -51,9 +51,8 @@ returns-2 : tie.Need-returns-2
 returns-2 c =
     let e = c .before .before in
     let p = start (e .before) .args in
-    c .accepted .ensures
-    ∙ ap numberAnswer (c .before .total-of .ensures ∙ ap (λ (x : List ℕ). gridTotal (p .m) (gridOf x)) (words-are (e .before)))
-    ∙ rw (ne-eqb _ _ (some-words e))
+    let w = ap (λ (x : List ℕ). gridTotal (p .m) (gridOf x)) (words-are (e .before)) in
+    c .accepted .ensures ∙ ap numberAnswer (c .before .total-of .ensures ∙ w) ∙ rw (ne-eqb _ _ (some-words e))
 
 pub slot-total-spec : {M : Type 1} → statement M
 slot-total-spec =
