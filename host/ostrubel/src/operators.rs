@@ -207,6 +207,11 @@ impl SelectOp {
         }
     }
 
+    /// The number by which the library knows it.
+    pub const fn number(self) -> u32 {
+        self.numbers().0
+    }
+
     /// The same condition with another scalar.
     pub const fn with_scalar(self, scalar: i32) -> SelectOp {
         match self {
