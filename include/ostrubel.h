@@ -17,7 +17,8 @@
  * Answers. Each call returns one number: take it apart by the functions below. A call that is accepted has the code 0;
  * only ostrubel_row_view has no code.
  * A refused call has the lowest code that applies (on a store 12 comes first, and 13 between 2 and 7), changes no word
- * but the workspace's, and its entries, value or position are 0. The workspace is all zeros after every call that has one.
+ * but the workspace's, and its entries, value, position or number are 0. The workspace is all zeros after every call that has
+ * one.
  *
  * Threads. A call takes no memory beside its buffers and the stack, and keeps nothing: calls on several threads may run
  * at once where each has buffers of its own (those that are only read may be shared). 48 KB of stack are enough for any
@@ -118,6 +119,19 @@ enum {
     OSTRUBEL_DIAGINDEX = 2 /* j - i + scalar */
 };
 
+/* Conditions of select on a value x, by the row i and the column j of the matrix as transposed. The order is signed, and the
+   sums are exact. */
+enum {
+    OSTRUBEL_VALUEEQ = 0, /* x is the scalar */
+    OSTRUBEL_VALUENE = 1, /* x is not the scalar */
+    OSTRUBEL_VALUELT = 2, /* x is less than the scalar */
+    OSTRUBEL_VALUELE = 3, /* x is at most the scalar */
+    OSTRUBEL_VALUEGT = 4, /* x is greater than the scalar */
+    OSTRUBEL_VALUEGE = 5, /* x is at least the scalar */
+    OSTRUBEL_TRIL = 6,    /* the lower triangle: j is at most i + scalar */
+    OSTRUBEL_TRIU = 7     /* the upper triangle: j is at least i + scalar */
+};
+
 /* The code of any answer but a row view's. */
 static inline uint32_t ostrubel_code(uint64_t answer) { return (uint32_t)(answer & 255); }
 
@@ -139,6 +153,9 @@ static inline uint32_t ostrubel_value(uint64_t answer) { return (uint32_t)(answe
    now, so tell it by ostrubel_present. */
 static inline uint32_t ostrubel_position(uint64_t answer) { return (uint32_t)((answer >> 16) & 0xFFFF); }
 
+/* Of a reduction to a number: its word; 0 where it was refused. */
+static inline uint32_t ostrubel_number(uint64_t answer) { return (uint32_t)(answer >> 32); }
+
 /* Of a row view: 1 where the part lies in the second matrix, 0 where it lies in the first. */
 static inline int ostrubel_in_second(uint64_t answer) { return (int)(answer & 1); }
 
@@ -158,6 +175,13 @@ uint64_t ostrubel_new_empty(uint32_t rows, uint32_t cols, uint32_t *buffer, size
 uint64_t ostrubel_read_cell(uint32_t i, uint32_t j, const uint32_t *words, size_t words_len);
 
 /*
+ * All values of the matrix added up with a monoid. Of a matrix with no entries it is the monoid's identity: 0 for PLUS, 1
+ * for TIMES, 2147483647 for MIN, -2147483648 for MAX. Take the answer apart by ostrubel_code and ostrubel_number. Refused by
+ * 2, 3.
+ */
+uint64_t ostrubel_reduce(uint32_t monoid, const uint32_t *words, size_t words_len);
+
+/*
  * Row i over two matrices of one shape: where the part lies that is shown. It lies in the first matrix where that row has
  * an entry, otherwise in the second. values: 0 for the row's column numbers, else for its values. This answer has no code:
  * take it apart by ostrubel_in_second, ostrubel_part_from and ostrubel_part_count. Where either matrix is not valid, the
@@ -167,7 +191,7 @@ uint64_t ostrubel_row_view(uint32_t i, uint32_t values, const uint32_t *first, s
                            const uint32_t *second, size_t second_len);
 
 /*
- * The six operations. Each works out a result T and writes it back: with an accumulator Z is the union of old C and T
+ * The operations that write C. Each works out a result T and writes it back: with an accumulator Z is the union of old C and T
  * under it, else Z is T; inside the mask C takes Z, outside C keeps its entry, or loses it under OSTRUBEL_REPLACE.
  * A position is inside where the mask has an entry other than 0; with no mask every position is inside.
  *   flags            a sum of flags
@@ -229,6 +253,17 @@ uint64_t ostrubel_extract(uint32_t flags, uint32_t has_mask, uint32_t has_accumu
                           size_t js_len, const uint32_t *mask, size_t mask_len, uint32_t *c, size_t c_len,
                           uint32_t *work, size_t work_len);
 
+/* The entries of A for which a condition with a scalar holds, as they are. */
+uint64_t ostrubel_select(uint32_t flags, uint32_t has_mask, uint32_t has_accumulator, uint32_t accumulator,
+                         uint32_t op, uint32_t scalar, const uint32_t *a, size_t a_len, const uint32_t *mask,
+                         size_t mask_len, uint32_t *c, size_t c_len, uint32_t *work, size_t work_len);
+
+/* In one row, at column j, the values of A's row j added up with the monoid; nothing where that row has no entries. C and
+   the mask have one row, and a column for each row of A (as transposed). */
+uint64_t ostrubel_reduce_rows(uint32_t flags, uint32_t has_mask, uint32_t has_accumulator, uint32_t accumulator,
+                              uint32_t monoid, const uint32_t *a, size_t a_len, const uint32_t *mask, size_t mask_len,
+                              uint32_t *c, size_t c_len, uint32_t *work, size_t work_len);
+
 /* ---- Matrices in the slots of a store ---- */
 
 /* An empty matrix in a slot, whatever was there. Refused by 12, 8, 11. */
@@ -247,8 +282,11 @@ uint64_t ostrubel_store_clear_cell(size_t slot, uint32_t i, uint32_t j, uint32_t
 /* The cell at row i and column j, and its position. Refused by 12, 13, 7. */
 uint64_t ostrubel_store_read_cell(size_t slot, uint32_t i, uint32_t j, const uint32_t *store, size_t store_len);
 
+/* All values of a slot's matrix added up with a monoid, as by ostrubel_reduce. Refused by 12, 2, 13. */
+uint64_t ostrubel_store_reduce(size_t slot, uint32_t monoid, const uint32_t *store, size_t store_len);
+
 /*
- * The six operations by slots, with options, operators and workspace as above. One slot may have several roles: all are
+ * The operations by slots, with options, operators and workspace as above. One slot may have several roles: all are
  * read before C is written. The slot of a mask is not looked at where has_mask is 0. Refused by 12, then 1, 2, 13, and 7
  * to 11; 7 only by extract.
  */
@@ -277,6 +315,14 @@ uint64_t ostrubel_store_extract(uint32_t flags, uint32_t has_mask, uint32_t has_
                                 size_t a, size_t mask, size_t c, uint32_t *store, size_t store_len,
                                 const uint32_t *is, size_t is_len, const uint32_t *js, size_t js_len, uint32_t *work,
                                 size_t work_len);
+
+uint64_t ostrubel_store_select(uint32_t flags, uint32_t has_mask, uint32_t has_accumulator, uint32_t accumulator,
+                               uint32_t op, uint32_t scalar, size_t a, size_t mask, size_t c, uint32_t *store,
+                               size_t store_len, uint32_t *work, size_t work_len);
+
+uint64_t ostrubel_store_reduce_rows(uint32_t flags, uint32_t has_mask, uint32_t has_accumulator,
+                                    uint32_t accumulator, uint32_t monoid, size_t a, size_t mask, size_t c,
+                                    uint32_t *store, size_t store_len, uint32_t *work, size_t work_len);
 
 /* ---- Files and texts: bytes that the caller owns, passed as a pointer and their number ---- */
 

@@ -186,6 +186,47 @@ static void test_elementwise(void) {
     SAME(c, 2, 1, 4, 2, 0, 3, 3, 0, 2, 3, 3, 40, 10, 20);
 }
 
+/* select and reduce */
+static void test_select_and_reduce(void) {
+    uint32_t c[16] = {0};
+    ACCEPTED(ostrubel_new_empty(1, 4, WORDS(c)), 0);
+    ACCEPTED(ostrubel_select(PLAIN, OSTRUBEL_VALUEGE, 20, WORDS(strip), NO_MASK, WORDS(c), WORDS(work)), 2);
+    SAME(c, 2, 1, 4, 2, 0, 2, 2, 1, 3, 2, 20, 40);
+    ACCEPTED(ostrubel_select(PLAIN, OSTRUBEL_VALUELT, 20, WORDS(strip), NO_MASK, WORDS(c), WORDS(work)), 1);
+    SAME(c, 2, 1, 4, 2, 0, 1, 1, 0, 1, 10);
+    /* -1 is below every value; the largest scalar keeps the whole lower triangle and nothing of the upper */
+    ACCEPTED(ostrubel_select(PLAIN, OSTRUBEL_VALUEGT, 4294967295, WORDS(strip), NO_MASK, WORDS(c), WORDS(work)), 3);
+    ACCEPTED(ostrubel_select(PLAIN, OSTRUBEL_TRIL, 2147483647, WORDS(strip), NO_MASK, WORDS(c), WORDS(work)), 3);
+    ACCEPTED(ostrubel_select(PLAIN, OSTRUBEL_TRIU, 2147483647, WORDS(strip), NO_MASK, WORDS(c), WORDS(work)), 0);
+    fill_work();
+    REFUSED(ostrubel_select(PLAIN, 8, 0, WORDS(strip), NO_MASK, WORDS(c), WORDS(work)), OSTRUBEL_UNKNOWN_OPERATOR);
+    CHECK(work_cleared());
+
+    /* the rows of the 4 by 3 matrix: 3 + 2, 9 + 6, 3 + 1, 0 + 5; one without entries; the columns by flag 8 */
+    ACCEPTED(ostrubel_reduce_rows(PLAIN, OSTRUBEL_PLUS, WORDS(matrix), NO_MASK, WORDS(c), WORDS(work)), 4);
+    SAME(c, 2, 1, 4, 2, 0, 4, 4, 0, 1, 2, 3, 4, 5, 15, 4, 5);
+    const uint32_t lone[] = {2, 4, 2, 5, 0, 0, 2, 2, 2, 2, 0, 1, 2, 5, 4294967291};
+    ACCEPTED(ostrubel_reduce_rows(PLAIN, OSTRUBEL_PLUS, WORDS(lone), NO_MASK, WORDS(c), WORDS(work)), 1);
+    SAME(c, 2, 1, 4, 2, 0, 1, 1, 1, 1, 0);
+    uint32_t columns[16] = {0};
+    ACCEPTED(ostrubel_new_empty(1, 3, WORDS(columns)), 0);
+    ACCEPTED(ostrubel_reduce_rows(OSTRUBEL_TRANSPOSE_FIRST, 0, 0, 0, OSTRUBEL_MAX, WORDS(matrix), NO_MASK,
+                                  WORDS(columns), WORDS(work)), 3);
+    SAME(columns, 2, 1, 3, 2, 0, 3, 3, 0, 1, 2, 3, 9, 6, 2);
+    REFUSED(ostrubel_reduce_rows(PLAIN, OSTRUBEL_PLUS, WORDS(matrix), NO_MASK, WORDS(columns), WORDS(work)),
+            OSTRUBEL_INVALID_SHAPE);
+
+    ACCEPTED(ostrubel_reduce(OSTRUBEL_PLUS, WORDS(strip)), 70);
+    CHECK(ostrubel_number(ostrubel_reduce(OSTRUBEL_TIMES, WORDS(strip))) == 8000);
+    const uint32_t empty[] = {2, 1, 1, 2, 0, 0, 0, 0};
+    ACCEPTED(ostrubel_reduce(OSTRUBEL_PLUS, WORDS(empty)), 0);
+    ACCEPTED(ostrubel_reduce(OSTRUBEL_TIMES, WORDS(empty)), 1);
+    ACCEPTED(ostrubel_reduce(OSTRUBEL_MIN, WORDS(empty)), 2147483647);
+    ACCEPTED(ostrubel_reduce(OSTRUBEL_MAX, WORDS(empty)), 2147483648);
+    REFUSED(ostrubel_reduce(OSTRUBEL_MINUS, none, 0), OSTRUBEL_UNKNOWN_OPERATOR);
+    REFUSED(ostrubel_reduce(OSTRUBEL_MIN, none, 0), OSTRUBEL_INVALID_FIRST);
+}
+
 /* P7, P8, P9 and P11: has_mask and has_accumulator are any number but 0. */
 static void test_write_back(void) {
     const uint32_t old[16] = {2, 1, 4, 2, 0, 3, 3, 0, 1, 2, 3, 1, 2, 3, 8, 8};
@@ -246,7 +287,7 @@ static void test_store_cells(void) {
     REFUSED(ostrubel_store_set_cell(2, 0, 0, 1, store, 7), OSTRUBEL_INVALID_STORE);
 }
 
-/* The six operations: slot 0 has the vector of document 01, slot 1 the matrix of P1, slot 2 is C. */
+/* The operations: slot 0 has the vector of document 01, slot 1 the matrix of P1, slot 2 is C. */
 static void test_store_operations(void) {
     static uint32_t store[OSTRUBEL_MAX_STORE_WORDS];
     store[0] = 14;
@@ -283,6 +324,16 @@ static void test_store_operations(void) {
     ACCEPTED(ostrubel_store_new_empty(2, 2, 2, WORDS(store)), 0);
     ACCEPTED(ostrubel_store_extract(PLAIN, 1, 9, 2, WORDS(store), WORDS(rows), WORDS(cols), WORDS(work)), 3);
     SAME(c, 15, 2, 2, 2, 3, 0, 2, 3, 3, 0, 1, 1, 3, 2, 3, 5, 0);
+
+    /* 5, 6, 8 in slot 0; the rows of slot 1 in one row; all of it in one number */
+    ACCEPTED(ostrubel_store_select(PLAIN, OSTRUBEL_VALUENE, 6, 0, 9, 0, WORDS(store), WORDS(work)), 2);
+    SAME(store, 12, 2, 1, 4, 2, 0, 2, 2, 0, 3, 2, 5, 8, 27);
+    ACCEPTED(ostrubel_store_reduce_rows(PLAIN, OSTRUBEL_PLUS, 1, 9, 0, WORDS(store), WORDS(work)), 4);
+    SAME(store, 16, 2, 1, 4, 2, 0, 4, 4, 0, 1, 2, 3, 4, 5, 15, 4, 5, 27);
+    ACCEPTED(ostrubel_store_reduce(1, OSTRUBEL_PLUS, WORDS(store)), 29);
+    REFUSED(ostrubel_store_reduce(8, OSTRUBEL_MINUS, WORDS(store)), OSTRUBEL_INVALID_STORE);
+    REFUSED(ostrubel_store_reduce(7, OSTRUBEL_MINUS, WORDS(store)), OSTRUBEL_UNKNOWN_OPERATOR);
+    REFUSED(ostrubel_store_reduce(7, OSTRUBEL_MAX, WORDS(store)), OSTRUBEL_EMPTY_SLOT);
 }
 
 /* Files, both ways, and the text. */
@@ -381,6 +432,7 @@ int main(void) {
     test_row_view();
     test_products();
     test_elementwise();
+    test_select_and_reduce();
     test_write_back();
     test_store_cells();
     test_store_operations();

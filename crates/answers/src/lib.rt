@@ -1,5 +1,5 @@
 // What a call answers: the refusal codes of document 01's table ("When the clerk turns a call away"), each under
-// one name, and the answers of a call that writes or checks and of a read.
+// one name, and the answers of a call that writes or checks, of a read and of a reduction to a number.
 
 pub const FLAGS_OUT_OF_RANGE: u32 = 1;
 
@@ -42,4 +42,10 @@ pub struct CellAnswer {
     pub present: bool,
     pub value: u32,
     pub position: u32,
+}
+
+// 0 and the number that a matrix is reduced to; or a refusal code and 0.
+pub struct NumberAnswer {
+    pub code: u32,
+    pub value: u32,
 }

@@ -10,18 +10,22 @@ use Rattle.operators.specs.declared.BinaryOp.the-variants.{First}
 use Rattle.operators.specs.declared.Monoid.{Monoid}
 use Rattle.operators.specs.declared.Monoid.the-variants.{Plus}
 use Rattle.operators.specs.declared.UnaryOp.the-variants.{Identity}
+use Rattle.select_ops.specs.declared.SelectOp.{SelectOp}
+use Rattle.select_ops.specs.declared.SelectOp.the-variants.{ValueEq}
 use Rattle.operator_codes.specs.declared.BinaryCode.{BinaryCode}
 use Rattle.operator_codes.specs.declared.BinaryCode.the-variants as binary
 use Rattle.operator_codes.specs.declared.MonoidCode.{MonoidCode}
 use Rattle.operator_codes.specs.declared.MonoidCode.the-variants as monoid
 use Rattle.operator_codes.specs.declared.ApplyCode.{ApplyCode}
 use Rattle.operator_codes.specs.declared.ApplyCode.the-variants as apply
-use Rattle.operator_codes.specs.Codes.{binaryNumbered, monoidNumbered, applyNumbered}
+use Rattle.operator_codes.specs.declared.SelectCode.{SelectCode}
+use Rattle.operator_codes.specs.declared.SelectCode.the-variants as select
+use Rattle.operator_codes.specs.Codes.{binaryNumbered, monoidNumbered, applyNumbered, selectNumbered}
 use Rattle.operations.specs.declared.Accumulator.{Accumulator}
 use Rattle.operations.specs.declared.Accumulator.the-variants as accumulator
 use Rattle.operations.specs.declared.Call.{Call}
 use Rattle.operations.specs.declared.Operation.{Operation}
-use Rattle.operations.specs.declared.Operation.the-variants.{Mxm, EwiseMult, EwiseAdd, Apply, Extract}
+use Rattle.operations.specs.declared.Operation.the-variants.{Mxm, EwiseMult, EwiseAdd, Apply, Extract, Select, ReduceRows}
 use Rattle.call_codes.specs.declared.Options.{Options}
 use Rattle.call_codes.specs.declared.Verb.{Verb}
 use Rattle.call_codes.specs.declared.Verb.the-variants as verb
@@ -49,6 +53,14 @@ applyKnown apply.Unknown = false
 abbrev pub applyOf : ApplyCode → ApplyOp
 applyOf (apply.Known op) = op
 applyOf apply.Unknown = Unary Identity
+
+abbrev pub selectKnown : SelectCode → Bool
+selectKnown (select.Known op) = true
+selectKnown select.Unknown = false
+
+abbrev pub selectOf : SelectCode → SelectOp
+selectOf (select.Known op) = op
+selectOf select.Unknown = ValueEq 0
 
 -- "Whether there is a mask or an accumulator is said apart from its words or number": an absent one is never looked at
 abbrev pub accumulatorKnown : Options → Bool
@@ -85,6 +97,12 @@ abbrev pub applyCall : Options → ℕ → ℕ → ℕ → Call
 applyCall o kind op s =
     callOf o (applyKnown (applyNumbered kind op s)) (Apply (applyOf (applyNumbered kind op s))) false
 
+abbrev pub selectCall : Options → ℕ → ℕ → Call
+selectCall o op s = callOf o (selectKnown (selectNumbered op s)) (Select (selectOf (selectNumbered op s))) false
+
+abbrev pub reduceRowsCall : Options → ℕ → Call
+reduceRowsCall o m = callOf o (monoidKnown (monoidNumbered m)) (ReduceRows (monoidOf (monoidNumbered m))) false
+
 -- a call of any of them
 abbrev pub decoded : Options → Verb → Call
 decoded o (verb.Mxm m op) = productCall false o m op
@@ -93,3 +111,5 @@ decoded o (verb.EwiseMult op) = ewiseMultCall o op
 decoded o (verb.EwiseAdd op) = ewiseAddCall o op
 decoded o (verb.Apply kind op s) = applyCall o kind op s
 decoded o verb.Extract = callOf o true Extract false
+decoded o (verb.Select op s) = selectCall o op s
+decoded o (verb.ReduceRows m) = reduceRowsCall o m

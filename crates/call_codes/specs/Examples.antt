@@ -5,9 +5,10 @@ use mathlib.Core.Bool.{Bool, true, false}
 use Rattle.conditions.specs.Tests.{_and_}
 use Rattle.operators.specs.declared.BinaryOp.the-variants as binary
 use Rattle.operators.specs.declared.Monoid.the-variants as monoid
-use Rattle.operator_codes.specs.Codes.{binaryNumbered, monoidNumbered}
+use Rattle.select_ops.specs.declared.SelectOp.the-variants.{ValueGe}
+use Rattle.operator_codes.specs.Codes.{binaryNumbered, monoidNumbered, selectNumbered}
 use Rattle.operations.specs.declared.Accumulator.the-variants as accumulator
-use Rattle.operations.specs.declared.Operation.the-variants.{Mxm, EwiseMult, EwiseAdd}
+use Rattle.operations.specs.declared.Operation.the-variants.{Mxm, EwiseMult, EwiseAdd, Select, ReduceRows}
 use Rattle.call_codes.specs.declared.Options.{Options}
 use Rattle.call_codes.specs.declared.Verb.the-variants as verb
 use Rattle.call_codes.specs.Decoding.{decoded}
@@ -54,3 +55,20 @@ accumulator-unknown = refl
 monoid-unknown : decoded (options false 9) (verb.Mxm 4 3) .known ≡ false
 unfolding _and_ binaryNumbered monoidNumbered
 monoid-unknown = refl
+
+-- select with condition 5 and the scalar 9; condition 8 is none; the rows reduced by 6, and MINUS is no monoid there either
+select-decoded : decoded (options false 9) (verb.Select 5 9) .operation ≡ Select (ValueGe 9)
+unfolding selectNumbered
+select-decoded = refl
+
+select-unknown : decoded (options false 9) (verb.Select 8 5) .known ≡ false
+unfolding _and_ selectNumbered
+select-unknown = refl
+
+rows-decoded : decoded (options false 9) (verb.ReduceRows 6) .operation ≡ ReduceRows monoid.Min
+unfolding monoidNumbered
+rows-decoded = refl
+
+rows-unknown : decoded (options false 9) (verb.ReduceRows 4) .known ≡ false
+unfolding _and_ monoidNumbered
+rows-unknown = refl

@@ -6,16 +6,19 @@ use operations::Operation;
 use operator_codes::ApplyCode;
 use operator_codes::BinaryCode;
 use operator_codes::MonoidCode;
+use operator_codes::SelectCode;
 use operators::ApplyOp;
 use operators::BinaryOp;
 use operators::Monoid;
 use operators::UnaryOp;
+use select_ops::SelectOp;
 ghost use mathlib.Core.Path.{_≡_};
 ghost use Rattle.conditions.specs.Tests.{_and_};
-ghost use Rattle.operator_codes.specs.Codes.{binaryNumbered, monoidNumbered, applyNumbered};
+ghost use Rattle.operator_codes.specs.Codes.{binaryNumbered, monoidNumbered, applyNumbered, selectNumbered};
 ghost use Rattle.call_codes.specs.Decoding.{binaryKnown, binaryOf, monoidKnown, monoidOf, applyKnown, applyOf};
 ghost use Rattle.call_codes.specs.Decoding.{accumulatorKnown, accumulatorOf, callOf, productCall};
 ghost use Rattle.call_codes.specs.Decoding.{ewiseMultCall, ewiseAddCall, applyCall, decoded};
+ghost use Rattle.call_codes.specs.Decoding.{selectKnown, selectOf, selectCall, reduceRowsCall};
 
 // What a call says beside its inputs: the flags, whether there is a mask, whether there is an accumulator and its number.
 pub struct Options {
@@ -26,7 +29,7 @@ pub struct Options {
 }
 
 // What a call computes, by its numbers as they come: for a product a monoid and an operator, for apply a kind, an operator
-// of that kind and a scalar.
+// of that kind and a scalar, for select a condition and a scalar, for the reduction of rows a monoid.
 pub enum Verb {
     Mxm(u32, u32),
     Vxm(u32, u32),
@@ -34,6 +37,8 @@ pub enum Verb {
     EwiseAdd(u32),
     Apply(u32, u32, u32),
     Extract,
+    Select(u32, u32),
+    ReduceRows(u32),
 }
 
 // A call with its numbers decoded.
@@ -47,6 +52,8 @@ pub fn decode(options: Options, verb: Verb) -> Call
         Verb::EwiseAdd(op) => ewise_add_call(options, op),
         Verb::Apply(kind, op, scalar) => apply_call(options, kind, op, scalar),
         Verb::Extract => call_of(options, true, Operation::Extract, false),
+        Verb::Select(op, scalar) => select_call(options, op, scalar),
+        Verb::ReduceRows(monoid) => reduce_rows_call(options, monoid),
     }
 }
 
@@ -124,6 +131,24 @@ fn apply_of(kind: u32, op: u32, scalar: u32) -> ApplyOp
     }
 }
 
+fn select_known(op: u32, scalar: u32) -> bool
+    ensures { λ r. ⌜ r ≡ selectKnown (selectNumbered op scalar) ⌝ }
+{
+    match operator_codes::select_code(op, scalar) {
+        SelectCode::Known(_) => true,
+        SelectCode::Unknown => false,
+    }
+}
+
+fn select_of(op: u32, scalar: u32) -> SelectOp
+    ensures { λ r. ⌜ r ≡ selectOf (selectNumbered op scalar) ⌝ }
+{
+    match operator_codes::select_code(op, scalar) {
+        SelectCode::Known(x) => x,
+        SelectCode::Unknown => SelectOp::ValueEq(0),
+    }
+}
+
 fn both(x: bool, y: bool) -> bool
     ensures { λ r. ⌜ r ≡ (x and y) ⌝ }
 {
@@ -187,6 +212,28 @@ fn apply_call(options: Options, kind: u32, op: u32, scalar: u32) -> Call
         options,
         apply_known(kind, op, scalar),
         Operation::Apply(apply_of(kind, op, scalar)),
+        false,
+    )
+}
+
+fn select_call(options: Options, op: u32, scalar: u32) -> Call
+    ensures { λ r. ⌜ r ≡ selectCall options op scalar ⌝ }
+{
+    call_of(
+        options,
+        select_known(op, scalar),
+        Operation::Select(select_of(op, scalar)),
+        false,
+    )
+}
+
+fn reduce_rows_call(options: Options, monoid: u32) -> Call
+    ensures { λ r. ⌜ r ≡ reduceRowsCall options monoid ⌝ }
+{
+    call_of(
+        options,
+        monoid_known(monoid),
+        Operation::ReduceRows(monoid_of(monoid)),
         false,
     )
 }

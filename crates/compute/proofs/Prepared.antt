@@ -9,7 +9,7 @@ use Rattle.grid.specs.Grid.{Grid}
 use Rattle.matrix.specs.Layout.{gridOf}
 use Rattle.operations.specs.declared.Call.{Call}
 use Rattle.operations.specs.declared.Operation.{Operation}
-use Rattle.operations.specs.declared.Operation.the-variants.{Mxm, EwiseMult, EwiseAdd, Apply, Extract}
+use Rattle.operations.specs.declared.Operation.the-variants.{Mxm, EwiseMult, EwiseAdd, Apply, Extract, Select, ReduceRows}
 use Rattle.operations.specs.declared.Shapes.{Shapes}
 use Rattle.operations.specs.GridOperations.{oriented, needsOf, shapeOf}
 use Rattle.operations.specs.WriteBacks.{finalGrid}
@@ -42,6 +42,8 @@ lists-alone (EwiseMult op) h = absurd (false≢true h)
 lists-alone (EwiseAdd op) h = absurd (false≢true h)
 lists-alone (Apply op) h = absurd (false≢true h)
 lists-alone Extract h = refl
+lists-alone (Select op) h = absurd (false≢true h)
+lists-alone (ReduceRows monoid) h = absurd (false≢true h)
 
 -- so it is read where it is lent
 pub inverse-read : (call : Call) (flag : Bool) (js b region y : List ℕ) → y ≡ cond flag region b

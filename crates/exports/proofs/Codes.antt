@@ -33,6 +33,13 @@ use Rattle.answers.specs.declared.CellAnswer.{CellAnswer}
 use Rattle.answers.specs.Reads.{foundAnswer, refusedRead}
 use Rattle.cells.specs.Read.{readAnswer}
 use Rattle.cells.proofs.Positions.{read-position}
+use Rattle.answers.specs.declared.NumberAnswer.{NumberAnswer}
+use Rattle.answers.specs.Numbers.{numberAnswer, refusedNumber}
+use Rattle.operator_codes.specs.declared.MonoidCode.{MonoidCode}
+use Rattle.operator_codes.specs.declared.MonoidCode.the-variants.{Known, Unknown}
+use Rattle.operator_codes.specs.Codes.{monoidNumbered}
+use Rattle.reductions.specs.Reductions.{gridTotal}
+use Rattle.reduce.specs.Reduce.{answerBy, reduceAnswer}
 use Rattle.row_view.specs.declared.Section.{Section}
 use Rattle.row_view.specs.View.{rowView, placeOf}
 use Rattle.row_view.proofs.Bounds.{view-within}
@@ -42,7 +49,7 @@ use Rattle.refusals.proofs.Codes.{Coded, coded-append, applying-coded, numbers-
 use Rattle.requests.specs.Refusal.{matrixCases, inputRefusal, outputRefusal, lentRefusal, lentFinal}
 use Rattle.calls.specs.Completion.{lentAnswer}
 use Rattle.slots.specs.Valid.{storeValid}
-use Rattle.model.specs.Effects.{Reply, wrote, found, codeOf, refusedAs, replyOf}
+use Rattle.model.specs.Effects.{Reply, wrote, found, totalled, codeOf, refusedAs, replyOf}
 use Rattle.model.specs.Calls.{StoreCall, readCell, effect}
 use Rattle.model.proofs.Effects.{reply-small, refused-code, effect-sound}
 use Rattle.store_encoding.specs.Stores.{modelOf, effectReply, replyOn}
@@ -58,6 +65,9 @@ SmallAnswer a = Small (a .code)
 abbrev SmallCode : CellAnswer → Type 0
 SmallCode a = Small (a .code)
 
+abbrev SmallNumber : NumberAnswer → Type 0
+SmallNumber a = Small (a .code)
+
 -- ---- one of two, by a test
 either : (b : Bool) (x y : ℕ) → Small x → Small y → Small (cond b x y)
 either true x y p q = p
@@ -70,6 +80,10 @@ either-answer false x y p q = q
 either-read : (b : Bool) (x y : CellAnswer) → SmallCode x → SmallCode y → SmallCode (cond b x y)
 either-read true x y p q = p
 either-read false x y p q = q
+
+either-number : (b : Bool) (x y : NumberAnswer) → SmallNumber x → SmallNumber y → SmallNumber (cond b x y)
+either-number true x y p q = p
+either-number false x y p q = q
 
 -- an answer by its refusal
 pub answer-small : (code : ℕ) (g : Grid) → Small code → SmallAnswer (answerFor code g)
@@ -104,6 +118,16 @@ read-code s i j =
 
 pub read-small : (s : List ℕ) (i j : ℕ) → SmallRead (readAnswer s i j)
 read-small s i j = let p = read-position s i j in record { code = read-code s i j; position = omega arith }
+
+pub reduce-small : (s : List ℕ) (monoid : ℕ) → SmallNumber (reduceAnswer s monoid)
+unfolding reduceAnswer
+reduce-small s monoid = go (monoidNumbered monoid)
+  where
+    go : (m : MonoidCode) → SmallNumber (answerBy m s)
+    go (Known m) =
+        either-number (valid s) (numberAnswer (gridTotal m (gridOf s))) (refusedNumber invalidFirst) (omega arith)
+        (omega arith)
+    go Unknown = omega arith
 
 -- a place lies within the largest matrix
 pub place-small : (section : Section) (a b : List ℕ) (i : ℕ) → SmallPlace (placeOf (rowView section a b i))
@@ -159,3 +183,6 @@ store-read-small s k i j a e =
     let c = ap codeOf e in
     let p = stored-position s k i j a e in
     record { code = omega arith; position = omega arith }
+
+pub store-total-small : (s : List ℕ) (call : StoreCall) (a : NumberAnswer) → totalled a ≡ replyOn s call → SmallNumber a
+store-total-small s call a e = let h = reply-on-small s call in let p = ap codeOf e in omega arith

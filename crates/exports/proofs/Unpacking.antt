@@ -9,6 +9,8 @@ use Rattle.answers.specs.declared.Answer.{Answer}
 use Rattle.matrix.specs.Valid.{checkAnswer}
 use Rattle.answers.specs.declared.CellAnswer.{CellAnswer}
 use Rattle.cells.specs.Read.{readAnswer}
+use Rattle.answers.specs.declared.NumberAnswer.{NumberAnswer}
+use Rattle.reduce.specs.Reduce.{reduceAnswer}
 use Rattle.row_view.specs.declared.Section.{Section}
 use Rattle.row_view.specs.declared.Place.{Place}
 use Rattle.row_view.specs.View.{rowView, placeOf}
@@ -22,25 +24,31 @@ use Rattle.exports.specs.Packing.{
   packed,
   packedCell,
   SmallRead,
+  packedNumber,
   secondBit,
   packedPlace,
   SmallPlace,
   countLimit,
 }
-use Rattle.exports.specs.Unpacked.{Unpacked, UnpackedCell, UnpackedPlace}
-use Rattle.exports.specs.Exported.{LentCreated, LentCompleted, StorePerformed, StoreRead}
+use Rattle.exports.specs.Unpacked.{Unpacked, UnpackedCell, UnpackedNumber, UnpackedPlace}
+use Rattle.exports.specs.Exported.{LentCreated, LentCompleted, StorePerformed, StoreRead, StoreTotalled}
 use Rattle.exports.proofs.Codes.{
   check-small,
   create-small,
   read-small,
+  reduce-small,
   place-small,
   lent-small,
   store-small,
   store-read-small,
+  store-total-small,
 }
 
 pub unpacked : (r : ℕ) (a : Answer) → r ≡ packed a → a .code < codeLimit → Unpacked r a
 unpacked r a e h = record { code = omega arith; entries = omega arith }
+
+unpacked-number : (r : ℕ) (a : NumberAnswer) → r ≡ packedNumber a → a .code < codeLimit → UnpackedNumber r a
+unpacked-number r a e h = record { code = omega arith; value = omega arith }
 
 unpacked-cell : (r : ℕ) (a : CellAnswer) → r ≡ packedCell a → SmallRead a → UnpackedCell r a
 unpacked-cell r a e h = record {
@@ -97,6 +105,11 @@ check-unpacked s = unpacked (packed (checkAnswer s)) (checkAnswer s) refl (check
 pub read-unpacked : (s : List ℕ) (i j : ℕ) → UnpackedCell (packedCell (readAnswer s i j)) (readAnswer s i j)
 read-unpacked s i j = unpacked-cell (packedCell (readAnswer s i j)) (readAnswer s i j) refl (read-small s i j)
 
+pub reduce-unpacked : (s : List ℕ) (monoid : ℕ)
+    → UnpackedNumber (packedNumber (reduceAnswer s monoid)) (reduceAnswer s monoid)
+reduce-unpacked s monoid =
+    unpacked-number (packedNumber (reduceAnswer s monoid)) (reduceAnswer s monoid) refl (reduce-small s monoid)
+
 pub view-unpacked : (section : Section) (a b : List ℕ) (i : ℕ)
     → UnpackedPlace (packedPlace (placeOf (rowView section a b i))) (placeOf (rowView section a b i))
 view-unpacked section a b i = unpacked-place (placeOf (rowView section a b i)) (place-small section a b i)
@@ -123,3 +136,8 @@ store-unpacked s call r s′ h =
 pub store-read-unpacked : (s : List ℕ) (k i j r : ℕ) (h : StoreRead s (readCell k i j) r) → UnpackedCell r (h .answer)
 store-read-unpacked s k i j r h =
     unpacked-cell r (h .answer) (h .packed-is) (store-read-small s k i j (h .answer) (h .done))
+
+pub store-total-unpacked : (s : List ℕ) (call : StoreCall) (r : ℕ) (h : StoreTotalled s call r)
+    → UnpackedNumber r (h .answer)
+store-total-unpacked s call r h =
+    unpacked-number r (h .answer) (h .packed-is) (store-total-small s call (h .answer) (h .done))

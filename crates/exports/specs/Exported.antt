@@ -6,6 +6,7 @@ use mathlib.Core.List.{List}
 use lib.Dec.{eqb}
 use Rattle.answers.specs.declared.Answer.{Answer}
 use Rattle.answers.specs.declared.CellAnswer.{CellAnswer}
+use Rattle.answers.specs.declared.NumberAnswer.{NumberAnswer}
 use Rattle.row_view.specs.declared.Section.{Section}
 use Rattle.row_view.specs.declared.Section.the-variants.{Columns, Values}
 use Rattle.create.specs.Create.{Created}
@@ -13,10 +14,10 @@ use Rattle.operations.specs.declared.Call.{Call}
 use Rattle.call_codes.specs.declared.Options.{Options}
 use Rattle.calls.specs.Completion.{Completed}
 use Rattle.model.specs.declared.Roles.{Roles}
-use Rattle.model.specs.Effects.{wrote, found}
+use Rattle.model.specs.Effects.{wrote, found, totalled}
 use Rattle.model.specs.Calls.{StoreCall}
 use Rattle.store_encoding.specs.Stores.{replyOn, Performed}
-use Rattle.exports.specs.Packing.{packed, packedCell}
+use Rattle.exports.specs.Packing.{packed, packedCell, packedNumber}
 
 -- the flags, whether there is a mask, whether there is an accumulator and its number; 0 is no, any other number is yes
 abbrev pub optionsOf : ℕ → ℕ → ℕ → ℕ → Options
@@ -58,3 +59,9 @@ pub record StoreRead (s : List ℕ) (call : StoreCall) (r : ℕ) : Type 0 where
   pub answer : CellAnswer
   pub packed-is : r ≡ packedCell answer
   pub done : found answer ≡ replyOn s call
+
+-- a slot of a store reduced to a number
+pub record StoreTotalled (s : List ℕ) (call : StoreCall) (r : ℕ) : Type 0 where
+  pub answer : NumberAnswer
+  pub packed-is : r ≡ packedNumber answer
+  pub done : totalled answer ≡ replyOn s call

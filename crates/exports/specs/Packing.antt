@@ -9,6 +9,8 @@ pub use Rattle.answers.specs.Refusals.{codeLimit}
 use Rattle.grid.specs.declared.EntryAt.the-variants as entry
 use Rattle.answers.specs.declared.CellAnswer.{CellAnswer}
 use Rattle.answers.specs.Reads.{foundAnswer, refusedRead}
+use Rattle.answers.specs.declared.NumberAnswer.{NumberAnswer}
+use Rattle.answers.specs.Numbers.{numberAnswer, refusedNumber}
 use Rattle.row_view.specs.declared.Place.{Place}
 use Rattle.row_view.specs.View.{first, second, placeOf}
 
@@ -38,6 +40,10 @@ packedCell a = a .code + presentBit (a .present) + a .position * positionUnit + 
 pub record SmallRead (a : CellAnswer) : Type 0 where
   pub code : a .code < codeLimit
   pub position : a .position < positionUnit
+
+-- an answer of a reduction to a number
+abbrev pub packedNumber : NumberAnswer → ℕ
+packedNumber a = a .code + a .value * upperWord
 
 -- the place of a part: whether it lies in the second matrix, how many words it has, from which word on
 abbrev pub secondBit : Bool → ℕ
@@ -86,6 +92,13 @@ absent-end = refl
 
 refused-seven : packedCell (refusedRead 7) ≡ 7
 refused-seven = refl
+
+-- the number -5, and a refusal
+number-minus-five : packedNumber (numberAnswer 4294967291) ≡ 18446744052234715136
+number-minus-five = refl
+
+number-refused : packedNumber (refusedNumber 2) ≡ 2
+number-refused = refl
 
 -- three words of the second matrix, from word 20 on
 second-part : packedPlace (placeOf (second 20 23)) ≡ 85899346689

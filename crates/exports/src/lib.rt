@@ -2,10 +2,11 @@
 // the order of the wrapped function, then the buffers. A slice is passed as a pointer and the number of its words.
 // `flags`, `has_mask`, `has_accumulator` and `accumulator` are the call's options; a `has_..` is no where it is 0, else
 // yes. Any numbers and any buffers may be passed. Each call answers in one number: the code in the lower word, the
-// entries of what was written or checked, or the value of the cell that was read, in the upper; the position of a cell
-// that was read is in the lower word too.
+// entries of what was written or checked, the value of the cell that was read, or the number that a matrix was reduced
+// to, in the upper; the position of a cell that was read is in the lower word too.
 use answers::Answer;
 use answers::CellAnswer;
+use answers::NumberAnswer;
 use call_codes::Options;
 use call_codes::Verb;
 use model::Roles;
@@ -19,15 +20,16 @@ ghost use Prim.Native.Nat.{_≤_};
 ghost use lib.ListN.{length, replicate};
 ghost use Rattle.matrix.specs.Valid.{checkAnswer};
 ghost use Rattle.cells.specs.Read.{readAnswer};
+ghost use Rattle.reduce.specs.Reduce.{reduceAnswer};
 ghost use Rattle.row_view.specs.View.{rowView, placeOf};
 ghost use Rattle.call_codes.specs.declared.Verb.the-variants as verbs;
 ghost use Rattle.call_codes.specs.Decoding.{decoded};
-ghost use Rattle.model.specs.Calls.{newEmpty, dropSlot, setCell, clearCell, readCell, operate};
-ghost use Rattle.exports.specs.Packing.{packed, packedCell, presentBit, SmallRead, packedPlace, secondBit};
-ghost use Rattle.exports.specs.Packing.{SmallPlace, codeLimit};
+ghost use Rattle.model.specs.Calls.{newEmpty, dropSlot, setCell, clearCell, readCell, operate, reduceSlot};
+ghost use Rattle.exports.specs.Packing.{packed, packedCell, packedNumber, presentBit, SmallRead, packedPlace};
+ghost use Rattle.exports.specs.Packing.{secondBit, SmallPlace, codeLimit};
 ghost use Rattle.exports.specs.Exported.{optionsOf, rolesNamed, sectionOf};
 ghost use Rattle.exports.specs.Files.{packedText, LentFileRead, LentFileWritten, LentTextWritten};
-ghost use Rattle.exports.specs.Exported.{LentCreated, LentCompleted, StorePerformed, StoreRead};
+ghost use Rattle.exports.specs.Exported.{LentCreated, LentCompleted, StorePerformed, StoreRead, StoreTotalled};
 ghost use Rattle.exports.specs.Doors.{LentDoors};
 
 // In the answer of a read, what stands for a cell that is present.
@@ -355,6 +357,81 @@ pub extern "C" fn ostrubel_extract(
     )
 }
 
+// "Select": the entries for which a condition holds, by its number and its scalar.
+#[no_mangle]
+pub extern "C" fn ostrubel_select(
+    flags: u32,
+    has_mask: u32,
+    has_accumulator: u32,
+    accumulator: u32,
+    op: u32,
+    scalar: u32,
+    a: &[u32],
+    mask: &[u32],
+    c: &mut [u32],
+    work: &mut [u32],
+) -> u64
+    ensures { λ r. ⌜ LentCompleted (decoded (optionsOf flags «has_mask» «has_accumulator» accumulator) (verbs.Select op scalar))
+        (now (a .entry)) [] (now (mask .entry)) (now (c .entry)) [] [] (now (work .entry))
+        r (now (c .exit)) (now (work .exit)) ⌝ }
+{
+    lent(
+        flags,
+        has_mask,
+        has_accumulator,
+        accumulator,
+        Verb::Select(op, scalar),
+        a,
+        &a[0..0],
+        mask,
+        &a[0..0],
+        &a[0..0],
+        c,
+        work,
+    )
+}
+
+// "Reduce" rows: the totals of A's rows by a monoid, in one row.
+#[no_mangle]
+pub extern "C" fn ostrubel_reduce_rows(
+    flags: u32,
+    has_mask: u32,
+    has_accumulator: u32,
+    accumulator: u32,
+    monoid: u32,
+    a: &[u32],
+    mask: &[u32],
+    c: &mut [u32],
+    work: &mut [u32],
+) -> u64
+    ensures { λ r. ⌜ LentCompleted (decoded (optionsOf flags «has_mask» «has_accumulator» accumulator) (verbs.ReduceRows monoid))
+        (now (a .entry)) [] (now (mask .entry)) (now (c .entry)) [] [] (now (work .entry))
+        r (now (c .exit)) (now (work .exit)) ⌝ }
+{
+    lent(
+        flags,
+        has_mask,
+        has_accumulator,
+        accumulator,
+        Verb::ReduceRows(monoid),
+        a,
+        &a[0..0],
+        mask,
+        &a[0..0],
+        &a[0..0],
+        c,
+        work,
+    )
+}
+
+// "Reduce" a whole matrix: the total of its values by a monoid.
+#[no_mangle]
+pub extern "C" fn ostrubel_reduce(monoid: u32, words: &[u32]) -> u64
+    ensures { λ r. ⌜ r ≡ packedNumber (reduceAnswer (now (words .entry)) monoid) ⌝ }
+{
+    pack_number(reduce::reduce(words, monoid))
+}
+
 // An empty matrix in a slot, whatever was there.
 #[no_mangle]
 pub extern "C" fn ostrubel_store_new_empty(
@@ -643,6 +720,91 @@ pub extern "C" fn ostrubel_store_extract(
     )
 }
 
+// "Select": the entries for which a condition holds, by its number and its scalar.
+#[no_mangle]
+pub extern "C" fn ostrubel_store_select(
+    flags: u32,
+    has_mask: u32,
+    has_accumulator: u32,
+    accumulator: u32,
+    op: u32,
+    scalar: u32,
+    a: usize,
+    mask: usize,
+    c: usize,
+    store: &mut [u32],
+    work: &mut [u32],
+) -> u64
+    ensures { λ r. ⌜ StorePerformed (now (store .entry)) (operate
+        (optionsOf flags «has_mask» «has_accumulator» accumulator) (verbs.Select op scalar) (rolesNamed a a mask c)
+        [] [] (length (now (work .entry)))) r (now (store .exit)) ⌝
+        ∗ ⌜ now (work .exit) ≡ replicate (length (now (work .entry))) 0 ⌝ }
+{
+    stored(
+        flags,
+        has_mask,
+        has_accumulator,
+        accumulator,
+        Verb::Select(op, scalar),
+        Roles {
+            first: a,
+            second: a,
+            mask: mask,
+            output: c,
+        },
+        store,
+        &[],
+        &[],
+        work,
+    )
+}
+
+// "Reduce" rows: the totals of A's rows by a monoid, in one row.
+#[no_mangle]
+pub extern "C" fn ostrubel_store_reduce_rows(
+    flags: u32,
+    has_mask: u32,
+    has_accumulator: u32,
+    accumulator: u32,
+    monoid: u32,
+    a: usize,
+    mask: usize,
+    c: usize,
+    store: &mut [u32],
+    work: &mut [u32],
+) -> u64
+    ensures { λ r. ⌜ StorePerformed (now (store .entry)) (operate
+        (optionsOf flags «has_mask» «has_accumulator» accumulator) (verbs.ReduceRows monoid) (rolesNamed a a mask c)
+        [] [] (length (now (work .entry)))) r (now (store .exit)) ⌝
+        ∗ ⌜ now (work .exit) ≡ replicate (length (now (work .entry))) 0 ⌝ }
+{
+    stored(
+        flags,
+        has_mask,
+        has_accumulator,
+        accumulator,
+        Verb::ReduceRows(monoid),
+        Roles {
+            first: a,
+            second: a,
+            mask: mask,
+            output: c,
+        },
+        store,
+        &[],
+        &[],
+        work,
+    )
+}
+
+// "Reduce" a whole matrix: the total of a slot's values by a monoid.
+#[no_mangle]
+pub extern "C" fn ostrubel_store_reduce(slot: usize, monoid: u32, store: &[u32]) -> u64
+    ensures { λ r. ⌜ StoreTotalled (now (store .entry)) (reduceSlot slot monoid) r ⌝ }
+{
+    pack_number(store_reduce::reduce(store, slot, monoid))
+}
+
 // Any operation on lent matrices.
 fn lent<'a>(
     flags: u32,
@@ -733,6 +895,13 @@ fn present_bit(present: bool) -> u64
     ensures { λ r. ⌜ r ≡ presentBit present ⌝ ∗ ⌜ r ≤ codeLimit ⌝ }
 {
     if present { PRESENT } else { 0 }
+}
+
+// The code in the lower word, the number in the upper.
+fn pack_number(answer: NumberAnswer) -> u64
+    ensures { λ r. ⌜ r ≡ packedNumber answer ⌝ }
+{
+    answer.code as u64 + answer.value as u64 * UPPER_WORD
 }
 
 // The matrix in the lowest byte, the count in the rest of the lower word, where the part begins in the upper.

@@ -9,12 +9,26 @@ use lib.Dec.{eqb}
 use contract.Lifetimes.{Lfts}
 use Rattle.answers.specs.declared.Answer.{Answer}
 use Rattle.answers.specs.declared.CellAnswer.{CellAnswer}
+use Rattle.answers.specs.declared.NumberAnswer.{NumberAnswer}
 use Rattle.answers.specs.Refusals.{refused, invalidStore}
 use Rattle.answers.specs.Reads.{refusedRead}
+use Rattle.answers.specs.Numbers.{refusedNumber}
 use Rattle.slots.specs.Valid.{storeValid}
 use Rattle.slots.proofs.Facts.{store-facts}
 use Rattle.model.specs.Model.{Model}
-use Rattle.model.specs.Effects.{Reply, wrote, found, writing, reading, refusedAs, refusalOf, replyOf, nextOf}
+use Rattle.model.specs.Effects.{
+  Reply,
+  wrote,
+  found,
+  totalled,
+  writing,
+  reading,
+  totalling,
+  refusedAs,
+  refusalOf,
+  replyOf,
+  nextOf,
+}
 use Rattle.model.specs.Calls.{
   OperationCall,
   StoreCall,
@@ -25,6 +39,7 @@ use Rattle.model.specs.Calls.{
   readCell,
   operation,
   operate,
+  reduceSlot,
   effect,
 }
 use Rattle.model.proofs.Effects.{OfKind, reply-kind, refused-kind, effect-sound}
@@ -40,6 +55,7 @@ use Rattle.histories.specs.Functions.{
   clear-cell-step,
   read-cell-step,
   operate-step,
+  reduce-step,
   Met,
   Known,
   Free,
@@ -58,6 +74,8 @@ use Rattle.store_cells.proofs.read_cell.Met as read-cell-met
 use Rattle.store_cells.proofs.read_cell.Reads as read-cell-reads
 use Rattle.store_calls.proofs.operate.Met as operate-met
 use Rattle.store_calls.proofs.operate.Reads as operate-reads
+use Rattle.store_reduce.proofs.reduce.Met as reduce-met
+use Rattle.store_reduce.proofs.reduce.Reads as reduce-reads
 
 pub met : Met
 met = record {
@@ -67,6 +85,7 @@ met = record {
   clear-cell = clear-cell-met.met;
   read-cell = read-cell-met.met;
   operate = operate-met.met;
+  reduce = reduce-met.met;
 }
 
 pub known : Known
@@ -77,6 +96,7 @@ known = record {
   clear-cell = clear-cell-reads.known;
   read-cell = read-cell-reads.known;
   operate = operate-reads.known;
+  reduce = reduce-reads.known;
 }
 
 pub free : Free
@@ -87,6 +107,7 @@ free = record {
   clear-cell = λ κs s k i j. tt;
   read-cell = λ κs s k i j. tt;
   operate = λ κs s w is js o verb named. tt;
+  reduce = λ κs s k monoid. tt;
 }
 
 pub cleared : Cleared
@@ -94,26 +115,37 @@ cleared κs p q x y s s′ w w′ o verb named is js answer t = t .1
 
 -- ---- what each tells
 
--- a read changes nothing of the model, refused or not
+-- a read changes nothing of the model, refused or not; nor does a reduction to a number
+unchanged : (m : Model) (b : Bool) → cond b m m ≡ m
+unchanged m true = refl
+unchanged m false = refl
+
 read-keeps : (n : ℕ) (m : Model) (k i j : ℕ) → nextOf (effect (readCell k i j)) n m ≡ m
 unfolding effect nextOf
-read-keeps n m k i j = either (eqb (refusalOf (effect (readCell k i j)) n m) 0)
-  where
-    either : (b : Bool) → cond b m m ≡ m
-    either true = refl
-    either false = refl
+read-keeps n m k i j = unchanged m (eqb (refusalOf (effect (readCell k i j)) n m) 0)
+
+total-keeps : (n : ℕ) (m : Model) (k monoid : ℕ) → nextOf (effect (reduceSlot k monoid)) n m ≡ m
+unfolding effect nextOf
+total-keeps n m k monoid = unchanged m (eqb (refusalOf (effect (reduceSlot k monoid)) n m) 0)
 
 -- and leaves the words as they are, which are the writing of their model
-pub read-performed : (s : List ℕ) (k i j : ℕ) (r : Reply) → r ≡ replyOn s (readCell k i j)
-    → Performed s (readCell k i j) r s
+keeping : (s : List ℕ) (c : StoreCall) (r : Reply) → nextOf (effect c) (length s) (modelOf s) ≡ modelOf s
+    → r ≡ replyOn s c → Performed s c r s
 unfolding effectWords
-read-performed s k i j r e = record { answer-is = e; words-are = kept (storeValid s) refl }
+keeping s c r k e = record { answer-is = e; words-are = kept (storeValid s) refl }
   where
     kept : (b : Bool) → storeValid s ≡ b
-        → s ≡ cond b (modelWriting (length s) (nextOf (effect (readCell k i j)) (length s) (modelOf s))) s
-    kept true h =
-        sym (ap (modelWriting (length s)) (read-keeps (length s) (modelOf s) k i j) ∙ model-written s (store-facts s h))
+        → s ≡ cond b (modelWriting (length s) (nextOf (effect c) (length s) (modelOf s))) s
+    kept true h = sym (ap (modelWriting (length s)) k ∙ model-written s (store-facts s h))
     kept false h = refl
+
+pub read-performed : (s : List ℕ) (k i j : ℕ) (r : Reply) → r ≡ replyOn s (readCell k i j)
+    → Performed s (readCell k i j) r s
+read-performed s k i j r e = keeping s (readCell k i j) r (read-keeps (length s) (modelOf s) k i j) e
+
+pub total-performed : (s : List ℕ) (k monoid : ℕ) (r : Reply) → r ≡ replyOn s (reduceSlot k monoid)
+    → Performed s (reduceSlot k monoid) r s
+total-performed s k monoid r e = keeping s (reduceSlot k monoid) r (total-keeps (length s) (modelOf s) k monoid) e
 
 pub told : {s s′ : List ℕ} {c : StoreCall} {r : Reply} → Step s c r s′ → Performed s c r s′
 told (new-empty-step p κs t) = t
@@ -122,6 +154,7 @@ told (set-cell-step p κs t) = t
 told (clear-cell-step p κs t) = t
 told (read-cell-step p κs t) = read-performed _ _ _ _ _ t
 told (operate-step w w′ p q x y κs t) = t .0
+told (reduce-step p κs t) = total-performed _ _ _ _ t
 
 -- ---- a step of every call: the answer and the words that the contracts name
 
@@ -143,18 +176,32 @@ on-kind s c = go (storeValid s)
 abbrev answerIn : Reply → Answer
 answerIn (wrote answer) = answer
 answerIn (found answer) = refused 0
+answerIn (totalled answer) = refused 0
 
 abbrev cellIn : Reply → CellAnswer
 cellIn (wrote answer) = refusedRead 0
 cellIn (found answer) = answer
+cellIn (totalled answer) = refusedRead 0
+
+abbrev numberIn : Reply → NumberAnswer
+numberIn (wrote answer) = refusedNumber 0
+numberIn (found answer) = refusedNumber 0
+numberIn (totalled answer) = answer
 
 wrote-answer : (r : Reply) → OfKind writing r → wrote (answerIn r) ≡ r
 wrote-answer (wrote a) k = refl
 wrote-answer (found a) k = absurd k
+wrote-answer (totalled a) k = absurd k
 
 found-answer : (r : Reply) → OfKind reading r → found (cellIn r) ≡ r
 found-answer (wrote a) k = absurd k
 found-answer (found a) k = refl
+found-answer (totalled a) k = absurd k
+
+totalled-answer : (r : Reply) → OfKind totalling r → totalled (numberIn r) ≡ r
+totalled-answer (wrote a) k = absurd k
+totalled-answer (found a) k = absurd k
+totalled-answer (totalled a) k = refl
 
 -- a call that writes
 writes : (s : List ℕ) (c : StoreCall) → OfKind writing (replyOn s c)
@@ -195,3 +242,7 @@ possible κ₁ κ₄ s (readCell k i j) =
     (read-cell-step {answer = cellIn (replyOn s (readCell k i j))} somewhere κ₁
     (found-answer (replyOn s (readCell k i j)) (on-kind s (readCell k i j))))
 possible κ₁ κ₄ s (operation x) = operates κ₄ s x
+possible κ₁ κ₄ s (reduceSlot k monoid) =
+    stepped
+    (reduce-step {answer = numberIn (replyOn s (reduceSlot k monoid))} somewhere κ₁
+    (totalled-answer (replyOn s (reduceSlot k monoid)) (on-kind s (reduceSlot k monoid))))

@@ -4,10 +4,10 @@ use mathlib.Core.List.{List}
 use Rattle.model.specs.Effects as effects
 use Rattle.model.specs.Calls.{StoreCall}
 use Rattle.exports.specs.Exported.{StorePerformed}
-use Rattle.exports.proofs.Unpacking.{store-unpacked, store-read-unpacked}
-use Rattle.histories.specs.Hosts.{HostStep, Tells, wrote, operated, read, tells}
+use Rattle.exports.proofs.Unpacking.{store-unpacked, store-read-unpacked, store-total-unpacked}
+use Rattle.histories.specs.Hosts.{HostStep, Tells, wrote, operated, read, totalled, tells}
 use Rattle.histories.specs.Lists.{HostTold}
-use Rattle.histories.proofs.Functions.{read-performed}
+use Rattle.histories.proofs.Functions.{read-performed, total-performed}
 
 performed : {s s′ : List ℕ} {c : StoreCall} {r : ℕ} → StorePerformed s c r s′ → HostTold s c r s′
 performed {s} {s′} {c} {r} h =
@@ -20,6 +20,11 @@ told (read h) = record {
   reply = effects.found (h .answer);
   apart = (h .packed-is, store-read-unpacked _ _ _ _ _ h);
   performed = read-performed _ _ _ _ _ (h .done);
+}
+told (totalled h) = record {
+  reply = effects.totalled (h .answer);
+  apart = (h .packed-is, store-total-unpacked _ _ _ h);
+  performed = total-performed _ _ _ _ (h .done);
 }
 
 pub host-told : {s s′ : List ℕ} {c : StoreCall} {r : ℕ} → HostStep s c r s′ → HostTold s c r s′

@@ -10,12 +10,13 @@ use denote.Ref.{RefT}
 use borrow.Fn.Picked.{KnownAs}
 use Rattle.answers.specs.declared.Answer.{Answer}
 use Rattle.answers.specs.declared.CellAnswer.{CellAnswer}
+use Rattle.answers.specs.declared.NumberAnswer.{NumberAnswer}
 use Rattle.words.specs.Lent.{Address, lent}
 use Rattle.call_codes.specs.declared.Options.{Options}
 use Rattle.call_codes.specs.declared.Verb.{Verb}
 use Rattle.model.specs.declared.Roles.{Roles}
-use Rattle.model.specs.Effects.{Reply, wrote, found}
-use Rattle.model.specs.Calls.{StoreCall, newEmpty, dropSlot, setCell, clearCell, readCell, operate}
+use Rattle.model.specs.Effects.{Reply, wrote, found, totalled}
+use Rattle.model.specs.Calls.{StoreCall, newEmpty, dropSlot, setCell, clearCell, readCell, operate, reduceSlot}
 use Rattle.store_cells.proofs.new_empty.Reads as new-empty-reads
 use Rattle.store_cells.proofs.new_empty.Statement as new-empty-statement
 use Rattle.store_cells.proofs.new_empty.Kinds as new-empty-kinds
@@ -34,6 +35,9 @@ use Rattle.store_cells.proofs.read_cell.Kinds as read-cell-kinds
 use Rattle.store_calls.proofs.operate.Reads as operate-reads
 use Rattle.store_calls.proofs.operate.Statement as operate-statement
 use Rattle.store_calls.proofs.operate.Kinds as operate-kinds
+use Rattle.store_reduce.proofs.reduce.Reads as reduce-reads
+use Rattle.store_reduce.proofs.reduce.Statement as reduce-statement
+use Rattle.store_reduce.proofs.reduce.Kinds as reduce-kinds
 
 -- One call on the words s: its reply and the words s′ after it are what the contract of its function tells a caller.
 -- Index lists, and the words that a read is lent, are borrowed by `&` and stay. "Each call brings index lists and a work
@@ -59,6 +63,9 @@ pub data Step : List ℕ → StoreCall → Reply → List ℕ → Type 0 where
       → operate-reads.Learnt κs (lent p s, (o, (verb, (named, (lent x is, (lent y js, (lent q w, tt))))))) answer
       (lent p s′, (o, (verb, (named, (lent x is, (lent y js, (lent q w′, tt)))))))
       → Step s (operate o verb named is js (length w)) (wrote answer) s′
+  reduce-step : {s : List ℕ} {k monoid : ℕ} {answer : NumberAnswer} (p : Address) (κs : Lfts 1)
+      → reduce-reads.Learnt κs (lent p s, (k, (monoid, tt))) answer (lent p s, (k, (monoid, tt)))
+      → Step s (reduceSlot k monoid) (totalled answer) s
 
 -- each function's code meets its contract
 pub record Met : Type 3 where
@@ -68,6 +75,7 @@ pub record Met : Type 3 where
   pub clear-cell : {M : Type 1} → clear-cell-statement.statement M
   pub read-cell : {M : Type 1} → read-cell-statement.statement M
   pub operate : {M : Type 1} → operate-statement.statement M
+  pub reduce : {M : Type 1} → reduce-statement.statement M
 
 -- and what a caller learns follows from what is proved of the code: the lemma that is generated for each function
 pub record Known : Type 3 where
@@ -89,6 +97,9 @@ pub record Known : Type 3 where
   pub operate : KnownAs 4 operate-kinds.ps operate-kinds.r operate-reads.Ghost
       operate-reads.requires operate-reads.ensures
       operate-reads.Asked operate-reads.Learnt
+  pub reduce : KnownAs 1 reduce-kinds.ps reduce-kinds.r reduce-reads.Ghost
+      reduce-reads.requires reduce-reads.ensures
+      reduce-reads.Asked reduce-reads.Learnt
 
 -- a caller has nothing to show
 pub record Free : Type 3 where
@@ -99,6 +110,7 @@ pub record Free : Type 3 where
   pub read-cell : (κs : Lfts 1) (s : RefT (List ℕ)) (k i j : ℕ) → read-cell-reads.Asked κs (s, (k, (i, (j, tt))))
   pub operate : (κs : Lfts 4) (s w is js : RefT (List ℕ)) (o : Options) (verb : Verb) (named : Roles)
       → operate-reads.Asked κs (s, (o, (verb, (named, (is, (js, (w, tt)))))))
+  pub reduce : (κs : Lfts 1) (s : RefT (List ℕ)) (k monoid : ℕ) → reduce-reads.Asked κs (s, (k, (monoid, tt)))
 
 -- "The work buffer is all zeros over its whole length after every call that has one"
 abbrev pub Cleared : Type 0

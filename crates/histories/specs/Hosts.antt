@@ -7,8 +7,8 @@ use lib.ListN.{length, replicate}
 use contract.Lifetimes.{Lfts}
 use borrow.Fn.Picked.{KnownAs}
 use Rattle.call_codes.specs.declared.Verb.the-variants as verbs
-use Rattle.model.specs.Calls.{StoreCall, newEmpty, dropSlot, setCell, clearCell, readCell, operate}
-use Rattle.exports.specs.Exported.{optionsOf, rolesNamed, StorePerformed, StoreRead}
+use Rattle.model.specs.Calls.{StoreCall, newEmpty, dropSlot, setCell, clearCell, readCell, operate, reduceSlot}
+use Rattle.exports.specs.Exported.{optionsOf, rolesNamed, StorePerformed, StoreRead, StoreTotalled}
 use Rattle.exports.proofs.ostrubel_store_new_empty.Reads as new-empty-reads
 use Rattle.exports.proofs.ostrubel_store_new_empty.Statement as new-empty-statement
 use Rattle.exports.proofs.ostrubel_store_new_empty.Kinds as new-empty-kinds
@@ -53,6 +53,18 @@ use Rattle.exports.proofs.ostrubel_store_extract.Reads as extract-reads
 use Rattle.exports.proofs.ostrubel_store_extract.Statement as extract-statement
 use Rattle.exports.proofs.ostrubel_store_extract.Kinds as extract-kinds
 use Rattle.exports.proofs.ostrubel_store_extract.Met as extract-met
+use Rattle.exports.proofs.ostrubel_store_select.Reads as select-reads
+use Rattle.exports.proofs.ostrubel_store_select.Statement as select-statement
+use Rattle.exports.proofs.ostrubel_store_select.Kinds as select-kinds
+use Rattle.exports.proofs.ostrubel_store_select.Met as select-met
+use Rattle.exports.proofs.ostrubel_store_reduce_rows.Reads as reduce-rows-reads
+use Rattle.exports.proofs.ostrubel_store_reduce_rows.Statement as reduce-rows-statement
+use Rattle.exports.proofs.ostrubel_store_reduce_rows.Kinds as reduce-rows-kinds
+use Rattle.exports.proofs.ostrubel_store_reduce_rows.Met as reduce-rows-met
+use Rattle.exports.proofs.ostrubel_store_reduce.Reads as reduce-reads
+use Rattle.exports.proofs.ostrubel_store_reduce.Statement as reduce-statement
+use Rattle.exports.proofs.ostrubel_store_reduce.Kinds as reduce-kinds
+use Rattle.exports.proofs.ostrubel_store_reduce.Met as reduce-met
 use Rattle.words.specs.Lent.{Address, lent}
 
 -- one call of a host on the words s, its answer in one number, and the words after it: what the function's contract tells
@@ -124,13 +136,34 @@ pub data HostStep : List ℕ → StoreCall → ℕ → List ℕ → Type 0 where
       → HostStep s
       (operate (optionsOf flags masked accumulated number) verbs.Extract (rolesNamed a a m c) is js (length w))
       answer s′
+  select-step : (κs : Lfts 2) (p q : Address) (w w′ : List ℕ) {s s′ : List ℕ}
+      (flags masked accumulated number op scalar a m c : ℕ) {answer : ℕ}
+      → select-reads.Learnt κs
+      (flags, (masked, (accumulated, (number, (op, (scalar, (a, (m, (c, (lent p s, (lent q w, tt)))))))))))
+      answer (flags, (masked, (accumulated, (number, (op, (scalar, (a, (m, (c, (lent p s′, (lent q w′, tt)))))))))))
+      → HostStep s
+      (operate (optionsOf flags masked accumulated number) (verbs.Select op scalar) (rolesNamed a a m c) [] [] (length w))
+      answer s′
+  reduce-rows-step : (κs : Lfts 2) (p q : Address) (w w′ : List ℕ) {s s′ : List ℕ}
+      (flags masked accumulated number monoid a m c : ℕ) {answer : ℕ}
+      → reduce-rows-reads.Learnt κs
+      (flags, (masked, (accumulated, (number, (monoid, (a, (m, (c, (lent p s, (lent q w, tt))))))))))
+      answer (flags, (masked, (accumulated, (number, (monoid, (a, (m, (c, (lent p s′, (lent q w′, tt))))))))))
+      → HostStep s
+      (operate (optionsOf flags masked accumulated number) (verbs.ReduceRows monoid) (rolesNamed a a m c) [] [] (length w))
+      answer s′
+  reduce-step : (κs : Lfts 1) (p : Address) {s : List ℕ} {k monoid answer : ℕ}
+      → reduce-reads.Learnt κs (k, (monoid, (lent p s, tt))) answer (k, (monoid, (lent p s, tt)))
+      → HostStep s (reduceSlot k monoid) answer s
 
--- what that is: a call that may write; an operation, which also leaves its workspace zeros; a read, which leaves the words
+-- what that is: a call that may write; an operation, which also leaves its workspace zeros; a read and a reduction to a
+-- number, which leave the words
 pub data Tells : List ℕ → StoreCall → ℕ → List ℕ → Type 0 where
   wrote : {s s′ : List ℕ} {c : StoreCall} {r : ℕ} → StorePerformed s c r s′ → Tells s c r s′
   operated : {s s′ : List ℕ} {c : StoreCall} {r : ℕ} (w w′ : List ℕ) → StorePerformed s c r s′
       → w′ ≡ replicate (length w) 0 → Tells s c r s′
   read : {s : List ℕ} {k i j r : ℕ} → StoreRead s (readCell k i j) r → Tells s (readCell k i j) r s
+  totalled : {s : List ℕ} {k monoid r : ℕ} → StoreTotalled s (reduceSlot k monoid) r → Tells s (reduceSlot k monoid) r s
 
 pub tells : {s s′ : List ℕ} {c : StoreCall} {r : ℕ} → HostStep s c r s′ → Tells s c r s′
 tells (new-empty-step κs p t) = wrote t
@@ -144,6 +177,9 @@ tells (ewise-mult-step κs p q w w′ flags masked accumulated number op a b m c
 tells (ewise-add-step κs p q w w′ flags masked accumulated number op a b m c t) = operated w w′ (t .0) (t .1)
 tells (apply-step κs p q w w′ flags masked accumulated number kind op scalar a m c t) = operated w w′ (t .0) (t .1)
 tells (extract-step κs p q x y w w′ is js flags masked accumulated number a m c t) = operated w w′ (t .0) (t .1)
+tells (select-step κs p q w w′ flags masked accumulated number op scalar a m c t) = operated w w′ (t .0) (t .1)
+tells (reduce-rows-step κs p q w w′ flags masked accumulated number monoid a m c t) = operated w w′ (t .0) (t .1)
+tells (reduce-step κs p t) = totalled t
 
 -- of each function: its code meets its contract, what a caller learns follows from that, and a caller has nothing to show
 pub record Exported (n : ℕ) {A : Lfts n → Type 0} (statement : Type 1 → Type 2) (asked : (κs : Lfts n) → A κs → Type 0)
@@ -194,6 +230,18 @@ pub record HostFunctions : Type 3 where
       (KnownAs 4 extract-kinds.ps extract-kinds.r extract-reads.Ghost
       extract-reads.requires extract-reads.ensures extract-reads.Asked
       extract-reads.Learnt)
+  pub select : Exported 2 select-statement.statement (λ κs a. select-reads.Asked κs a)
+      (KnownAs 2 select-kinds.ps select-kinds.r select-reads.Ghost
+      select-reads.requires select-reads.ensures select-reads.Asked
+      select-reads.Learnt)
+  pub reduce-rows : Exported 2 reduce-rows-statement.statement (λ κs a. reduce-rows-reads.Asked κs a)
+      (KnownAs 2 reduce-rows-kinds.ps reduce-rows-kinds.r reduce-rows-reads.Ghost
+      reduce-rows-reads.requires reduce-rows-reads.ensures reduce-rows-reads.Asked
+      reduce-rows-reads.Learnt)
+  pub reduce : Exported 1 reduce-statement.statement (λ κs a. reduce-reads.Asked κs a)
+      (KnownAs 1 reduce-kinds.ps reduce-kinds.r reduce-reads.Ghost
+      reduce-reads.requires reduce-reads.ensures reduce-reads.Asked
+      reduce-reads.Learnt)
 
 pub host-functions : HostFunctions
 host-functions = record {
@@ -208,4 +256,7 @@ host-functions = record {
   ewise-add = record { met = ewise-add-met.met; known = ewise-add-reads.known; free = λ κs a. tt };
   apply = record { met = apply-met.met; known = apply-reads.known; free = λ κs a. tt };
   extract = record { met = extract-met.met; known = extract-reads.known; free = λ κs a. tt };
+  select = record { met = select-met.met; known = select-reads.known; free = λ κs a. tt };
+  reduce-rows = record { met = reduce-rows-met.met; known = reduce-rows-reads.known; free = λ κs a. tt };
+  reduce = record { met = reduce-met.met; known = reduce-reads.known; free = λ κs a. tt };
 }

@@ -9,13 +9,13 @@ use lib.ListN.{length, replicate}
 use Rattle.limits.specs.Limits.{slotCount, maxStoreWords}
 use Rattle.slots.specs.Valid.{storeValid}
 use Rattle.model.specs.Model.{Model, fresh}
-use Rattle.model.specs.Effects.{Reply, wrote, found}
+use Rattle.model.specs.Effects.{Reply, wrote, found, totalled}
 use Rattle.model.specs.Calls.{StoreCall}
 use Rattle.model.specs.Histories.{replies, modelAfter}
 use Rattle.store_encoding.specs.Writing.{modelWriting}
 use Rattle.store_encoding.specs.Stores.{modelOf, Performed}
-use Rattle.exports.specs.Packing.{packed, packedCell}
-use Rattle.exports.specs.Unpacked.{Unpacked, UnpackedCell}
+use Rattle.exports.specs.Packing.{packed, packedCell, packedNumber}
+use Rattle.exports.specs.Unpacked.{Unpacked, UnpackedCell, UnpackedNumber}
 use Rattle.histories.specs.Functions.{Step}
 use Rattle.histories.specs.Hosts.{HostStep}
 
@@ -57,6 +57,7 @@ pub data HostRuns : List ℕ → List StoreCall → List ℕ → List ℕ → Ty
 abbrev pub TakenApart : ℕ → Reply → Type 0
 TakenApart r (wrote answer) = (r ≡ packed answer) × Unpacked r answer
 TakenApart r (found answer) = (r ≡ packedCell answer) × UnpackedCell r answer
+TakenApart r (totalled answer) = (r ≡ packedNumber answer) × UnpackedNumber r answer
 
 -- what a step of a host tells, of any words
 pub record HostTold (s : List ℕ) (c : StoreCall) (r : ℕ) (s′ : List ℕ) : Type 0 where

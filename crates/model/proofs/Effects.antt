@@ -16,6 +16,8 @@ use Rattle.limits.specs.Ranges.{inRange}
 use Rattle.limits.proofs.Ranges.{range-facts}
 use Rattle.answers.specs.Refusals.{accepted, invalidShape, codeLimit}
 use Rattle.answers.specs.Reads.{foundAnswer}
+use Rattle.answers.specs.Numbers.{numberAnswer}
+use Rattle.reductions.proofs.Same.{total-same}
 use Rattle.grid.specs.declared.Cell.{Cell}
 use Rattle.grid.specs.declared.Cell.the-variants.{Absent, Present}
 use Rattle.grid.specs.declared.EntryAt.{EntryAt}
@@ -34,9 +36,11 @@ use Rattle.model.specs.Effects.{
   Reply,
   wrote,
   found,
+  totalled,
   Kind,
   writing,
   reading,
+  totalling,
   refusedAs,
   codeOf,
   changed,
@@ -54,9 +58,11 @@ use Rattle.model.specs.Calls.{
   clearCell,
   readCell,
   operation,
+  reduceSlot,
   operateOf,
   operated,
   noSlot,
+  noMonoid,
   cellCases,
   noRoom,
   fitCases,
@@ -64,7 +70,7 @@ use Rattle.model.specs.Calls.{
   withoutValue,
   effect,
 }
-use Rattle.model.proofs.Alike.{Alike, alike-put, grid-same, cell-cases, room-same, fit-same}
+use Rattle.model.proofs.Alike.{Alike, alike-put, grid-same, no-grid, cell-cases, room-same, fit-same}
 use Rattle.model.proofs.Fitting.{Fitting, put-fits, dropped-fits, shaped-fits, fewer-fits}
 use Rattle.model.proofs.Operations.{operation-coded, operation-fits, operation-same, operated-same}
 
@@ -80,8 +86,13 @@ pub record SameEffect (e : Effect) (n : ℕ) (m m′ : Model) : Type 0 where
 abbrev pub OfKind : Kind → Reply → Type 0
 OfKind writing (wrote a) = Unit {0}
 OfKind writing (found a) = ⊥
+OfKind writing (totalled a) = ⊥
 OfKind reading (wrote a) = ⊥
 OfKind reading (found a) = Unit {0}
+OfKind reading (totalled a) = ⊥
+OfKind totalling (wrote a) = ⊥
+OfKind totalling (found a) = ⊥
+OfKind totalling (totalled a) = Unit {0}
 
 -- refusals have codes, and an accepted answer has none and the call's kind
 pub record Sound (e : Effect) : Type 0 where
@@ -92,10 +103,12 @@ pub record Sound (e : Effect) : Type 0 where
 pub refused-code : (k : Kind) (code : ℕ) → codeOf (refusedAs k code) ≡ code
 refused-code writing code = refl
 refused-code reading code = refl
+refused-code totalling code = refl
 
 pub refused-kind : (k : Kind) (code : ℕ) → OfKind k (refusedAs k code)
 refused-kind writing code = tt
 refused-kind reading code = tt
+refused-kind totalling code = tt
 
 module _ (e : Effect) (n : ℕ) (m : Model) where
   module _ (s : Sound e) where
@@ -211,6 +224,12 @@ module _ (n : ℕ) (m m′ : Model) (a : Alike m m′) where
   }
   effect-same (operation x) =
       putting-same _ _ _ n m m′ a (operation-same n m m′ a (operateOf x)) (operated-same n m m′ a (operateOf x))
+  effect-same (reduceSlot k number) = record {
+    refusal = ap (λ (x : Case). firstApplying (noSlot k ∷ noMonoid number ∷ x ∷ [])) (no-grid n m m′ a k);
+    answer = λ z.
+        ap (λ (v : ℕ). totalled (numberAnswer v)) (total-same _ (gridAt m k) (gridAt m′ k) (grid-same n m m′ a k));
+    change = λ z. a;
+  }
 
 -- ---- call by call: what fits
 module _ (n : ℕ) (m : Model) (h : Fitting n m) where
@@ -245,6 +264,7 @@ module _ (n : ℕ) (m : Model) (h : Fitting n m) where
       fewer-fits n m h k (withoutValue m k i j) (cell-held k i j z) refl refl (cleared-count (gridAt m k) i j)
   effect-fits (readCell k i j) z = h
   effect-fits (operation x) z = operation-fits n m (operateOf x) h z
+  effect-fits (reduceSlot k number) z = h
 
 -- ---- call by call: answers and codes
 cell-coded : (m : Model) (k i j : ℕ) → Coded (cellCases m k i j)
@@ -270,3 +290,8 @@ effect-sound (readCell k i j) = record {
   of-kind = λ m. tt;
 }
 effect-sound (operation x) = putting-sound _ _ _ (λ n m. operation-coded n m (operateOf x))
+effect-sound (reduceSlot k number) = record {
+  coded = λ n m. (omega arith, (omega arith, (omega arith, tt)));
+  accepted-code = λ m. refl;
+  of-kind = λ m. tt;
+}

@@ -13,9 +13,11 @@ use Rattle.answers.specs.Refusals.{
   insufficientSpace,
   invalidStore,
   emptySlot,
+  unknownOperator,
   accepted,
 }
 use Rattle.answers.specs.Reads.{foundAnswer}
+use Rattle.answers.specs.Numbers.{numberAnswer}
 use Rattle.grid.specs.Grid.{Grid, emptyGrid}
 use Rattle.grid.specs.Position.{entryAt}
 use Rattle.grid.specs.Update.{withCell}
@@ -24,15 +26,29 @@ use Rattle.operations.specs.declared.Call.{Call}
 use Rattle.operations.specs.Calls.{hasSecond, callFinal}
 use Rattle.call_codes.specs.declared.Options.{Options}
 use Rattle.call_codes.specs.declared.Verb.{Verb}
-use Rattle.call_codes.specs.Decoding.{decoded}
+use Rattle.call_codes.specs.Decoding.{monoidKnown, monoidOf, decoded}
+use Rattle.operator_codes.specs.Codes.{monoidNumbered}
+use Rattle.reductions.specs.Reductions.{gridTotal}
 use Rattle.refusals.specs.Cases.{Case, given, numberCases, agreementCases, outputCases}
 use Rattle.model.specs.declared.Roles.{Roles}
 use Rattle.model.specs.Model.{vacant, holding, Model, slotOf, put, isVacant, gridAt, wordsNeeded}
-use Rattle.model.specs.Effects.{writing, reading, wrote, found, keeps, puts, Effect, puttingGrid}
+use Rattle.model.specs.Effects.{
+  writing,
+  reading,
+  totalling,
+  wrote,
+  found,
+  totalled,
+  keeps,
+  puts,
+  Effect,
+  puttingGrid,
+}
 
 -- ---- the calls
 
--- "the six operations naming places for A, B, mask and C", as it is asked for: its numbers and slots as they come
+-- "the six operations naming places for A, B, mask and C" and document 02's "giving sheets", as it is asked for: its
+-- numbers and slots as they come
 pub record OperationCall : Type 0 where
   pub options : Options
   pub verb : Verb
@@ -41,7 +57,8 @@ pub record OperationCall : Type 0 where
   pub js : List ℕ
   pub work : ℕ
 
--- "Calls: lay (what was there goes), drop, set a cell, clear a cell, read a cell, and the six operations"
+-- "Calls: lay (what was there goes), drop, set a cell, clear a cell, read a cell, and the six operations"; document 02,
+-- A4: "all are shelf calls too"
 pub data StoreCall : Type 0 where
   newEmpty : (slot rows cols : ℕ) → StoreCall
   dropSlot : (slot : ℕ) → StoreCall
@@ -49,6 +66,7 @@ pub data StoreCall : Type 0 where
   clearCell : (slot i j : ℕ) → StoreCall
   readCell : (slot i j : ℕ) → StoreCall
   operation : OperationCall → StoreCall
+  reduceSlot : (slot monoid : ℕ) → StoreCall
 
 -- an operation by all that its function is given
 abbrev pub operate : Options → Verb → Roles → List ℕ → List ℕ → ℕ → StoreCall
@@ -64,6 +82,10 @@ noSlot k = given invalidStore (leb slotCount k)
 -- 13: "a place that must hold a sheet is empty"
 abbrev pub noGrid : Model → ℕ → Case
 noGrid m k = given emptySlot (isVacant (slotOf m k))
+
+-- 2: "no such .. monoid"
+abbrev pub noMonoid : ℕ → Case
+noMonoid number = given unknownOperator (not (monoidKnown (monoidNumbered number)))
 
 -- 7: "row or column past .. the sheet named"
 abbrev pub noCell : Grid → ℕ → ℕ → Case
@@ -150,6 +172,10 @@ withoutValue m k i j = withCell (gridAt m k) i j Absent
 abbrev pub shapeCases : ℕ → ℕ → ℕ → List Case
 shapeCases k r c = noSlot k ∷ given invalidShape (not (inRange maxRows r and inRange maxCols c)) ∷ []
 
+-- of a reduction to a number: 12, 2, 13
+abbrev pub totalCases : Model → ℕ → ℕ → List Case
+totalCases m k number = noSlot k ∷ noMonoid number ∷ noGrid m k ∷ []
+
 unfoldable pub effect : StoreCall → Effect
 -- lay "puts a grid of the given shape without values where it is told, whatever was there"
 effect (newEmpty k r c) = puttingGrid k (λ m. emptyGrid r c) (λ n m. shapeCases k r c ++ (noRoom n m k (emptyGrid r c) ∷ []))
@@ -171,3 +197,10 @@ effect (readCell k i j) = record {
   answer = λ m. found (foundAnswer (entryAt (gridAt m k) i j));
 }
 effect (operation x) = operationEffect (operateOf x)
+-- document 02, A4: "a whole sheet into one number"; "this returns 0 and the number"
+effect (reduceSlot k number) = record {
+  kind = totalling;
+  cases = λ n m. totalCases m k number;
+  change = λ m. keeps;
+  answer = λ m. totalled (numberAnswer (gridTotal (monoidOf (monoidNumbered number)) (gridAt m k)));
+}

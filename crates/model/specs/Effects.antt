@@ -6,32 +6,38 @@ use mathlib.Core.List.{List}
 use lib.Dec.{eqb}
 use Rattle.answers.specs.declared.Answer.{Answer}
 use Rattle.answers.specs.declared.CellAnswer.{CellAnswer}
+use Rattle.answers.specs.declared.NumberAnswer.{NumberAnswer}
 use Rattle.answers.specs.Refusals.{accepted, refused}
 use Rattle.answers.specs.Reads.{refusedRead}
+use Rattle.answers.specs.Numbers.{refusedNumber}
 use Rattle.grid.specs.Grid.{Grid}
 use Rattle.grid.specs.Entries.{entryCount}
 use Rattle.refusals.specs.Cases.{Case, firstApplying}
 use Rattle.model.specs.Model.{Slot, holding, Model, put}
 
--- an answer: of a call that writes, or of a read
+-- an answer: of a call that writes, of a read, or of a reduction to a number
 pub data Reply : Type 0 where
   wrote : Answer → Reply
   found : CellAnswer → Reply
+  totalled : NumberAnswer → Reply
 
 -- the refusal number of a reply, or 0
 abbrev pub codeOf : Reply → ℕ
 codeOf (wrote answer) = answer .code
 codeOf (found answer) = answer .code
+codeOf (totalled answer) = answer .code
 
 -- which of them a call gives
 pub data Kind : Type 0 where
   writing : Kind
   reading : Kind
+  totalling : Kind
 
 -- "A refused call .. answers its number and 0."
 abbrev pub refusedAs : Kind → ℕ → Reply
 refusedAs writing code = wrote (refused code)
 refusedAs reading code = found (refusedRead code)
+refusedAs totalling code = totalled (refusedNumber code)
 
 -- what an accepted call changes: nothing, or one slot
 pub data Change : Type 0 where

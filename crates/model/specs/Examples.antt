@@ -10,6 +10,7 @@ use Rattle.limits.specs.Sizes.{workspaceWords}
 use Rattle.limits.specs.Ranges.{inRange}
 use Rattle.answers.specs.Refusals.{accepted, refused}
 use Rattle.answers.specs.Reads.{foundAnswer, refusedRead}
+use Rattle.answers.specs.Numbers.{numberAnswer, refusedNumber}
 use Rattle.grid.specs.declared.Cell.the-variants.{Absent, Present}
 use Rattle.grid.specs.declared.EntryAt.the-variants as entry
 use Rattle.grid.specs.Entries.{one, gather, flatten}
@@ -17,13 +18,14 @@ use Rattle.grid.specs.Position.{entryAt}
 use Rattle.operations.specs.Calls.{callFinal, listValid, indexesValid, shapesAgree}
 use Rattle.operations.specs.WriteBacks.{writeBack}
 use Rattle.operators.specs.Operators.{binaryWord, unaryWord, entryWord}
-use Rattle.operator_codes.specs.Codes.{binaryNumbered, unaryNumbered, applyNumbered}
+use Rattle.operator_codes.specs.Codes.{binaryNumbered, monoidNumbered, unaryNumbered, applyNumbered}
+use Rattle.reductions.specs.Reductions.{reducedRow, gridTotal}
 use Rattle.twos_complement.specs.TwosComplement.{signed, word}
 use Rattle.call_codes.specs.declared.Options.{Options}
 use Rattle.call_codes.specs.declared.Verb.{Verb}
-use Rattle.call_codes.specs.declared.Verb.the-variants.{EwiseAdd, Apply, Extract}
+use Rattle.call_codes.specs.declared.Verb.the-variants.{EwiseAdd, Apply, Extract, ReduceRows}
 use Rattle.model.specs.Model.{Model, vacant, holding, fresh}
-use Rattle.model.specs.Effects.{Reply, wrote, found, replyOf, nextOf}
+use Rattle.model.specs.Effects.{Reply, wrote, found, totalled, replyOf, nextOf}
 use Rattle.model.specs.Calls.{
   StoreCall,
   newEmpty,
@@ -32,6 +34,7 @@ use Rattle.model.specs.Calls.{
   clearCell,
   readCell,
   operate,
+  reduceSlot,
   effect,
 }
 use Rattle.model.specs.Histories.{replies, modelAfter}
@@ -310,3 +313,44 @@ exact-answered : replies 62 (modelAfter 62 fresh laid) (difference true 0 1 2 3 
 unfolding effect replyOf nextOf entryAt inRange _and_ all flatten gather one callFinal indexesValid listValid shapesAgree
     writeBack binaryWord binaryNumbered signed word
 exact-answered = refl
+
+-- ---- reductions: 12 before 2, 2 before 13; the identities of an empty grid; the slot stays. The rows of slot 0 into one row
+abbrev totalCalls : List StoreCall
+totalCalls =
+    reduceSlot 8 4
+    ∷ reduceSlot 7 4
+    ∷ reduceSlot 7 3
+    ∷ reduceSlot 0 3
+    ∷ reduceSlot 0 6
+    ∷ reduceSlot 4 5
+    ∷ reduceSlot 4 6
+    ∷ reduceSlot 4 7
+    ∷ readCell 0 0 0
+    ∷ asked 0 (ReduceRows 3) 0 0 4 [] [] workspaceWords
+    ∷ asked 8 (ReduceRows 3) 0 0 4 [] [] workspaceWords
+    ∷ readCell 4 0 0
+    ∷ []
+
+abbrev number : ℕ → Reply
+number v = totalled (numberAnswer v)
+
+abbrev numberRefusal : ℕ → Reply
+numberRefusal code = totalled (refusedNumber code)
+
+totals-answered : replies 200 (modelAfter 200 fresh (laid ++ (newEmpty 4 1 1 ∷ []))) totalCalls
+    ≡ numberRefusal 12
+    ∷ numberRefusal 2
+    ∷ numberRefusal 13
+    ∷ number 12
+    ∷ number 5
+    ∷ number 1
+    ∷ number 2147483647
+    ∷ number 2147483648
+    ∷ value 5
+    ∷ entries 1
+    ∷ refusal 8
+    ∷ value 12
+    ∷ []
+unfolding effect replyOf nextOf inRange _and_ all flatten gather one callFinal indexesValid listValid shapesAgree writeBack
+    binaryWord monoidNumbered reducedRow gridTotal signed word
+totals-answered = refl

@@ -12,9 +12,11 @@ use Rattle.grid.specs.declared.Cell.{Cell}
 use Rattle.grid.specs.Grid.{Grid, Same}
 use Rattle.operators.specs.declared.BinaryOp.{BinaryOp}
 use Rattle.operators.specs.declared.Monoid.{Monoid}
+use Rattle.reductions.specs.Reductions.{reducedRow}
+use Rattle.reductions.proofs.Same.{row-same}
 use Rattle.operations.specs.declared.Operation.{Operation}
-use Rattle.operations.specs.declared.Operation.the-variants.{Mxm, EwiseMult, EwiseAdd, Apply, Extract}
-use Rattle.operations.specs.CellOperations.{dot, intersect, unite, applyCell}
+use Rattle.operations.specs.declared.Operation.the-variants.{Mxm, EwiseMult, EwiseAdd, Apply, Extract, Select, ReduceRows}
+use Rattle.operations.specs.CellOperations.{dot, intersect, unite, applyCell, selectCell}
 use Rattle.operations.specs.declared.Needs.{Needs}
 use Rattle.operations.specs.declared.Shape.{Shape}
 use Rattle.operations.specs.declared.Shapes.{Shapes}
@@ -51,6 +53,8 @@ module _ (a b b′ c : Grid) (is is′ js js′ : List ℕ) where
   second-cells (EwiseAdd op) h = absurd (false≢true (sym h))
   second-cells (Apply op) h = refl
   second-cells Extract h = refl
+  second-cells (Select op) h = refl
+  second-cells (ReduceRows monoid) h = refl
 
   lists-cells : (op : Operation) → hasLists op ≡ false
       → resultCell op a b c is js ≡ resultCell op a b c is′ js′
@@ -59,6 +63,8 @@ module _ (a b b′ c : Grid) (is is′ js js′ : List ℕ) where
   lists-cells (EwiseAdd op) h = refl
   lists-cells (Apply op) h = refl
   lists-cells Extract h = absurd (false≢true (sym h))
+  lists-cells (Select op) h = refl
+  lists-cells (ReduceRows monoid) h = refl
 
 -- the shapes of a call, one by one
 abbrev shapesFrom : Shape → Shape → Shape → Shape → Shapes
@@ -72,6 +78,8 @@ lists-needs (EwiseMult op) s l h = refl
 lists-needs (EwiseAdd op) s l h = refl
 lists-needs (Apply op) s l h = refl
 lists-needs Extract s l h = absurd (false≢true (sym h))
+lists-needs (Select op) s l h = refl
+lists-needs (ReduceRows monoid) s l h = refl
 
 -- the bounds of the indexes are the shape of a matrix of the call
 pub bounds-small : (n : ℕ) (s : Shapes) → Small n (s .first) → Small n (s .output) → (op : Operation)
@@ -81,6 +89,8 @@ bounds-small n s first output (EwiseMult op) = first
 bounds-small n s first output (EwiseAdd op) = first
 bounds-small n s first output (Apply op) = first
 bounds-small n s first output Extract = first
+bounds-small n s first output (Select op) = first
+bounds-small n s first output (ReduceRows monoid) = first
 
 -- the shapes of grids that agree
 shape-same : (g h : Grid) → Same g h → shapeOf g ≡ shapeOf h
@@ -124,6 +134,11 @@ module _ (a a′ b b′ c c′ : Grid) (is js : List ℕ) (s : Same a a′) (u :
       ap (applyCell op i j) (s .cell i j l m)
   cell-same Extract t g v i j l m =
       s .cell (at is i) (at js j) (list-facts _ _ (and-left _ _ v) .below i l) (list-facts _ _ (and-right _ _ v) .below j m)
+  cell-same (Select op) t g v i j l m =
+      ap (selectCell op i j) (s .cell i j l m)
+  cell-same (ReduceRows monoid) t g v i j l m =
+      ap (λ (n : ℕ). reducedRow monoid n (a .cell j)) (s .cols)
+      ∙ row-same monoid (a′ .cols) _ _ (λ k q. s .cell j k m q)
 
   -- the shapes of a call
   pub shapes-of-same : (op : Operation) → (hasSecond op ≡ true → Same b b′)

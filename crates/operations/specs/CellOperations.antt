@@ -1,11 +1,14 @@
--- What the operations do with the cells at one position (document 01, "The six operations").
+-- What the operations do with the cells at one position (document 01, "The six operations", and document 02, A4).
 use Prim.Native.Nat.{ℕ, zero, suc}
+use mathlib.Core.Bool.{cond}
 use Rattle.grid.specs.declared.Cell.{Cell}
 use Rattle.grid.specs.declared.Cell.the-variants.{Absent, Present}
 use Rattle.operators.specs.declared.ApplyOp.{ApplyOp}
 use Rattle.operators.specs.declared.BinaryOp.{BinaryOp}
 use Rattle.operators.specs.declared.Monoid.{Monoid}
 use Rattle.operators.specs.Operators.{binaryWord, monoidOp, entryWord}
+use Rattle.select_ops.specs.declared.SelectOp.{SelectOp}
+use Rattle.select_ops.specs.Selects.{selects}
 
 -- "the operator where both are present, otherwise nothing"
 abbrev pub intersect : BinaryOp → Cell → Cell → Cell
@@ -29,3 +32,8 @@ dot monoid op (suc n) row col = unite (monoidOp monoid) (dot monoid op n row col
 abbrev pub applyCell : ApplyOp → ℕ → ℕ → Cell → Cell
 applyCell op i j Absent = Absent
 applyCell op i j (Present x) = Present (entryWord op x i j)
+
+-- select: an entry for which the condition holds is kept as it is, at row i and column j of the input as its flag asks
+abbrev pub selectCell : SelectOp → ℕ → ℕ → Cell → Cell
+selectCell op i j Absent = Absent
+selectCell op i j (Present x) = cond (selects op x i j) (Present x) Absent

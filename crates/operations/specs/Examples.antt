@@ -17,10 +17,15 @@ use Rattle.operators.specs.declared.UnaryOp.the-variants.{Identity}
 use Rattle.operators.specs.declared.IndexUnaryOp.{IndexUnaryOp}
 use Rattle.operators.specs.declared.IndexUnaryOp.the-variants.{RowIndex, ColIndex, DiagIndex}
 use Rattle.operators.specs.Operators.{binaryWord, indexUnaryWord, entryWord}
+use Rattle.select_ops.specs.declared.SelectOp.{SelectOp}
+use Rattle.select_ops.specs.declared.SelectOp.the-variants.{ValueGt, Tril, Triu}
+use Rattle.select_ops.specs.Selects.{selects}
+use Rattle.grid.specs.Entries.{one, gather}
+use Rattle.reductions.specs.Reductions.{reducedRow}
 use Rattle.operations.specs.declared.Accumulator.the-variants.{Absent as NoAccumulator, Present as By}
 use Rattle.operations.specs.declared.Call.{Call}
 use Rattle.operations.specs.declared.Operation.{Operation}
-use Rattle.operations.specs.declared.Operation.the-variants.{Mxm, EwiseMult, EwiseAdd, Apply, Extract}
+use Rattle.operations.specs.declared.Operation.the-variants.{Mxm, EwiseMult, EwiseAdd, Apply, Extract, Select, ReduceRows}
 use Rattle.operations.specs.CellOperations.{intersect, unite, dot, applyCell}
 use Rattle.operations.specs.GridOperations.{oriented}
 use Rattle.operations.specs.WriteBacks.{accumulated}
@@ -53,6 +58,13 @@ add = EwiseAdd binary.Minus
 
 abbrev same : Operation
 same = Apply (Unary Identity)
+
+-- a select and a reduction of rows
+abbrev above : Operation
+above = Select (ValueGt 10)
+
+abbrev sums : Operation
+sums = ReduceRows monoid.Plus
 
 -- calls without mask, with one, and with a vector as first input
 abbrev plain : ℕ → Operation → Call
@@ -154,6 +166,18 @@ apply-lists = refl
 
 extract-lists : hasLists Extract ≡ true
 extract-lists = refl
+
+select-second : hasSecond above ≡ false
+select-second = refl
+
+select-lists : hasLists above ≡ false
+select-lists = refl
+
+sums-second : hasSecond sums ≡ false
+sums-second = refl
+
+sums-lists : hasLists sums ≡ false
+sums-lists = refl
 
 -- the shapes of a call without lists: a, b, mask and C
 abbrev agree : Call → Grid → Grid → Grid → Grid → Bool
@@ -290,6 +314,69 @@ diagonal-transposed = refl
 row-stored : numbered 0 RowIndex 0 2 5 ≡ Present 2
 unfolding entryWord indexUnaryWord signed word
 row-stored = refl
+
+-- document 02, A4: select keeps an entry as it is, or not at all; T has A's shape
+select-agrees : agree (plain 0 above) (by 2 3) (by 5 7) (by 1 1) (by 2 3) ≡ true
+unfolding shapesAgree _and_
+select-agrees = refl
+
+select-turned : agree (plain 0 above) (by 2 3) (by 5 7) (by 1 1) (by 3 2) ≡ false
+unfolding shapesAgree _and_
+select-turned = refl
+
+select-kept : callResult (plain 0 above) wide (by 1 1) (by 2 3) [] [] .cell 1 2 ≡ Present 12
+unfolding selects signed
+select-kept = refl
+
+select-dropped : callResult (plain 0 above) wide (by 1 1) (by 2 3) [] [] .cell 1 0 ≡ Absent
+unfolding selects signed
+select-dropped = refl
+
+-- A5: "An entry stored at (2, 5) of a transposed input has row 5 and column 2, for select too."
+abbrev triangle : ℕ → SelectOp → ℕ → ℕ → Cell
+triangle flags op i j = callResult (plain flags (Select op)) threeBySix (by 1 1) (by 6 3) [] [] .cell i j
+
+lower-transposed : triangle 8 (Tril 0) 5 2 ≡ Present 1
+unfolding selects signed
+lower-transposed = refl
+
+upper-transposed : triangle 8 (Triu 0) 5 2 ≡ Absent
+unfolding selects signed
+upper-transposed = refl
+
+lower-stored : triangle 0 (Tril 0) 2 5 ≡ Absent
+unfolding selects signed
+lower-stored = refl
+
+-- "rows into a strip 1 by R", of A as transposed: not R by 1, and not 1 by A's columns
+sums-agree : agree (plain 0 sums) (by 2 3) (by 5 7) (by 1 1) (by 1 2) ≡ true
+unfolding shapesAgree _and_
+sums-agree = refl
+
+sums-turned : agree (plain 0 sums) (by 2 3) (by 5 7) (by 1 1) (by 2 1) ≡ false
+unfolding shapesAgree _and_
+sums-turned = refl
+
+sums-columns : agree (plain 0 sums) (by 2 3) (by 5 7) (by 1 1) (by 1 3) ≡ false
+unfolding shapesAgree _and_
+sums-columns = refl
+
+sums-transposed : agree (plain 8 sums) (by 2 3) (by 5 7) (by 1 1) (by 1 3) ≡ true
+unfolding shapesAgree _and_
+sums-transposed = refl
+
+sums-mask : agree (masked 0 sums) (by 2 3) (by 5 7) (by 2 1) (by 1 2) ≡ false
+unfolding shapesAgree _and_
+sums-mask = refl
+
+-- row 1 of 10, 11 and 12; transposed, row 2 of 2 and 12
+sums-row : callResult (plain 0 sums) wide (by 1 1) (by 1 2) [] [] .cell 0 1 ≡ Present 33
+unfolding reducedRow gather one binaryWord signed word
+sums-row = refl
+
+sums-column : callResult (plain 8 sums) wide (by 1 1) (by 1 3) [] [] .cell 0 2 ≡ Present 14
+unfolding reducedRow gather one binaryWord signed word
+sums-column = refl
 
 -- 0 up to n, n not among them
 abbrev counting : ℕ → List ℕ

@@ -1,5 +1,6 @@
--- What each operation is, on plain grids (document 01, "The six operations"): which inputs it has, the shapes that it asks
--- for, and T: "T is worked out first, in every place (i, j)". Whatever else depends on the operation follows from these.
+-- What each operation is, on plain grids (document 01, "The six operations", and document 02, A4): which inputs it has, the
+-- shapes that it asks for, and T: "T is worked out first, in every place (i, j)". Whatever else depends on the operation
+-- follows from these.
 use Prim.Native.Nat.{ℕ}
 use mathlib.Core.List.{List}
 use mathlib.Core.Bool.{Bool, true, false, cond}
@@ -7,9 +8,10 @@ use lib.ListN.{length}
 use Rattle.words.specs.Words.{at}
 use Rattle.grid.specs.declared.Cell.{Cell}
 use Rattle.grid.specs.Grid.{Grid}
-use Rattle.operations.specs.CellOperations.{intersect, unite, dot, applyCell}
+use Rattle.reductions.specs.Reductions.{reducedRow}
+use Rattle.operations.specs.CellOperations.{intersect, unite, dot, applyCell, selectCell}
 use Rattle.operations.specs.declared.Operation.{Operation}
-use Rattle.operations.specs.declared.Operation.the-variants.{Mxm, EwiseMult, EwiseAdd, Apply, Extract}
+use Rattle.operations.specs.declared.Operation.the-variants.{Mxm, EwiseMult, EwiseAdd, Apply, Extract, Select, ReduceRows}
 use Rattle.operations.specs.declared.Inputs.{Inputs}
 use Rattle.operations.specs.declared.Shape.{Shape}
 use Rattle.operations.specs.declared.Shapes.{Shapes}
@@ -39,6 +41,8 @@ inputsOf (EwiseMult op) = record { second = true; lists = false }
 inputsOf (EwiseAdd op) = record { second = true; lists = false }
 inputsOf (Apply op) = record { second = false; lists = false }
 inputsOf Extract = record { second = false; lists = true }
+inputsOf (Select op) = record { second = false; lists = false }
+inputsOf (ReduceRows monoid) = record { second = false; lists = false }
 
 -- What it asks for: the shapes that both inputs have to have, the bounds of the indexes, and T's shape, each by what it is
 -- made of. An input that may have any shape is asked for its own; the bounds matter where there are lists.
@@ -54,6 +58,9 @@ rulesOf (EwiseAdd op) = rules part.First part.First part.First part.First
 rulesOf (Apply op) = rules part.First part.Second part.First part.First
 -- "T(i,j) = A(I[i], J[j])"; an index "past A (as transposed)" is refused
 rulesOf Extract = rules part.First part.Second part.First part.Lists
+rulesOf (Select op) = rules part.First part.Second part.First part.First
+-- "rows into a strip 1 by R"
+rulesOf (ReduceRows monoid) = rules part.First part.Second part.First part.OfRows
 
 -- the shape that a part names, of the shapes of a call: those of the inputs as their flags ask and of the old C, and the
 -- lengths of the lists
@@ -64,6 +71,7 @@ partShape part.Inner s = s .first .cols by s .second .cols
 partShape part.Outer s = s .first .rows by s .second .cols
 partShape part.Lists s = s .lists
 partShape part.Output s = s .output
+partShape part.OfRows s = 1 by s .first .rows
 
 -- what it asks of the shapes of a call
 abbrev pub needsOf : Operation → Shapes → Needs
@@ -87,6 +95,10 @@ resultCell (EwiseAdd op) a b c is js i j = unite op (a .cell i j) (b .cell i j)
 resultCell (Apply op) a b c is js i j = applyCell op i j (a .cell i j)
 -- "T(i,j) = A(I[i], J[j])"
 resultCell Extract a b c is js i j = a .cell (at is i) (at js j)
+-- select, with row and column as for apply
+resultCell (Select op) a b c is js i j = selectCell op i j (a .cell i j)
+-- column j of the strip has the total of row j
+resultCell (ReduceRows monoid) a b c is js i j = reducedRow monoid (a .cols) (a .cell j)
 
 -- the shape of a grid
 abbrev pub shapeOf : Grid → Shape

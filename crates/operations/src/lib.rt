@@ -1,18 +1,22 @@
-// The six operations as values: what each has and asks for, what T is, and how it is written back. Their meaning on plain
-// grids is in specs/.
+// The operations that give a matrix, as values: what each has and asks for, what T is, and how it is written back. Their
+// meaning on plain grids is in specs/.
 use operators::ApplyOp;
 use operators::BinaryOp;
 use operators::Monoid;
+use select_ops::SelectOp;
 ghost use mathlib.Core.Path.{_≡_};
 ghost use Rattle.operations.specs.GridOperations.{inputsOf, rulesOf, partShape, needsOf};
 
-// Document 01's operations that give a T. A vector times a matrix is the product with a first input of one row.
+// Document 01's operations that give a T, and document 02's. A vector times a matrix is the product with a first input of one
+// row.
 pub enum Operation {
     Mxm(Monoid, BinaryOp),
     EwiseMult(BinaryOp),
     EwiseAdd(BinaryOp),
     Apply(ApplyOp),
     Extract,
+    Select(SelectOp),
+    ReduceRows(Monoid),
 }
 
 // "Whether there is a mask or an accumulator is said apart from its words or number."
@@ -30,7 +34,7 @@ pub struct WriteBack {
     pub accumulator: Accumulator,
 }
 
-// A call of one of the six operations, its numbers decoded: the flags, whether every operator, monoid and accumulator
+// A call of one of these operations, its numbers decoded: the flags, whether every operator, monoid and accumulator
 // number is one, what is computed, whether the first input has to be a vector (it is then never transposed), whether
 // there is a mask, and the accumulator.
 pub struct Call {
@@ -92,11 +96,13 @@ pub fn inputs_of(operation: Operation) -> Inputs
         Operation::EwiseAdd(_) => with_second,
         Operation::Apply(_) => alone,
         Operation::Extract => with_lists,
+        Operation::Select(_) => alone,
+        Operation::ReduceRows(_) => alone,
     }
 }
 
 // A shape that an operation asks for or gives, by what it is made of: the first input, the second, A's columns by B's
-// columns, A's rows by B's columns, the lengths of the lists, the old C.
+// columns, A's rows by B's columns, the lengths of the lists, the old C, a vector with a place for each of A's rows.
 pub enum Part {
     First,
     Second,
@@ -104,6 +110,7 @@ pub enum Part {
     Outer,
     Lists,
     Output,
+    OfRows,
 }
 
 // What an operation asks for: the shapes of its inputs, the bounds of the indexes, and T's shape.
@@ -143,12 +150,20 @@ fn rules_of(operation: Operation) -> Rules
         bounds: Part::First,
         result: Part::Lists,
     };
+    let by_row = Rules {
+        first: Part::First,
+        second: Part::Second,
+        bounds: Part::First,
+        result: Part::OfRows,
+    };
     match operation {
         Operation::Mxm(_, _) => product,
         Operation::EwiseMult(_) => same,
         Operation::EwiseAdd(_) => same,
         Operation::Apply(_) => single,
         Operation::Extract => listed,
+        Operation::Select(_) => single,
+        Operation::ReduceRows(_) => by_row,
     }
 }
 
@@ -173,6 +188,10 @@ fn part_shape(part: Part, shapes: Shapes) -> Shape
         },
         Part::Lists => lists,
         Part::Output => output,
+        Part::OfRows => Shape {
+            rows: 1,
+            cols: first.rows,
+        },
     }
 }
 

@@ -9,6 +9,16 @@ use Rattle.operators.specs.declared.Monoid.the-variants as monoid-op
 use Rattle.operators.specs.declared.UnaryOp.the-variants.{Identity, Ainv, Abs, Lnot, One}
 use Rattle.operators.specs.declared.IndexUnaryOp.the-variants.{RowIndex, ColIndex, DiagIndex}
 use Rattle.operators.specs.declared.ApplyOp.the-variants.{Unary, BinaryScalarFirst, BinaryScalarSecond, IndexUnary}
+use Rattle.select_ops.specs.declared.SelectOp.the-variants.{
+  ValueEq,
+  ValueNe,
+  ValueLt,
+  ValueLe,
+  ValueGt,
+  ValueGe,
+  Tril,
+  Triu,
+}
 use Rattle.operator_codes.specs.declared.BinaryCode.{BinaryCode}
 use Rattle.operator_codes.specs.declared.BinaryCode.the-variants as binary
 use Rattle.operator_codes.specs.declared.MonoidCode.{MonoidCode}
@@ -19,6 +29,8 @@ use Rattle.operator_codes.specs.declared.IndexUnaryCode.{IndexUnaryCode}
 use Rattle.operator_codes.specs.declared.IndexUnaryCode.the-variants as index
 use Rattle.operator_codes.specs.declared.ApplyCode.{ApplyCode}
 use Rattle.operator_codes.specs.declared.ApplyCode.the-variants as apply
+use Rattle.operator_codes.specs.declared.SelectCode.{SelectCode}
+use Rattle.operator_codes.specs.declared.SelectCode.the-variants as select
 
 -- "0, 1, 2 | FIRST, SECOND, ONEB", "3, 4, 5 | PLUS, MINUS, TIMES", "6, 7 | MIN, MAX"
 abbrev pub binaryTable : List BinaryCode
@@ -103,6 +115,23 @@ applyTable number s =
 unfoldable pub applyNumbered : ℕ → ℕ → ℕ → ApplyCode
 applyNumbered kind number s = getD (applyTable number s) kind apply.Unknown
 
+-- document 02, A4: "equal, not equal, less, at most, greater, at least (value against s), lower triangle (j at most i+s) and
+-- upper triangle (j at least i+s), .. numbered 0 to 7 in this order"
+abbrev pub selectTable : ℕ → List SelectCode
+selectTable s =
+    select.Known (ValueEq s)
+    ∷ select.Known (ValueNe s)
+    ∷ select.Known (ValueLt s)
+    ∷ select.Known (ValueLe s)
+    ∷ select.Known (ValueGt s)
+    ∷ select.Known (ValueGe s)
+    ∷ select.Known (Tril s)
+    ∷ select.Known (Triu s)
+    ∷ []
+
+unfoldable pub selectNumbered : ℕ → ℕ → SelectCode
+selectNumbered n s = getD (selectTable s) n select.Unknown
+
 -- MINUS, number 4, is no monoid, and neither is a number above 7
 no-monoid-minus : monoidNumbered 4 ≡ monoid.Unknown
 unfolding monoidNumbered
@@ -130,3 +159,12 @@ no-unary-five = refl
 no-kind-four : applyNumbered 4 0 0 ≡ apply.Unknown
 unfolding applyNumbered
 no-kind-four = refl
+
+-- the last condition, and the first number that is none
+select-seven : selectNumbered 7 9 ≡ select.Known (Triu 9)
+unfolding selectNumbered
+select-seven = refl
+
+no-select-eight : selectNumbered 8 9 ≡ select.Unknown
+unfolding selectNumbered
+no-select-eight = refl

@@ -1,12 +1,13 @@
 // The operators by number (document 01, "Operators"). A number that stands for no operator is answered by Unknown.
 ghost use mathlib.Core.Path.{_≡_};
 ghost use Rattle.operator_codes.specs.Codes.{binaryNumbered, monoidNumbered, unaryNumbered};
-ghost use Rattle.operator_codes.specs.Codes.{indexUnaryNumbered, applyNumbered};
+ghost use Rattle.operator_codes.specs.Codes.{indexUnaryNumbered, applyNumbered, selectNumbered};
 use operators::ApplyOp;
 use operators::BinaryOp;
 use operators::IndexUnaryOp;
 use operators::Monoid;
 use operators::UnaryOp;
+use select_ops::SelectOp;
 
 pub enum BinaryCode {
     Known(BinaryOp),
@@ -30,6 +31,11 @@ pub enum IndexUnaryCode {
 
 pub enum ApplyCode {
     Known(ApplyOp),
+    Unknown,
+}
+
+pub enum SelectCode {
+    Known(SelectOp),
     Unknown,
 }
 
@@ -112,5 +118,22 @@ pub fn apply_code(kind: u32, number: u32, scalar: u32) -> ApplyCode
             IndexUnaryCode::Unknown => ApplyCode::Unknown,
         },
         _ => ApplyCode::Unknown,
+    }
+}
+
+// The condition of a number, 0 to 7, with its scalar.
+pub fn select_code(number: u32, scalar: u32) -> SelectCode
+    ensures { λ r. ⌜ r ≡ selectNumbered number scalar ⌝ }
+{
+    match number {
+        0 => SelectCode::Known(SelectOp::ValueEq(scalar)),
+        1 => SelectCode::Known(SelectOp::ValueNe(scalar)),
+        2 => SelectCode::Known(SelectOp::ValueLt(scalar)),
+        3 => SelectCode::Known(SelectOp::ValueLe(scalar)),
+        4 => SelectCode::Known(SelectOp::ValueGt(scalar)),
+        5 => SelectCode::Known(SelectOp::ValueGe(scalar)),
+        6 => SelectCode::Known(SelectOp::Tril(scalar)),
+        7 => SelectCode::Known(SelectOp::Triu(scalar)),
+        _ => SelectCode::Unknown,
     }
 }

@@ -21,7 +21,7 @@ rank x = (x + 2 ^ 31) % 2 ^ 32
 pub rank-one : {x y : ℕ} → x < 2 ^ 32 → y < 2 ^ 32 → rank x ≡ rank y → x ≡ y
 rank-one {x} {y} hx hy e = omega arith
 
-leb-same : (a b c d : ℕ) → (a ≤ b → c ≤ d) → (c ≤ d → a ≤ b) → leb a b ≡ leb c d
+pub leb-same : (a b c d : ℕ) → (a ≤ b → c ≤ d) → (c ≤ d → a ≤ b) → leb a b ≡ leb c d
 leb-same a b c d f g = go (decLe a b)
   where
     go : Dec (a ≤ b) → leb a b ≡ leb c d
@@ -35,7 +35,7 @@ leb-same a b c d f g = go (decLe a b)
         above (no k) h = omega arith
 
 -- the order of the numbers is the order of the ranks
-rank-order : (x y : ℕ) → x < 2 ^ 32 → y < 2 ^ 32 → leZ (signed x) (signed y) ≡ leb (rank x) (rank y)
+pub rank-order : (x y : ℕ) → x < 2 ^ 32 → y < 2 ^ 32 → leZ (signed x) (signed y) ≡ leb (rank x) (rank y)
 rank-order x y hx hy =
     signed-cases (λ z. leZ z (signed y) ≡ leb (rank x) (rank y)) x hx
     (λ l.

@@ -6,6 +6,7 @@ use operators::ApplyOp;
 use operators::BinaryOp;
 use operators::Monoid;
 use products::Engine;
+use select_ops::SelectOp;
 ghost use mathlib.Core.Path.{_≡_};
 ghost use Prim.Native.Nat.{_≤_, _<_};
 ghost use lib.ListN.{length};
@@ -13,7 +14,7 @@ ghost use Rattle.words.specs.Words.{at};
 ghost use Rattle.rows.specs.Row.{Holds};
 ghost use Rattle.matrix.specs.Layout.{rows, cols, cellOf, gridOf};
 ghost use Rattle.matrix.specs.Facts.{Matrix};
-ghost use Rattle.operations.specs.CellOperations.{dot, applyCell};
+ghost use Rattle.operations.specs.CellOperations.{dot, applyCell, selectCell};
 ghost use Rattle.operations.specs.GridOperations.{resultGrid};
 ghost use Rattle.merge.specs.Combined.{combined};
 ghost use Rattle.result_rows.specs.RowInputs.{RowInputs, Buffers, ProductInputs, PairInputs, ListInputs, noCell};
@@ -46,6 +47,8 @@ pub fn result_row(
         Operation::EwiseAdd(op) => pair(Combine::Unite(op), a, b, i, oc, ov),
         Operation::Apply(op) => applied(op, a, i, oc, ov),
         Operation::Extract => extracted(a, b, is, js, i, oc, ov),
+        Operation::Select(op) => selected(op, a, i, oc, ov),
+        Operation::ReduceRows(monoid) => reduce_rows::reduce_rows(monoid, a, oc, ov),
     }
 }
 
@@ -141,6 +144,25 @@ fn extracted(
         matrix::row_values(a, row),
         js,
         b,
+        oc,
+        ov,
+    )
+}
+
+// A row of select.
+fn selected(op: SelectOp, a: &[u32], i: usize, oc: &mut [u32], ov: &mut [u32]) -> usize
+    requires { ⌜ Matrix (now a) ⌝ ∗ ⌜ i < rows (now a) ⌝ }
+    requires { ⌜ (cols (now a) ≤ length (now oc)) × (cols (now a) ≤ length (now ov)) ⌝ }
+    ensures { λ r. ⌜ Holds (cols (now (a .entry)))
+        (λ j. selectCell op i j (cellOf (now (a .entry)) i j))
+        r (now (oc .exit)) (now (ov .exit)) ⌝ }
+{
+    select_rows::select_row(
+        matrix::col_count(a) as usize,
+        op,
+        i as u32,
+        matrix::row_columns(a, i),
+        matrix::row_values(a, i),
         oc,
         ov,
     )

@@ -72,6 +72,11 @@ fn part_cases(scenes: &[Scene]) -> Result<Vec<Case>, String> {
     for Scene { size, a, .. } in scenes {
         let variant = format!("a matrix of {} entries in {} rows", size.entries, size.side);
         cases.push(part_case("`check`", &variant, Job::Check(a.words()))?);
+        let job = Job::Reduce(a.words());
+        let peer = agree_total(peer::total(&a.words()), &job, &variant)?;
+        let mut reduce = part_case("`reduce`", &variant, job)?;
+        reduce.subjects[2] = peer;
+        cases.push(reduce);
     }
     let Scene { a, b, mask, c, .. } = &scenes[0];
     let refused = lent_job(Operation::Mxm, REFUSED, [a, b, mask, c]);
@@ -80,6 +85,21 @@ fn part_cases(scenes: &[Scene]) -> Result<Vec<Case>, String> {
     fill.subjects[0] = None;
     cases.push(fill);
     Ok(cases)
+}
+
+/// SuiteSparse's total, if it has it, beside the library's.
+fn agree_total(
+    peer: Option<(Box<dyn Subject>, i32)>,
+    job: &Job,
+    variant: &str,
+) -> Result<Option<Box<dyn Subject>>, String> {
+    let Some((subject, total)) = peer else {
+        return Ok(None);
+    };
+    match library::run(job, &mut Buffers::default()) == u64::from(total as u32) << 32 {
+        true => Ok(Some(subject)),
+        false => Err(format!("`reduce`, {variant}: the library and SuiteSparse disagree")),
+    }
 }
 
 fn part_case(call: &'static str, variant: &str, job: Job) -> Result<Case, String> {
@@ -185,7 +205,11 @@ fn lent_cases(scene: &Scene) -> Result<Vec<Case>, String> {
         ("`apply`", plain_text(""), lent_job(Operation::Apply, PLAIN, [a, b, mask, c])),
         ("`apply`", all.clone(), lent_job(Operation::Apply, EVERYTHING, [a, b, mask, c])),
         ("`extract`", plain_text(""), lent_job(extract(scene), PLAIN, [a, b, mask, c])),
-        ("`extract`", all, lent_job(extract(scene), EVERYTHING, [a, b, mask, c])),
+        ("`extract`", all.clone(), lent_job(extract(scene), EVERYTHING, [a, b, mask, c])),
+        ("`select`", plain_text(""), lent_job(Operation::Select, PLAIN, [a, b, mask, c])),
+        ("`select`", all.clone(), lent_job(Operation::Select, EVERYTHING, [a, b, mask, c])),
+        ("`reduce_rows`", plain_text(""), lent_job(Operation::ReduceRows, PLAIN, [a, b, vector_mask, w])),
+        ("`reduce_rows`", all, lent_job(Operation::ReduceRows, EVERYTHING, [a, b, vector_mask, w])),
     ];
     jobs.into_iter().map(|(call, variant, job)| lent_case(*size, call, variant, job)).collect()
 }
@@ -228,6 +252,7 @@ fn store_cases(scene: &Scene) -> Result<Vec<Case>, String> {
         ("`store_set_cell`", "a present cell", StoreCall::SetCell { slot: A, i, j, value: 7 }),
         ("`store_clear_cell`", "a present cell", StoreCall::ClearCell { slot: A, i, j }),
         ("`store_read_cell`", "a present cell", StoreCall::ReadCell { slot: A, i, j }),
+        ("`store_reduce`", "the first matrix", StoreCall::Reduce { slot: A }),
     ];
     let operation =
         |operation, options, [a, b, mask, c]: [usize; 4]| StoreCall::Operation { operation, options, a, b, mask, c };
@@ -238,6 +263,8 @@ fn store_cases(scene: &Scene) -> Result<Vec<Case>, String> {
         ("`store_ewise_add`", REPLACED_TEXT, operation(Operation::EwiseAdd, REPLACED, [A, B, B, C])),
         ("`store_apply`", "plain", operation(Operation::Apply, PLAIN, [A, A, A, C])),
         ("`store_extract`", "plain", operation(extract(scene), PLAIN, [A, A, A, C])),
+        ("`store_select`", "plain", operation(Operation::Select, PLAIN, [A, A, A, C])),
+        ("`store_reduce_rows`", "plain", operation(Operation::ReduceRows, PLAIN, [A, A, W, W])),
     ];
     let mut cases = Vec::new();
     for (call, variant, job) in cell_calls.into_iter().chain(operations) {
@@ -251,7 +278,7 @@ fn store_cases(scene: &Scene) -> Result<Vec<Case>, String> {
 
 fn store_case(scene: &Scene, a: &Entries, call: &'static str, variant: &str, job: StoreCall) -> Result<Case, String> {
     let peer = peer::element(&job, a);
-    let is_read = matches!(job, StoreCall::ReadCell { .. });
+    let is_read = matches!(job, StoreCall::ReadCell { .. } | StoreCall::Reduce { .. });
     let job = Job::Store(job, store_words(scene, a));
     let Agreed { subjects: [library, ordinary], answer, after } = agree(job, call, variant)?;
     let entries = if is_read { None } else { Some(accepted(answer, call, variant)?) };

@@ -20,6 +20,9 @@ pub const TIMES: u32 = 5;
 /// Apply multiplies by a scalar: the kind with the scalar second.
 const SCALAR_SECOND: u32 = 2;
 pub const SCALAR: u32 = 3;
+/// Select keeps what is at least this: some half of the values.
+const VALUEGE: u32 = 5;
+pub const THRESHOLD: u32 = 0;
 
 /// The buffers that calls write: the same for the library and the ordinary program.
 #[derive(Clone, PartialEq, Eq)]
@@ -42,6 +45,8 @@ pub enum Operation {
     EwiseAdd,
     Apply,
     Extract { rows: Vec<u32>, cols: Vec<u32> },
+    Select,
+    ReduceRows,
 }
 
 /// An operation on lent matrices. `c` is old C.
@@ -60,6 +65,7 @@ pub enum StoreCall {
     SetCell { slot: usize, i: u32, j: u32, value: u32 },
     ClearCell { slot: usize, i: u32, j: u32 },
     ReadCell { slot: usize, i: u32, j: u32 },
+    Reduce { slot: usize },
     Operation { operation: Operation, options: OptionNumbers, a: usize, b: usize, mask: usize, c: usize },
 }
 
@@ -68,6 +74,8 @@ pub enum Job {
     Check(Vec<u32>),
     /// Zeros over the workspace, by no call.
     Fill,
+    /// A matrix reduced to a number.
+    Reduce(Vec<u32>),
     /// Each cell of a lent vector, read one by one.
     ReadRow {
         words: Vec<u32>,
@@ -82,21 +90,26 @@ impl Job {
     /// Old C or the old store into their buffer. The workspace is as the last call left it: zeros.
     pub fn restore(&self, buffers: &mut Buffers) {
         match self {
-            Job::Check(_) | Job::Fill | Job::ReadRow { .. } => {}
+            Job::Check(_) | Job::Fill | Job::Reduce(_) | Job::ReadRow { .. } => {}
             Job::Lent(job) => buffers.c[..job.c.len()].copy_from_slice(&job.c),
             Job::Store(_, store) => buffers.store.copy_from_slice(store),
         }
     }
 
     pub fn repeats(&self) -> bool {
-        matches!(self, Job::Check(_) | Job::Fill | Job::ReadRow { .. } | Job::Store(StoreCall::ReadCell { .. }, _))
+        use StoreCall::{ReadCell, Reduce};
+        match self {
+            Job::Check(_) | Job::Fill | Job::Reduce(_) | Job::ReadRow { .. } => true,
+            Job::Lent(_) => false,
+            Job::Store(call, _) => matches!(call, ReadCell { .. } | Reduce { .. }),
+        }
     }
 
     /// Each word that the call is to look at is read once, each of C and of the workspace is written once. The workspace
     /// is left as a call leaves it.
     fn floor(&self, Buffers { c, store, work }: &mut Buffers) -> u32 {
         match self {
-            Job::Check(words) => read(words),
+            Job::Check(words) | Job::Reduce(words) => read(words),
             Job::Fill => write(work),
             Job::ReadRow { words, cols } => (0..*cols).fold(0, |bits, _| bits | read(black_box(words))),
             Job::Lent(job) if job.options.flags > MAX_FLAGS => write(work),
@@ -115,7 +128,8 @@ impl Job {
 impl LentJob {
     /// What the call reads beside old C; no words for what it has not.
     fn inputs(&self) -> [&[u32]; 5] {
-        let has_second = !matches!(self.operation, Operation::Apply | Operation::Extract { .. });
+        use Operation::{EwiseAdd, EwiseMult, Mxm, Vxm};
+        let has_second = matches!(self.operation, Mxm | Vxm | EwiseMult | EwiseAdd);
         let b = if has_second { &self.b[..] } else { &[] };
         let mask = if self.options.has_mask != 0 { &self.mask[..] } else { &[] };
         let [rows, cols] = self.operation.lists();
@@ -157,6 +171,7 @@ macro_rules! program {
             pub fn run(job: &Job, buffers: &mut Buffers) -> u64 {
                 match job {
                     Job::Check(words) => $calls::check(words),
+                    Job::Reduce(words) => $calls::reduce(PLUS, words),
                     Job::Fill => {
                         buffers.work.fill(0);
                         0
@@ -178,6 +193,8 @@ macro_rules! program {
                     Operation::EwiseAdd => $calls::ewise_add(*options, TIMES, a, b, mask, c, work),
                     Operation::Apply => $calls::apply(*options, SCALAR_SECOND, TIMES, SCALAR, a, mask, c, work),
                     Operation::Extract { rows, cols } => $calls::extract(*options, a, rows, cols, mask, c, work),
+                    Operation::Select => $calls::select(*options, VALUEGE, THRESHOLD, a, mask, c, work),
+                    Operation::ReduceRows => $calls::reduce_rows(*options, PLUS, a, mask, c, work),
                 }
             }
 
@@ -188,6 +205,7 @@ macro_rules! program {
                     StoreCall::SetCell { slot, i, j, value } => $calls::store_set_cell(slot, i, j, value, words),
                     StoreCall::ClearCell { slot, i, j } => $calls::store_clear_cell(slot, i, j, words),
                     StoreCall::ReadCell { slot, i, j } => $calls::store_read_cell(slot, i, j, words),
+                    StoreCall::Reduce { slot } => $calls::store_reduce(slot, PLUS, words),
                     StoreCall::Operation { ref operation, options, a, b, mask, c } => {
                         store_operation(operation, options, [a, b, mask, c], words, work)
                     }
@@ -212,6 +230,8 @@ macro_rules! program {
                     Operation::Extract { rows, cols } => {
                         $calls::store_extract(options, a, mask, c, words, rows, cols, work)
                     }
+                    Operation::Select => $calls::store_select(options, VALUEGE, THRESHOLD, a, mask, c, words, work),
+                    Operation::ReduceRows => $calls::store_reduce_rows(options, PLUS, a, mask, c, words, work),
                 }
             }
         }

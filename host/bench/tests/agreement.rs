@@ -24,6 +24,7 @@ macro_rules! program {
                 match call {
                     LentCall::Check { words } => ($calls::check(words), Vec::new()),
                     LentCall::ReadCell { words, i, j } => ($calls::read_cell(*i, *j, words), Vec::new()),
+                    LentCall::Reduce { words, monoid } => ($calls::reduce(*monoid, words), Vec::new()),
                     LentCall::RowView { first, second, i, values } => {
                         ($calls::row_view(*i, *values, first, second), Vec::new())
                     }
@@ -49,6 +50,8 @@ macro_rules! program {
                         $calls::apply(options, *kind, *op, *scalar, a, mask, c, work)
                     }
                     Operation::Extract { rows, cols } => $calls::extract(options, a, rows, cols, mask, c, work),
+                    Operation::Select { op, scalar } => $calls::select(options, *op, *scalar, a, mask, c, work),
+                    Operation::ReduceRows { monoid } => $calls::reduce_rows(options, *monoid, a, mask, c, work),
                 };
                 (answer, vec![c_words, work_words])
             }
@@ -64,6 +67,7 @@ macro_rules! program {
                     }
                     StoreCall::ClearCell { slot, i, j } => ($calls::store_clear_cell(*slot, *i, *j, words), Vec::new()),
                     StoreCall::ReadCell { slot, i, j } => ($calls::store_read_cell(*slot, *i, *j, words), Vec::new()),
+                    StoreCall::Reduce { slot, monoid } => ($calls::store_reduce(*slot, *monoid, words), Vec::new()),
                     StoreCall::Operation(call) => store_operation(words, call, work),
                 }
             }
@@ -86,6 +90,12 @@ macro_rules! program {
                     }
                     Operation::Extract { rows, cols } => {
                         $calls::store_extract(options, a, mask, c, words, rows, cols, work)
+                    }
+                    Operation::Select { op, scalar } => {
+                        $calls::store_select(options, *op, *scalar, a, mask, c, words, work)
+                    }
+                    Operation::ReduceRows { monoid } => {
+                        $calls::store_reduce_rows(options, *monoid, a, mask, c, words, work)
                     }
                 };
                 (answer, work_words)

@@ -8,8 +8,8 @@ use crate::names::Whole;
 use std::ffi::{OsStr, OsString};
 use std::path::PathBuf;
 
-const WITH_VALUE: [&str; 9] =
-    ["--mask", "--accum", "--semiring", "--op", "--first", "--second", "--scalar", "--rows", "--cols"];
+const WITH_VALUE: [&str; 10] =
+    ["--mask", "--accum", "--semiring", "--monoid", "--op", "--first", "--second", "--scalar", "--rows", "--cols"];
 const WITHOUT_VALUE: [&str; 6] =
     ["--replace", "--complement", "--structural", "--transpose-a", "--transpose-b", "--position"];
 

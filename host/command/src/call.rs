@@ -3,8 +3,10 @@
 use crate::arguments::Arguments;
 use crate::commands::Command;
 use crate::failure::Usage;
-use crate::names::{parse_apply, parse_binary, parse_semiring, ApplyName, IndexList, Whole};
-use ostrubel::{ApplyOp, BinaryOp, Options, Semiring};
+use crate::names::{
+    parse_apply, parse_binary, parse_monoid, parse_select, parse_semiring, ApplyName, IndexList, Whole,
+};
+use ostrubel::{ApplyOp, BinaryOp, Monoid, Options, SelectOp, Semiring};
 
 #[derive(Debug)]
 pub enum Call {
@@ -15,6 +17,7 @@ pub enum Call {
     Read { cell: Cell, position: bool },
     Show { slot: Whole },
     List,
+    Reduce { slot: Whole, monoid: Monoid },
     Operation(Operation),
     Doors(Doors),
 }
@@ -35,7 +38,7 @@ pub struct Doors {
     pub allowance: Whole,
 }
 
-/// One of the six operations; `c` is the slot that it writes.
+/// One of the operations that write a sheet; `c` is its slot.
 #[derive(Debug)]
 pub struct Operation {
     pub c: Whole,
@@ -51,6 +54,8 @@ pub enum Kind {
     EwiseAdd { op: BinaryOp, a: Whole, b: Whole },
     Apply { op: ApplyOp, a: Whole },
     Extract { a: Whole, rows: IndexList, cols: IndexList },
+    Select { op: SelectOp, a: Whole },
+    ReduceRows { monoid: Monoid, a: Whole },
 }
 
 /// The options that all operations share.
@@ -111,14 +116,19 @@ impl Call {
 
     /// Whether the call can change the store.
     pub fn writes(&self) -> bool {
-        !matches!(self, Call::Read { .. } | Call::Show { .. } | Call::List | Call::Doors(_))
+        !matches!(
+            self,
+            Call::Read { .. } | Call::Show { .. } | Call::List | Call::Reduce { .. } | Call::Doors(_)
+        )
     }
 
     /// The slots that the call names, inputs first.
     pub fn roles(&self) -> Vec<Role<'_>> {
         let plain = |slot| vec![Role { name: "", slot, transposed: false }];
         match self {
-            Call::Lay { slot, .. } | Call::Drop { slot } | Call::Show { slot } => plain(slot),
+            Call::Lay { slot, .. } | Call::Drop { slot } | Call::Show { slot } | Call::Reduce { slot, .. } => {
+                plain(slot)
+            }
             Call::Set { cell, .. } | Call::Clear { cell } | Call::Read { cell, .. } => plain(&cell.slot),
             Call::List => Vec::new(),
             Call::Operation(operation) => operation.roles(),
@@ -145,7 +155,9 @@ impl Operation {
                 vec![first("A", a), second("B", b)]
             }
             Kind::Vxm { u, a, .. } => vec![first("U", u), second("A", a)],
-            Kind::Apply { a, .. } | Kind::Extract { a, .. } => vec![first("A", a)],
+            Kind::Apply { a, .. } | Kind::Extract { a, .. } | Kind::Select { a, .. } | Kind::ReduceRows { a, .. } => {
+                vec![first("A", a)]
+            }
         };
         roles.extend(mask.as_ref().map(|slot| Role { name: "mask", slot, transposed: false }));
         roles.push(Role { name: "C", slot: &self.c, transposed: false });
@@ -170,6 +182,10 @@ fn call_of(command: Command, arguments: &mut Arguments) -> Result<Call, Usage> {
             hand: arguments.whole(2)?,
             allowance: arguments.whole(3)?,
         })),
+        Command::Reduce => {
+            let monoid = arguments.required("--monoid", parse_monoid)?;
+            Ok(Call::Reduce { slot: arguments.whole(0)?, monoid })
+        }
         _ => operation(command, arguments),
     }
 }
@@ -209,6 +225,15 @@ fn kind(command: Command, arguments: &mut Arguments) -> Result<Kind, Usage> {
             let cols = arguments.required("--cols", IndexList::parse)?;
             Ok(Kind::Extract { a: arguments.whole(1)?, rows, cols })
         }
+        Command::Select => {
+            let op = arguments.required("--op", parse_select)?;
+            let scalar = arguments.value_option("--scalar")?.unwrap_or(0);
+            Ok(Kind::Select { op: op.with_scalar(scalar), a: arguments.whole(1)? })
+        }
+        Command::ReduceRows => {
+            let monoid = arguments.required("--monoid", parse_monoid)?;
+            Ok(Kind::ReduceRows { monoid, a: arguments.whole(1)? })
+        }
         _ => Err(arguments.wrong("this is no call on a shelf")),
     }
 }
@@ -247,12 +272,17 @@ fn write_back(kind: &Kind, arguments: &mut Arguments) -> Result<WriteBack, Usage
     }
 }
 
+/// Whether an operation has a second input.
+fn has_second(kind: &Kind) -> bool {
+    matches!(kind, Kind::Mxm { .. } | Kind::Vxm { .. } | Kind::EwiseMult { .. } | Kind::EwiseAdd { .. })
+}
+
 /// An option that would do nothing.
 fn idle_option(kind: &Kind, write_back: &WriteBack) -> Option<&'static str> {
     let no_mask = write_back.mask.is_none();
     if write_back.transpose_first && matches!(kind, Kind::Vxm { .. }) {
         Some("the strip U is never transposed; --transpose-b transposes the sheet A")
-    } else if write_back.transpose_second && matches!(kind, Kind::Apply { .. } | Kind::Extract { .. }) {
+    } else if write_back.transpose_second && !has_second(kind) {
         Some("there is no second input for --transpose-b; --transpose-a transposes the sheet A")
     } else if write_back.complement && no_mask && (!write_back.replace || write_back.accumulator.is_some()) {
         Some("--complement writes no cell without --mask: is --mask PLACE missing? To empty C: --complement --replace, without --accum")

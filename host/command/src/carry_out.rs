@@ -39,6 +39,7 @@ fn attempt(call: &Call, store: &mut Store) -> Result<String, Error> {
         }
         Call::Show { slot } => Ok(store.matrix(slot.size())?.to_string()),
         Call::List => list(store),
+        Call::Reduce { slot, monoid } => Ok(store.reduce(slot.size(), *monoid)?.to_string()),
         Call::Operation(operation) => {
             let entries = operate(operation, store)?;
             Ok(written(&operation.c, entries))
@@ -70,6 +71,8 @@ fn operate(operation: &Operation, store: &mut Store) -> Result<usize, Error> {
             let (all_rows, all_cols) = shape(a, operation.write_back.transpose_first, store).unwrap_or((1, 1));
             store.extract(c, a.size(), &indexes(rows, all_rows), &indexes(cols, all_cols), &options)
         }
+        Kind::Select { op, a } => store.select(c, *op, a.size(), &options),
+        Kind::ReduceRows { monoid, a } => store.reduce_rows(c, *monoid, a.size(), &options),
     }
 }
 

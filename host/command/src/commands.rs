@@ -20,12 +20,15 @@ pub enum Command {
     Export,
     Print,
     Doors,
+    Select,
+    ReduceRows,
+    Reduce,
     Run,
     Help,
 }
 
 impl Command {
-    pub const ALL: [Command; 20] = [
+    pub const ALL: [Command; 23] = [
         Command::New,
         Command::Lay,
         Command::Drop,
@@ -44,6 +47,9 @@ impl Command {
         Command::Export,
         Command::Print,
         Command::Doors,
+        Command::Select,
+        Command::ReduceRows,
+        Command::Reduce,
         Command::Run,
         Command::Help,
     ];
@@ -68,6 +74,9 @@ impl Command {
             Command::Export => "export",
             Command::Print => "print",
             Command::Doors => "doors",
+            Command::Select => "select",
+            Command::ReduceRows => "reduceRows",
+            Command::Reduce => "reduce",
             Command::Run => "run",
             Command::Help => "help",
         }
@@ -78,23 +87,23 @@ impl Command {
         match self {
             Command::New => &["WORDS"],
             Command::Lay => &["PLACE", "ROWS", "COLS"],
-            Command::Drop | Command::Show => &["PLACE"],
+            Command::Drop | Command::Show | Command::Reduce => &["PLACE"],
             Command::Set => &["PLACE", "ROW", "COL", "VALUE"],
             Command::Clear | Command::Read => &["PLACE", "ROW", "COL"],
             Command::List | Command::Print | Command::Help => &[],
             Command::Import | Command::Export => &["PLACE", "SHEET"],
             Command::Mxm | Command::EwiseMult | Command::EwiseAdd => &["C", "A", "B"],
             Command::Vxm => &["C", "U", "A"],
-            Command::Apply | Command::Extract => &["C", "A"],
+            Command::Apply | Command::Extract | Command::Select | Command::ReduceRows => &["C", "A"],
             Command::Doors => &["LOCKS", "CABINETS", "HAND", "ALLOWANCE"],
             Command::Run => &["SCRIPT"],
         }
     }
 
-    /// Whether it is one of the six operations.
+    /// Whether it is one of the operations that write a sheet.
     pub fn is_operation(self) -> bool {
-        use Command::{Apply, EwiseAdd, EwiseMult, Extract, Mxm, Vxm};
-        matches!(self, Mxm | Vxm | EwiseMult | EwiseAdd | Apply | Extract)
+        use Command::{Apply, EwiseAdd, EwiseMult, Extract, Mxm, ReduceRows, Select, Vxm};
+        matches!(self, Mxm | Vxm | EwiseMult | EwiseAdd | Apply | Extract | Select | ReduceRows)
     }
 
     /// The command of a name, in any case and with hyphens or underscores anywhere but in front.

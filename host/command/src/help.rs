@@ -9,7 +9,7 @@ use ostrubel::{
 
 const PAGE_WIDTH: usize = 98;
 
-/// What the pages of the six operations end with.
+/// What the pages of the operations end with.
 const OPTIONS: &str = include_str!("help/options.txt");
 
 /// The text with its limits: no page has one of its own.
@@ -42,7 +42,7 @@ pub fn page(topic: &str) -> Option<String> {
         return Some(command_page(command));
     }
     match topic.to_lowercase().as_str() {
-        "options" => Some(format!("Options of the six operations\n\n{OPTIONS}")),
+        "options" => Some(format!("Options of the operations that write a sheet\n\n{OPTIONS}")),
         "operators" => Some(include_str!("help/operators.txt").to_string()),
         "refusals" => Some(refusals()),
         _ => None,
@@ -83,6 +83,9 @@ fn command_text(command: Command) -> &'static str {
         Command::Export => include_str!("help/export.txt"),
         Command::Print => include_str!("help/print.txt"),
         Command::Doors => include_str!("help/doors.txt"),
+        Command::Select => include_str!("help/select.txt"),
+        Command::ReduceRows => include_str!("help/reduce_rows.txt"),
+        Command::Reduce => include_str!("help/reduce.txt"),
         Command::Run => include_str!("help/run.txt"),
         Command::Help => include_str!("help/overview.txt"),
     }

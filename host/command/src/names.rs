@@ -1,6 +1,6 @@
 //! What the words of a command stand for: whole numbers, index lists, operators.
 
-use ostrubel::{BinaryOp, IndexUnaryOp, Monoid, Semiring, UnaryOp, MAX_INDEXES};
+use ostrubel::{BinaryOp, IndexUnaryOp, Monoid, SelectOp, Semiring, UnaryOp, MAX_INDEXES};
 use std::fmt;
 use std::iter;
 use std::num::IntErrorKind;
@@ -96,8 +96,19 @@ pub fn parse_binary(text: &str) -> Result<BinaryOp, String> {
 
 pub fn parse_semiring(text: &str) -> Result<Semiring, String> {
     text.parse().map_err(|_| {
-        let monoids = joined(Monoid::ALL.iter().map(|monoid| monoid.name()));
-        format!("no semiring {text:?}: it is one of {monoids}, a dot, and one of {}", binary_names())
+        format!("no semiring {text:?}: it is one of {}, a dot, and one of {}", monoid_names(), binary_names())
+    })
+}
+
+pub fn parse_monoid(text: &str) -> Result<Monoid, String> {
+    text.parse().map_err(|_| format!("no monoid {text:?}: there are {}", monoid_names()))
+}
+
+/// The condition of a select, before its scalar is known.
+pub fn parse_select(text: &str) -> Result<SelectOp, String> {
+    SelectOp::named(text, 0).map_err(|_| {
+        let names = joined(SelectOp::ALL.iter().map(|op| op.name()));
+        format!("no condition {text:?}: there are {names}")
     })
 }
 
@@ -121,6 +132,10 @@ pub fn parse_apply(text: &str) -> Result<ApplyName, String> {
         let index = joined(IndexUnaryOp::ALL.iter().map(|op| op.name()));
         Err(format!("no operator {text:?}: there are {unary}, {index}, {}", binary_names()))
     }
+}
+
+fn monoid_names() -> String {
+    joined(Monoid::ALL.iter().map(|monoid| monoid.name()))
 }
 
 fn binary_names() -> String {
@@ -182,6 +197,10 @@ mod tests {
         assert_eq!(parse_apply("colIndex"), Ok(ApplyName::Index(IndexUnaryOp::ColIndex)));
         assert_eq!(parse_apply("one"), Ok(ApplyName::Unary(UnaryOp::One)));
         assert_eq!(parse_apply("oneb"), Ok(ApplyName::Binary(BinaryOp::Oneb)));
+        assert_eq!(parse_monoid("Times"), Ok(Monoid::Times));
+        assert_eq!(parse_select("triL"), Ok(SelectOp::LowerTriangle(0)));
+        assert!(parse_monoid("minus").is_err());
+        assert!(parse_select("value").is_err());
         assert!(parse_semiring("minus.plus").is_err());
         assert!(parse_semiring("plus").is_err());
     }

@@ -148,7 +148,12 @@ fn misfits(operation: &Operation, store: &Store) -> (Option<String>, Vec<String>
             let output = c.must_be(a.shape()).filter(|_| inputs.is_none());
             ("A, B and C must have the same shape", facts([inputs, output]))
         }
-        (Kind::Apply { .. }, [a, .., c]) => ("C must have the shape of A", facts([c.must_be(a.shape())])),
+        (Kind::Apply { .. } | Kind::Select { .. }, [a, .., c]) => {
+            ("C must have the shape of A", facts([c.must_be(a.shape())]))
+        }
+        (Kind::ReduceRows { .. }, [a, .., c]) => {
+            ("C must have one row, and a column for each row of A", facts([c.must_be((1, a.rows))]))
+        }
         (Kind::Extract { rows, cols, .. }, [a, .., c]) => {
             let (rows, cols) = (chosen(rows, a.rows), chosen(cols, a.cols));
             let fits = (c.rows as usize, c.cols as usize) == (rows, cols);

@@ -122,6 +122,42 @@ fn ewise_mult_and_ewise_add() {
 }
 
 #[test]
+fn select_by_each_condition() {
+    let folder = worked_example();
+    for (options, row) in [
+        ("--op valueeq --scalar 20", "empty 20 empty"),
+        ("--op valuene --scalar 20", "10 empty 40"),
+        ("--op valuelt --scalar 20", "10 empty empty"),
+        ("--op VALUELE --scalar 20", "10 20 empty"),
+        ("--op valuegt --scalar=20", "empty empty 40"),
+        ("--op valuege --scalar 20", "empty 20 40"),
+        ("--op tril", "10 empty empty"),
+        ("--op tril --scalar 2147483647", "10 20 40"),
+        ("--op triu --scalar 1", "empty 20 40"),
+    ] {
+        folder.accept(&format!("select s 3 0 {options}"));
+        let cells = [0, 1, 3].map(|col| folder.accept(&format!("read s 3 0 {col}")).trim().to_string());
+        assert_eq!(cells.join(" "), row, "{options}");
+    }
+}
+
+#[test]
+fn reduce_rows_and_all() {
+    let folder = Folder::with_shelf();
+    folder.script("s", "lay 0 3 2\nset 0 0 0 5\nset 0 0 1 -5\nset 0 2 0 7\nlay 1 1 3\nlay 2 1 2\n");
+    folder.prints("reduceRows s 1 0 --monoid plus", "place 1: 2 entries\n");
+    folder.prints("show s 1", "   0  1  2\n0  0  .  7\n");
+    folder.prints("reduce-rows s 2 0 --monoid MAX --transpose-a", "place 2: 2 entries\n");
+    folder.prints("show s 2", "   0   1\n0  7  -5\n");
+    folder.prints("reduce s 0 --monoid plus", "7\n");
+    folder.prints("reduce s 0 --monoid min", "-5\n");
+    folder.script("s", "lay 3 1 1\n");
+    for (monoid, identity) in [("plus", "0"), ("times", "1"), ("min", "2147483647"), ("max", "-2147483648")] {
+        folder.prints(&format!("reduce s 3 --monoid {monoid}"), &format!("{identity}\n"));
+    }
+}
+
+#[test]
 fn apply_of_each_kind() {
     let folder = worked_example();
     for (options, row) in [
@@ -338,7 +374,8 @@ fn the_example_of_the_help() {
 fn the_examples_of_all_pages() {
     let folder = Folder::new();
     let mut lines = vec!["ostrubel new keys.shelf 5000".to_string()];
-    let pages = "lay set clear read show list drop mxm vxm eWiseMult eWiseAdd apply extract doors run";
+    let pages = "lay set clear read show list drop mxm vxm eWiseMult eWiseAdd apply extract select reduceRows reduce \
+                 doors run";
     let shapes = [
         ("mxm", "0 4 4, 1 4 4"),
         ("vxm", "1 1 5, 2 5 3, 3 1 3"),
@@ -347,6 +384,8 @@ fn the_examples_of_all_pages() {
         ("apply", "0 5 4, 1 5 4, 2 5 4"),
         ("extract", "0 10 3, 1 7 3"),
         ("doors", "0 2 3, 1 3 2, 2 1 2"),
+        ("select", "0 5 4, 2 5 4"),
+        ("reduceRows", "0 5 4, 3 1 5"),
     ];
     for name in pages.split(' ') {
         let laid = shapes.iter().filter(|(page, _)| *page == name).flat_map(|(_, shapes)| shapes.split(", "));

@@ -129,6 +129,12 @@ fn shapes_that_do_not_fit_an_operation() {
         ),
         ("eWiseAdd s 1 0 0 --op max", same, "place 1 (C) is 3 by 3 and must be 2 by 3"),
         ("apply s 1 0 --op abs", "C must have the shape of A", "place 1 (C) is 3 by 3 and must be 2 by 3"),
+        ("select s 1 0 --op tril", "C must have the shape of A", "place 1 (C) is 3 by 3 and must be 2 by 3"),
+        (
+            "reduceRows s 1 0 --monoid plus",
+            "C must have one row, and a column for each row of A",
+            "place 1 (C) is 3 by 3 and must be 1 by 2",
+        ),
         ("apply s 0 0 --op abs --mask 1", mask, "place 1 (mask) is 3 by 3, place 0 (C) is 2 by 3"),
         (
             "apply s 0 0 --op abs --mask 1 --transpose-a",

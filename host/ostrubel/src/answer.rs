@@ -24,6 +24,12 @@ pub fn found(answer: u64) -> Result<Found, Error> {
     })
 }
 
+/// The number that a matrix was reduced to.
+pub fn number(answer: u64) -> Result<i32, Error> {
+    accepted(answer)?;
+    Ok(upper_word(answer) as i32)
+}
+
 /// The codes are 0 to 13 and 15: no other can be answered.
 fn accepted(answer: u64) -> Result<(), Error> {
     match (answer & 255) as u32 {

@@ -9,6 +9,7 @@ mod c {
         pub fn ostrubel_check(words: *const u32, n: usize) -> u64;
         pub fn ostrubel_new_empty(rows: u32, cols: u32, buffer: *mut u32, n: usize) -> u64;
         pub fn ostrubel_read_cell(i: u32, j: u32, words: *const u32, n: usize) -> u64;
+        pub fn ostrubel_reduce(monoid: u32, words: *const u32, n: usize) -> u64;
         pub fn ostrubel_row_view(
             i: u32,
             values: u32,
@@ -25,6 +26,7 @@ mod c {
         pub fn ostrubel_read_file(bytes: *const u8, bytes_n: usize, words: *mut u32, n: usize) -> u64;
         pub fn ostrubel_write_file(words: *const u32, n: usize, bytes: *mut u8, bytes_n: usize) -> u64;
         pub fn ostrubel_write_text(words: *const u32, n: usize, bytes: *mut u8, bytes_n: usize) -> u64;
+        pub fn ostrubel_store_reduce(slot: usize, monoid: u32, store: *const u32, n: usize) -> u64;
     }
 }
 
@@ -54,6 +56,11 @@ pub fn new_empty(rows: u32, cols: u32, buffer: &mut [u32]) -> u64 {
 /// The cell at row i and column j.
 pub fn read_cell(i: u32, j: u32, words: &[u32]) -> u64 {
     unsafe { c::ostrubel_read_cell(i, j, words.as_ptr(), words.len()) }
+}
+
+/// All values of the matrix added up with a monoid.
+pub fn reduce(monoid: u32, words: &[u32]) -> u64 {
+    unsafe { c::ostrubel_reduce(monoid, words.as_ptr(), words.len()) }
 }
 
 /// Where row i over two matrices lies: its column numbers where `values` is 0, else its values. The answer has no code:
@@ -101,6 +108,11 @@ pub fn write_file(words: &[u32], bytes: &mut [u8]) -> u64 {
 /// The text of a matrix at the front of the bytes. The upper word of the answer is how many bytes were written.
 pub fn write_text(words: &[u32], bytes: &mut [u8]) -> u64 {
     unsafe { c::ostrubel_write_text(words.as_ptr(), words.len(), bytes.as_mut_ptr(), bytes.len()) }
+}
+
+/// All values of a slot's matrix added up with a monoid.
+pub fn store_reduce(slot: usize, monoid: u32, store: &[u32]) -> u64 {
+    unsafe { c::ostrubel_store_reduce(slot, monoid, store.as_ptr(), store.len()) }
 }
 
 /// An operation on lent matrices and on a store: the C functions and a safe function for each. In brackets: its
@@ -264,3 +276,12 @@ pub fn open_doors(
         )
     }
 }
+
+operation!(
+    /// The entries of A for which a condition with a scalar holds.
+    select ostrubel_select store_select ostrubel_store_select, [op, scalar], [a a_n], [a], []
+);
+operation!(
+    /// In one row, at column j, the values of A's row j added up with the monoid.
+    reduce_rows ostrubel_reduce_rows store_reduce_rows ostrubel_store_reduce_rows, [monoid], [a a_n], [a], []
+);

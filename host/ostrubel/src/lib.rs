@@ -1,10 +1,11 @@
 //! Sparse whole-number matrices with GraphBLAS operations: a safe interface to the proved library.
 //!
-//! A [`Matrix`] has a value or none in each cell. Six operations write into one: [`Matrix::mxm`], [`Matrix::vxm`],
-//! [`Matrix::ewise_mult`], [`Matrix::ewise_add`], [`Matrix::apply`] and [`Matrix::extract`], each by its [`Options`]:
-//! a mask, an accumulator and flags. [`Matrix::to_bytes`] and [`Matrix::from_bytes`] carry one in a file.
-//! [`Matrix::open_doors`] answers which doors open by keys of which some are behind doors. A [`Store`] has eight
-//! matrices in one buffer, and the same operations by slots. A refused call is an [`Error`] and changes nothing.
+//! A [`Matrix`] has a value or none in each cell. Eight operations write into one: [`Matrix::mxm`], [`Matrix::vxm`],
+//! [`Matrix::ewise_mult`], [`Matrix::ewise_add`], [`Matrix::apply`], [`Matrix::extract`], [`Matrix::select`] and
+//! [`Matrix::reduce_rows`], each by its [`Options`]: a mask, an accumulator and flags. [`Matrix::reduce`] gives one number.
+//! [`Matrix::to_bytes`] and [`Matrix::from_bytes`] carry one in a file. [`Matrix::open_doors`] answers which doors open by
+//! keys of which some are behind doors. A [`Store`] has eight matrices in one buffer, and the same operations by slots. A
+//! refused call is an [`Error`] and changes nothing.
 //!
 //! # A phone that was late
 //!
@@ -60,6 +61,6 @@ pub use limits::{
     MAX_TEXT_BYTES, MIN_STORE_WORDS, SLOTS, STACK_BYTES, WORKSPACE_WORDS,
 };
 pub use matrix::{Found, Matrix, Section};
-pub use operators::{ApplyOp, BinaryOp, IndexUnaryOp, Monoid, Semiring, UnaryOp};
+pub use operators::{ApplyOp, BinaryOp, IndexUnaryOp, Monoid, SelectOp, Semiring, UnaryOp};
 pub use options::Options;
 pub use store::Store;

@@ -1,7 +1,7 @@
 //! Matrices that own their words.
 
 use crate::{answer, calls, layout, picture, workspace};
-use crate::{Entries, Error, MAX_ENTRIES, MAX_MATRIX_WORDS, MAX_ROWS};
+use crate::{Entries, Error, Monoid, MAX_ENTRIES, MAX_MATRIX_WORDS, MAX_ROWS};
 use std::collections::BTreeMap;
 use std::fmt;
 
@@ -174,6 +174,22 @@ impl Matrix {
     /// ```
     pub fn find(&self, i: u32, j: u32) -> Result<Found, Error> {
         answer::found(calls::read_cell(i, j, &self.words))
+    }
+
+    /// All values added up with a monoid. Of a matrix with no entries it is the monoid's identity: 0 for PLUS, 1 for TIMES,
+    /// the largest value for MIN and the smallest for MAX.
+    ///
+    /// ```
+    /// use ostrubel::{Error, Matrix, Monoid};
+    ///
+    /// let matrix = Matrix::from_triples(2, 2, [(0, 0, 5), (1, 0, -7), (1, 1, 4)])?;
+    /// assert_eq!(matrix.reduce(Monoid::Plus), 2);
+    /// assert_eq!(matrix.reduce(Monoid::Min), -7);
+    /// assert_eq!(Matrix::new(2, 2)?.reduce(Monoid::Min), i32::MAX);
+    /// # Ok::<(), Error>(())
+    /// ```
+    pub fn reduce(&self, monoid: Monoid) -> i32 {
+        answer::number(calls::reduce(monoid.number(), &self.words)).expect("a monoid and a valid matrix")
     }
 
     /// The entries as (row, column, value): row by row, in rising columns.

@@ -1,7 +1,7 @@
-//! The six operations on matrices.
+//! The operations on matrices.
 
 use crate::calls::{self, OptionNumbers};
-use crate::{ApplyOp, BinaryOp, Error, Matrix, Options, Semiring};
+use crate::{ApplyOp, BinaryOp, Error, Matrix, Monoid, Options, SelectOp, Semiring};
 
 /// # Operations
 ///
@@ -155,6 +155,45 @@ impl Matrix {
         options: &Options<&Matrix>,
     ) -> Result<usize, Error> {
         self.operate(options, |numbers, mask, c, work| calls::extract(numbers, a.words(), rows, cols, mask, c, work))
+    }
+
+    /// The entries of A for which a condition holds, as they are.
+    ///
+    /// ```
+    /// use ostrubel::{Error, Matrix, Options, SelectOp};
+    ///
+    /// let a = Matrix::from_triples(2, 2, [(0, 0, -5), (0, 1, 7), (1, 0, 0), (1, 1, 3)])?;
+    /// let mut c = Matrix::new(2, 2)?;
+    /// c.select(SelectOp::AtLeast(3), &a, &Options::new())?;
+    /// assert_eq!(c.to_triples(), [(0, 1, 7), (1, 1, 3)]);
+    /// c.select(SelectOp::LowerTriangle(-1), &a, &Options::new())?;
+    /// assert_eq!(c.to_triples(), [(1, 0, 0)]);
+    /// # Ok::<(), Error>(())
+    /// ```
+    pub fn select(&mut self, op: SelectOp, a: &Matrix, options: &Options<&Matrix>) -> Result<usize, Error> {
+        let (op, scalar) = op.numbers();
+        self.operate(options, |numbers, mask, c, work| calls::select(numbers, op, scalar, a.words(), mask, c, work))
+    }
+
+    /// The values of each row of A added up with a monoid: C has one row, with a column for each row of A. Where a row has
+    /// no entries there is none.
+    ///
+    /// ```
+    /// use ostrubel::{Error, Matrix, Monoid, Options};
+    ///
+    /// let a = Matrix::from_triples(3, 2, [(0, 0, 5), (0, 1, -5), (2, 1, 7)])?;
+    /// let mut rows = Matrix::new(1, 3)?;
+    /// rows.reduce_rows(Monoid::Plus, &a, &Options::new())?;
+    /// assert_eq!(rows.to_triples(), [(0, 0, 0), (0, 2, 7)]);
+    /// let mut cols = Matrix::new(1, 2)?;
+    /// cols.reduce_rows(Monoid::Max, &a, &Options::new().transpose_first())?;
+    /// assert_eq!(cols.to_triples(), [(0, 0, 5), (0, 1, 7)]);
+    /// # Ok::<(), Error>(())
+    /// ```
+    pub fn reduce_rows(&mut self, monoid: Monoid, a: &Matrix, options: &Options<&Matrix>) -> Result<usize, Error> {
+        self.operate(options, |numbers, mask, c, work| {
+            calls::reduce_rows(numbers, monoid.number(), a.words(), mask, c, work)
+        })
     }
 
     /// Lends an operation its options, the mask's words, those of C and a workspace. Where there is no mask, it gets a

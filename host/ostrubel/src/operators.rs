@@ -79,7 +79,7 @@ operators! {
 }
 
 operators! {
-    /// A binary operator that adds up the products of `mxm` and `vxm`.
+    /// A binary operator that adds up: the products of `mxm` and `vxm`, and the values that are reduced.
     Monoid {
         /// the sum, wrapping
         Plus = 3 "PLUS",
@@ -141,6 +141,102 @@ impl ApplyOp {
             ApplyOp::ScalarFirst(scalar, op) => [1, op.number(), scalar as u32],
             ApplyOp::ScalarSecond(op, scalar) => [2, op.number(), scalar as u32],
             ApplyOp::Index(op, scalar) => [3, op.number(), scalar as u32],
+        }
+    }
+}
+
+/// Which entries `select` keeps: a condition with a scalar s. The value is held against s; or the column against the row
+/// plus s, both of the input as transposed, and the sum exact.
+///
+/// ```
+/// use ostrubel::SelectOp;
+///
+/// assert_eq!(SelectOp::named("valuege", -3), Ok(SelectOp::AtLeast(-3)));
+/// assert_eq!(SelectOp::LowerTriangle(0).name(), "TRIL");
+/// ```
+#[derive(Clone, Copy, Debug, PartialEq, Eq, Hash)]
+pub enum SelectOp {
+    /// The value is s.
+    Equal(i32),
+    /// The value is not s.
+    NotEqual(i32),
+    /// The value is less than s.
+    Less(i32),
+    /// The value is at most s.
+    AtMost(i32),
+    /// The value is greater than s.
+    Greater(i32),
+    /// The value is at least s.
+    AtLeast(i32),
+    /// The column is at most the row plus s.
+    LowerTriangle(i32),
+    /// The column is at least the row plus s.
+    UpperTriangle(i32),
+}
+
+impl SelectOp {
+    /// All of them with the scalar 0, in the order of their numbers.
+    pub const ALL: &'static [SelectOp] = &[
+        SelectOp::Equal(0),
+        SelectOp::NotEqual(0),
+        SelectOp::Less(0),
+        SelectOp::AtMost(0),
+        SelectOp::Greater(0),
+        SelectOp::AtLeast(0),
+        SelectOp::LowerTriangle(0),
+        SelectOp::UpperTriangle(0),
+    ];
+
+    /// The condition of a name, in capitals or not, with its scalar. Any other text is `Error::UnknownOperator`.
+    pub fn named(text: &str, scalar: i32) -> Result<SelectOp, Error> {
+        let named = |op: &&SelectOp| op.name().eq_ignore_ascii_case(text);
+        SelectOp::ALL.iter().find(named).map(|op| op.with_scalar(scalar)).ok_or(Error::UnknownOperator)
+    }
+
+    /// The name of the GraphBLAS operator, in capitals.
+    pub const fn name(self) -> &'static str {
+        match self {
+            SelectOp::Equal(_) => "VALUEEQ",
+            SelectOp::NotEqual(_) => "VALUENE",
+            SelectOp::Less(_) => "VALUELT",
+            SelectOp::AtMost(_) => "VALUELE",
+            SelectOp::Greater(_) => "VALUEGT",
+            SelectOp::AtLeast(_) => "VALUEGE",
+            SelectOp::LowerTriangle(_) => "TRIL",
+            SelectOp::UpperTriangle(_) => "TRIU",
+        }
+    }
+
+    /// The number by which the library knows it.
+    pub const fn number(self) -> u32 {
+        self.numbers().0
+    }
+
+    /// The same condition with another scalar.
+    pub const fn with_scalar(self, scalar: i32) -> SelectOp {
+        match self {
+            SelectOp::Equal(_) => SelectOp::Equal(scalar),
+            SelectOp::NotEqual(_) => SelectOp::NotEqual(scalar),
+            SelectOp::Less(_) => SelectOp::Less(scalar),
+            SelectOp::AtMost(_) => SelectOp::AtMost(scalar),
+            SelectOp::Greater(_) => SelectOp::Greater(scalar),
+            SelectOp::AtLeast(_) => SelectOp::AtLeast(scalar),
+            SelectOp::LowerTriangle(_) => SelectOp::LowerTriangle(scalar),
+            SelectOp::UpperTriangle(_) => SelectOp::UpperTriangle(scalar),
+        }
+    }
+
+    /// The number and the scalar, as numbers.
+    pub(crate) const fn numbers(self) -> (u32, u32) {
+        match self {
+            SelectOp::Equal(s) => (0, s as u32),
+            SelectOp::NotEqual(s) => (1, s as u32),
+            SelectOp::Less(s) => (2, s as u32),
+            SelectOp::AtMost(s) => (3, s as u32),
+            SelectOp::Greater(s) => (4, s as u32),
+            SelectOp::AtLeast(s) => (5, s as u32),
+            SelectOp::LowerTriangle(s) => (6, s as u32),
+            SelectOp::UpperTriangle(s) => (7, s as u32),
         }
     }
 }

@@ -1,7 +1,7 @@
 //! Stores that own their words.
 
 use crate::{answer, calls, layout, workspace};
-use crate::{Error, Found, Matrix, MAX_STORE_WORDS};
+use crate::{Error, Found, Matrix, Monoid, MAX_STORE_WORDS};
 
 /// A store of eight slots, 0 to 7, each empty or with a matrix, in a fixed number of words.
 ///
@@ -133,6 +133,27 @@ impl Store {
     /// ```
     pub fn find(&self, slot: usize, i: u32, j: u32) -> Result<Found, Error> {
         answer::found(calls::store_read_cell(slot, i, j, &self.words))
+    }
+
+    /// All values of a slot's matrix added up with a monoid; where it has none, the monoid's identity.
+    ///
+    /// ```
+    /// use ostrubel::{Error, Monoid, Store};
+    ///
+    /// let mut store = Store::new(40)?;
+    /// store.new_empty(3, 2, 2)?;
+    /// assert_eq!(store.reduce(3, Monoid::Max)?, i32::MIN);
+    /// store.set(3, 1, 1, -4)?;
+    /// assert_eq!(store.reduce(3, Monoid::Max)?, -4);
+    /// assert_eq!(store.reduce(2, Monoid::Max), Err(Error::EmptySlot));
+    /// # Ok::<(), Error>(())
+    /// ```
+    ///
+    /// # Errors
+    ///
+    /// `EmptySlot`.
+    pub fn reduce(&self, slot: usize, monoid: Monoid) -> Result<i32, Error> {
+        answer::number(calls::store_reduce(slot, monoid.number(), &self.words))
     }
 
     /// A copy of a slot's matrix.

@@ -1,7 +1,7 @@
-//! The six operations on a store.
+//! The operations on a store.
 
 use crate::calls::{self, OptionNumbers};
-use crate::{ApplyOp, BinaryOp, Error, Options, Semiring, Store};
+use crate::{ApplyOp, BinaryOp, Error, Monoid, Options, SelectOp, Semiring, Store};
 
 /// # Operations
 ///
@@ -95,6 +95,28 @@ impl Store {
     ) -> Result<usize, Error> {
         self.operate(options, |numbers, mask, store, work| {
             calls::store_extract(numbers, a, mask, c, store, rows, cols, work)
+        })
+    }
+
+    /// The entries of A for which a condition holds, as they are.
+    pub fn select(&mut self, c: usize, op: SelectOp, a: usize, options: &Options<usize>) -> Result<usize, Error> {
+        let (op, scalar) = op.numbers();
+        self.operate(options, |numbers, mask, store, work| {
+            calls::store_select(numbers, op, scalar, a, mask, c, store, work)
+        })
+    }
+
+    /// The values of each row of A added up with a monoid: C has one row, with a column for each row of A. Where a row has
+    /// no entries there is none.
+    pub fn reduce_rows(
+        &mut self,
+        c: usize,
+        monoid: Monoid,
+        a: usize,
+        options: &Options<usize>,
+    ) -> Result<usize, Error> {
+        self.operate(options, |numbers, mask, store, work| {
+            calls::store_reduce_rows(numbers, monoid.number(), a, mask, c, store, work)
         })
     }
 

@@ -1,6 +1,6 @@
 //! The numbers of the API are those of `include/ostrubel.h`.
 
-use ostrubel::{BinaryOp, Descriptor, Error, IndexUnaryOp, Monoid, UnaryOp};
+use ostrubel::{BinaryOp, Descriptor, Error, IndexUnaryOp, Monoid, SelectOp, UnaryOp};
 
 const HEADER: &str = include_str!("../../../include/ostrubel.h");
 
@@ -57,6 +57,9 @@ fn errors() {
 fn operators() {
     for op in BinaryOp::ALL {
         assert_eq!(number(op.name()), Some(op.number()), "{op}");
+    }
+    for op in SelectOp::ALL {
+        assert_eq!(number(op.name()), Some(op.number()), "{op:?}");
     }
     for monoid in Monoid::ALL {
         assert_eq!(number(monoid.name()), Some(monoid.number()), "{monoid}");

@@ -11,6 +11,8 @@ const TIMES: u32 = 5;
 /// Apply's kind of index operators, and one of them.
 const INDEX: u32 = 3;
 const DIAGINDEX: u32 = 2;
+/// A condition of select.
+const TRIL: u32 = 6;
 
 /// A structural mask, an accumulator, and both inputs transposed.
 const EVERYTHING: OptionNumbers =
@@ -112,6 +114,9 @@ impl Buffers {
             calls::apply(EVERYTHING, INDEX, DIAGINDEX, 5, a, mask, c, work),
             calls::extract(EVERYTHING, a, rows, cols, mask, c, work),
             calls::extract(TRANSPOSED, a, rows, cols, mask, c, work),
+            calls::select(EVERYTHING, TRIL, 5, a, mask, c, work),
+            calls::reduce_rows(TRANSPOSED, PLUS, a, mask, c_row, work),
+            calls::reduce(PLUS, a),
             calls::new_empty(MAX_ROWS, MAX_COLS, c_row),
         ]
     }
@@ -130,6 +135,9 @@ impl Buffers {
             calls::store_apply(EVERYTHING, INDEX, DIAGINDEX, 5, 0, 2, 3, store, work),
             calls::store_extract(EVERYTHING, 0, 2, 3, store, rows, cols, work),
             calls::store_vxm(TRANSPOSED, PLUS, TIMES, 4, 0, 4, 4, store, work),
+            calls::store_select(EVERYTHING, TRIL, 5, 0, 2, 3, store, work),
+            calls::store_reduce_rows(TRANSPOSED, PLUS, 0, 4, 4, store, work),
+            calls::store_reduce(0, PLUS, store),
             calls::store_set_cell(0, 500, 999, 7, store),
             calls::store_read_cell(0, 500, 999, store),
             calls::store_clear_cell(0, 500, 999, store),

@@ -24,9 +24,21 @@ pub struct Case {
     pub answer: u64,
 }
 
+/// A matrix that the library reduced to a number.
+#[derive(Clone, Debug)]
+pub struct Total {
+    /// The function of the library.
+    pub name: &'static str,
+    pub monoid: u32,
+    /// None where the words were no matrix or the slot was empty.
+    pub grid: Option<Grid>,
+    pub answer: u64,
+}
+
 /// What the library made of a call.
 pub enum Seen {
     NoOperation,
+    Total(Total),
     Refused(u32),
     Accepted(Box<Case>),
 }
@@ -67,6 +79,11 @@ impl Case {
 
 /// A call on lent matrices, carried out by the library.
 pub fn see_lent(call: &LentCall) -> Seen {
+    if let LentCall::Reduce { words, monoid } = call {
+        let answer = library::lent(call).answer;
+        let grid = Grid::read(words, Fault::None);
+        return total_seen(Total { name: call.name(), monoid: *monoid, grid, answer });
+    }
     let LentCall::Operation(operation) = call else {
         return Seen::NoOperation;
     };
@@ -77,6 +94,13 @@ pub fn see_lent(call: &LentCall) -> Seen {
             let after = after.and_then(|buffer| Grid::read(&buffer.words, Fault::None));
             Seen::Accepted(Box::new(lent_case(call.name(), operation, after, outcome.answer)))
         }
+        code => Seen::Refused(code),
+    }
+}
+
+fn total_seen(total: Total) -> Seen {
+    match code_of(total.answer) {
+        0 => Seen::Total(total),
         code => Seen::Refused(code),
     }
 }
@@ -93,6 +117,10 @@ fn lent_case(name: &'static str, call: &LentOperation, after: Option<Grid>, answ
 pub fn see_store(before: &[u32], call: &StoreCall) -> (Seen, Vec<u32>) {
     let mut words = before.to_vec();
     let answer = library::store(&mut words, call).answer;
+    if let StoreCall::Reduce { slot, monoid } = call {
+        let grid = slots(before).get_mut(*slot).and_then(Option::take);
+        return (total_seen(Total { name: call.name(), monoid: *monoid, grid, answer }), words);
+    }
     let StoreCall::Operation(operation) = call else {
         return (Seen::NoOperation, words);
     };

@@ -2,7 +2,7 @@
 
 use crate::case::{see_lent, see_store, Seen};
 use crate::counts::Counts;
-use crate::judge::judge;
+use crate::judge::{judge, judge_total};
 use crate::stream::{generate, Call, Generated};
 use crate::suite::Tools;
 use second::calls::StoreList;
@@ -18,6 +18,13 @@ pub fn compare_all(tools: &Tools, seed: u64, calls: u64) -> bool {
         match seen {
             Seen::NoOperation => counts.add_no_operation(),
             Seen::Refused(code) => counts.add_refused(code),
+            Seen::Total(total) => match judge_total(tools, &total) {
+                Ok(()) => counts.add_total(&total),
+                Err(_) => {
+                    show(tools, seed, call);
+                    disagrees = true;
+                }
+            },
             Seen::Accepted(case) => match judge(tools, &case) {
                 Ok(adjustments) => counts.add(&case, &adjustments),
                 Err(_) => {
@@ -39,6 +46,7 @@ pub fn compare_all(tools: &Tools, seed: u64, calls: u64) -> bool {
 fn differences(tools: &Tools, seen: Seen) -> Option<Vec<String>> {
     match seen {
         Seen::Accepted(case) => judge(tools, &case).err(),
+        Seen::Total(total) => judge_total(tools, &total).err(),
         _ => None,
     }
 }

@@ -1,6 +1,6 @@
 //! Counts of what was compared, by function of the library.
 
-use crate::case::Case;
+use crate::case::{Case, Total};
 use crate::plan::Adjustment;
 use std::collections::{BTreeMap, BTreeSet};
 
@@ -46,6 +46,12 @@ impl Counts {
         }
         self.entries += case.after.as_ref().map_or(0, |grid| grid.cells.len() as u64);
         self.changed += u64::from(case.after != case.grids[case.c]);
+    }
+
+    pub fn add_total(&mut self, total: &Total) {
+        let count = self.compared.entry(total.name).or_default();
+        count.calls += 1;
+        count.numbers.insert((total.monoid, 0));
     }
 
     pub fn add_refused(&mut self, code: u32) {

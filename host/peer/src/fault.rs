@@ -4,7 +4,8 @@ use crate::plan::{Adjustment, Plan, Step};
 use crate::suite::Triple;
 use second::grid::Grid;
 use suitesparse::{
-    Apply, Binary, IndexUnary, Monoid, Unary, COMPLEMENT, REPLACE, STRUCTURAL, TRANSPOSE_FIRST, TRANSPOSE_SECOND,
+    Apply, Binary, Condition, IndexUnary, Monoid, Unary, COMPLEMENT, REPLACE, STRUCTURAL, TRANSPOSE_FIRST,
+    TRANSPOSE_SECOND,
 };
 
 macro_rules! faults {
@@ -50,6 +51,9 @@ faults! {
     ScalarSideChanged: "the scalar is on the other side",
     ScalarOneMore: "the scalar is one more",
     PositionsAsStored: "ROWINDEX and COLINDEX see the row and column before transposing",
+    ConditionChanged: "select takes the condition with the next number",
+    ConditionScalarOneMore: "the scalar of a condition is one more",
+    RowMonoidChanged: "the next monoid adds up the rows",
     RowsReversed: "extract takes the list of rows from its end",
     ColsReversed: "extract takes the list of columns from its end",
     // Adjustments that are left out.
@@ -144,6 +148,9 @@ impl Fault {
             }
             (Fault::UnionIsIntersection, step @ &mut Step::EwiseAdd(op)) => *step = Step::EwiseMult(op),
             (Fault::IntersectionIsUnion, step @ &mut Step::EwiseMult(op)) => *step = Step::EwiseAdd(op),
+            (Fault::ConditionChanged, Step::Select(op, _)) => *op = next(Condition::ALL, *op),
+            (Fault::ConditionScalarOneMore, Step::Select(_, scalar)) => *scalar = scalar.wrapping_add(1),
+            (Fault::RowMonoidChanged, Step::ReduceRows(monoid)) => *monoid = next(Monoid::ALL, *monoid),
             (Fault::RowsReversed, Step::Extract(rows, _)) => rows.reverse(),
             (Fault::ColsReversed, Step::Extract(_, cols)) => cols.reverse(),
             (_, Step::Apply(apply)) => *apply = self.changed_apply(*apply),

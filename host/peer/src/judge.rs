@@ -1,9 +1,10 @@
 //! Holds the library's C of a case against SuiteSparse's.
 
-use crate::case::Case;
+use crate::case::{Case, Total};
 use crate::fault::Fault;
 use crate::plan::{Adjustment, Plan};
 use crate::suite::{triples, Tools, Triple};
+use second::calls::number;
 use std::collections::BTreeSet;
 
 /// How many differing entries are shown.
@@ -23,6 +24,19 @@ pub fn judge(tools: &Tools, case: &Case) -> Result<Vec<Adjustment>, Vec<String>>
     match theirs == ours {
         true => Ok(adjustments),
         false => Err(differences(&theirs, &ours)),
+    }
+}
+
+/// The same of a matrix that was reduced to a number.
+pub fn judge_total(tools: &Tools, total: &Total) -> Result<(), Vec<String>> {
+    let Some(grid) = &total.grid else {
+        return Err(vec!["the library reduced what is no matrix".to_string()]);
+    };
+    let theirs = tools.total(grid, total.monoid).map_err(|error| vec![format!("SuiteSparse: {error}")])?;
+    match theirs {
+        Some(theirs) if number(theirs) == total.answer => Ok(()),
+        Some(theirs) => Err(vec![format!("SuiteSparse has {theirs}, the library answers {}", total.answer)]),
+        None => Err(vec!["the library accepted a number that is no monoid".to_string()]),
     }
 }
 

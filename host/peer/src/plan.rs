@@ -11,7 +11,7 @@
 
 use crate::case::Case;
 use second::calls::Operation;
-use suitesparse::{Apply, Binary, IndexUnary, Monoid, Unary, TRANSPOSE_FIRST, TRANSPOSE_SECOND};
+use suitesparse::{Apply, Binary, Condition, IndexUnary, Monoid, Unary, TRANSPOSE_FIRST, TRANSPOSE_SECOND};
 
 #[derive(Clone, Debug, PartialEq, Eq)]
 pub enum Step {
@@ -21,6 +21,8 @@ pub enum Step {
     EwiseAdd(Binary),
     Apply(Apply),
     Extract(Vec<u64>, Vec<u64>),
+    Select(Condition, i32),
+    ReduceRows(Monoid),
 }
 
 /// A call of SuiteSparse; the roles are positions among the case's matrices.
@@ -103,6 +105,8 @@ fn step_of(operation: &Operation) -> Option<Step> {
         Operation::EwiseAdd { op } => Step::EwiseAdd(Binary::numbered(*op)?),
         Operation::Apply { kind, op, scalar } => Step::Apply(apply_of(*kind, *op, *scalar as i32)?),
         Operation::Extract { rows, cols } => Step::Extract(wide(rows), wide(cols)),
+        Operation::Select { op, scalar } => Step::Select(Condition::numbered(*op)?, *scalar as i32),
+        Operation::ReduceRows { monoid } => Step::ReduceRows(Monoid::numbered(*monoid)?),
     })
 }
 

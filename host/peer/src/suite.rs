@@ -4,8 +4,8 @@ use crate::plan::{Plan, Step};
 use second::grid::Grid;
 use std::collections::BTreeMap;
 use suitesparse::{
-    apply, ewise_add, ewise_mult, extract, mxm, vxm, Binary, Descriptor, Error, Matrix, Monoid, Semiring, Vector,
-    WriteBack,
+    apply, ewise_add, ewise_mult, extract, mxm, reduce, reduce_rows, select, vxm, Binary, Descriptor, Error, Matrix,
+    Monoid, Semiring, Vector, WriteBack,
 };
 
 /// Row, column and value.
@@ -38,6 +38,7 @@ impl Tools {
     pub fn carry_out(&self, plan: &Plan, grids: &[Option<Grid>]) -> Result<Vec<Triple>, Error> {
         match plan.step {
             Step::Vxm(monoid, op) => self.vxm(plan, self.semiring(monoid, op), grids),
+            Step::ReduceRows(monoid) => self.reduce_rows(plan, monoid, grids),
             _ => self.on_matrices(plan, grids),
         }
     }
@@ -61,6 +62,8 @@ impl Tools {
             Step::EwiseAdd(op) => ewise_add(c, write, *op, a, b)?,
             Step::Apply(kind) => apply(c, write, *kind, a)?,
             Step::Extract(rows, cols) => extract(c, write, a, rows, cols)?,
+            Step::Select(op, scalar) => select(c, write, *op, *scalar, a)?,
+            Step::ReduceRows(_) => unreachable!("it has a vector for C"),
         }
         c.triples()
     }
@@ -72,6 +75,25 @@ impl Tools {
         let (u, a, w) = (&made[&plan.a], &matrix[&plan.b], &made[&plan.c]);
         vxm(w, self.write_back(plan, &made), semiring, u, a)?;
         Ok(w.pairs()?.into_iter().map(|(j, value)| (0, j, value)).collect())
+    }
+}
+
+impl Tools {
+    /// C and the mask are vectors, one for each position; the matrix is an object of its own.
+    fn reduce_rows(&self, plan: &Plan, monoid: Monoid, grids: &[Option<Grid>]) -> Result<Vec<Triple>, Error> {
+        let made = make([plan.c].into_iter().chain(plan.mask), grids, vector_of)?;
+        let matrix = make([plan.a].into_iter(), grids, matrix_of)?;
+        let w = &made[&plan.c];
+        reduce_rows(w, self.write_back(plan, &made), monoid, &matrix[&plan.a])?;
+        Ok(w.pairs()?.into_iter().map(|(j, value)| (0, j, value)).collect())
+    }
+
+    /// All values of a matrix added up; none if the number is no monoid.
+    pub fn total(&self, grid: &Grid, monoid: u32) -> Result<Option<i32>, Error> {
+        match Monoid::numbered(monoid) {
+            Some(monoid) => reduce(monoid, &matrix_of(grid)?).map(Some),
+            None => Ok(None),
+        }
     }
 }
 

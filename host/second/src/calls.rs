@@ -47,11 +47,16 @@ pub enum Operation {
     EwiseAdd { op: u32 },
     Apply { kind: u32, op: u32, scalar: u32 },
     Extract { rows: Vec<u32>, cols: Vec<u32> },
+    Select { op: u32, scalar: u32 },
+    ReduceRows { monoid: u32 },
 }
 
 impl Operation {
     pub fn has_second(&self) -> bool {
-        !matches!(self, Operation::Apply { .. } | Operation::Extract { .. })
+        matches!(
+            self,
+            Operation::Mxm { .. } | Operation::Vxm { .. } | Operation::EwiseMult { .. } | Operation::EwiseAdd { .. }
+        )
     }
 
     /// The numbers that choose what is computed.
@@ -61,6 +66,8 @@ impl Operation {
             Operation::EwiseMult { op } | Operation::EwiseAdd { op } => (0, op),
             Operation::Apply { kind, op, .. } => (kind, op),
             Operation::Extract { .. } => (0, 0),
+            Operation::Select { op, .. } => (0, op),
+            Operation::ReduceRows { monoid } => (monoid, 0),
         }
     }
 
@@ -72,6 +79,8 @@ impl Operation {
             Operation::EwiseAdd { .. } => "ewise_add",
             Operation::Apply { .. } => "apply",
             Operation::Extract { .. } => "extract",
+            Operation::Select { .. } => "select",
+            Operation::ReduceRows { .. } => "reduce_rows",
         }
     }
 }
@@ -126,6 +135,10 @@ pub enum LentCall {
         i: u32,
         values: u32,
     },
+    Reduce {
+        words: Vec<u32>,
+        monoid: u32,
+    },
     Operation(LentOperation),
 }
 
@@ -136,6 +149,7 @@ impl LentCall {
             LentCall::NewEmpty { .. } => "new_empty",
             LentCall::ReadCell { .. } => "read_cell",
             LentCall::RowView { .. } => "row_view",
+            LentCall::Reduce { .. } => "reduce",
             LentCall::Operation(call) => call.operation.name(),
         }
     }
@@ -159,6 +173,7 @@ pub enum StoreCall {
     SetCell { slot: usize, i: u32, j: u32, value: u32 },
     ClearCell { slot: usize, i: u32, j: u32 },
     ReadCell { slot: usize, i: u32, j: u32 },
+    Reduce { slot: usize, monoid: u32 },
     Operation(StoreOperation),
 }
 
@@ -170,6 +185,7 @@ impl StoreCall {
             StoreCall::SetCell { .. } => "store_set_cell",
             StoreCall::ClearCell { .. } => "store_clear_cell",
             StoreCall::ReadCell { .. } => "store_read_cell",
+            StoreCall::Reduce { .. } => "store_reduce",
             StoreCall::Operation(call) => match call.operation {
                 Operation::Mxm { .. } => "store_mxm",
                 Operation::Vxm { .. } => "store_vxm",
@@ -177,6 +193,8 @@ impl StoreCall {
                 Operation::EwiseAdd { .. } => "store_ewise_add",
                 Operation::Apply { .. } => "store_apply",
                 Operation::Extract { .. } => "store_extract",
+                Operation::Select { .. } => "store_select",
+                Operation::ReduceRows { .. } => "store_reduce_rows",
             },
         }
     }
@@ -225,6 +243,11 @@ pub fn present_or_absent(cell: Option<i32>, position: usize) -> u64 {
     }
 }
 
+/// The answer of an accepted reduction to a number.
+pub fn number(value: i32) -> u64 {
+    u64::from(value as u32) << 32
+}
+
 /// The refusal number in an answer.
 pub fn code_of(answer: u64) -> u32 {
     answer as u32 & 255
@@ -237,6 +260,8 @@ pub enum Answers {
     Code,
     /// A code, whether a cell is present, its value and its position.
     Cell,
+    /// A code, and a number with its sign.
+    Number,
     /// Where a part of two sheets' words lies. There is no code.
     Part,
 }
@@ -246,6 +271,7 @@ pub fn answers_of(name: &str) -> Answers {
     match name {
         "read_cell" | "store_read_cell" => Answers::Cell,
         "row_view" => Answers::Part,
+        "reduce" | "store_reduce" => Answers::Number,
         _ => Answers::Code,
     }
 }

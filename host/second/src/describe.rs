@@ -17,6 +17,7 @@ pub fn answer_text(answer: u64, answers: Answers) -> String {
         }
         (Answers::Cell, 256) => format!("present with {} at position {position}", high as i32),
         (Answers::Cell, 0) if high == 0 => format!("absent at position {position}"),
+        (Answers::Number, _) => format!("{low} and {}", high as i32),
         _ => format!("{low} and {high}"),
     }
 }
@@ -79,6 +80,8 @@ fn operation_text(operation: &Operation) -> String {
             format!("{name}, kind {kind} ({kind_name}), operator {op}, scalar {}", *scalar as i32)
         }
         Operation::Extract { rows, cols } => format!("{name}, I {}, J {}", list_text(rows), list_text(cols)),
+        Operation::Select { op, scalar } => format!("{name}, condition {op}, scalar {}", *scalar as i32),
+        Operation::ReduceRows { monoid } => format!("{name}, monoid {}", binary_name(*monoid)),
     }
 }
 
@@ -96,6 +99,9 @@ pub fn lent_call(call: &LentCall) -> Vec<String> {
             format!("  first: {}", sheet_text(first)),
             format!("  second: {}", sheet_text(second)),
         ],
+        LentCall::Reduce { words, monoid } => {
+            vec![format!("reduce, monoid {}", binary_name(*monoid)), format!("  buffer: {}", sheet_text(words))]
+        }
         LentCall::Operation(call) => {
             let mut lines = vec![operation_text(&call.operation), format!("  {}", options_text(&call.options))];
             for (number, words) in call.inputs.iter().enumerate() {
@@ -131,6 +137,7 @@ pub fn store_call(call: &StoreCall) -> String {
         StoreCall::ClearCell { slot, i, j } | StoreCall::ReadCell { slot, i, j } => {
             format!("{name} in place {slot} at ({i},{j})")
         }
+        StoreCall::Reduce { slot, monoid } => format!("{name} of place {slot}, monoid {}", binary_name(*monoid)),
         StoreCall::Operation(call) => {
             let second = if call.operation.has_second() { format!(", B {}", call.b) } else { String::new() };
             format!(

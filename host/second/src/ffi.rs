@@ -34,6 +34,8 @@ pub fn operation(
         Operation::EwiseAdd { op } => calls::ewise_add(options, op, a, b, mask, c, work),
         Operation::Apply { kind, op, scalar } => calls::apply(options, kind, op, scalar, a, mask, c, work),
         Operation::Extract { .. } => calls::extract(options, a, rows, cols, mask, c, work),
+        Operation::Select { op, scalar } => calls::select(options, op, scalar, a, mask, c, work),
+        Operation::ReduceRows { monoid } => calls::reduce_rows(options, monoid, a, mask, c, work),
     }
 }
 
@@ -54,5 +56,7 @@ pub fn store_operation(
         Operation::EwiseAdd { op } => calls::store_ewise_add(options, op, a, b, mask, c, store, work),
         Operation::Apply { kind, op, scalar } => calls::store_apply(options, kind, op, scalar, a, mask, c, store, work),
         Operation::Extract { .. } => calls::store_extract(options, a, mask, c, store, rows, cols, work),
+        Operation::Select { op, scalar } => calls::store_select(options, op, scalar, a, mask, c, store, work),
+        Operation::ReduceRows { monoid } => calls::store_reduce_rows(options, monoid, a, mask, c, store, work),
     }
 }

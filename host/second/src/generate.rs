@@ -104,7 +104,7 @@ pub fn options(rng: &mut Rng) -> Options {
 pub fn operation(rng: &mut Rng) -> Operation {
     let op = rng.between(0, 7);
     let monoid = rng.pick(&[3, 5, 6, 7]);
-    match rng.below(6) {
+    match rng.below(8) {
         0 => Operation::Mxm { monoid, op },
         1 => Operation::Vxm { monoid, op },
         2 => Operation::EwiseMult { op },
@@ -118,7 +118,26 @@ pub fn operation(rng: &mut Rng) -> Operation {
             };
             Operation::Apply { kind, op, scalar: value(rng) as u32 }
         }
+        5 => Operation::Select { op, scalar: select_scalar(rng, op) as u32 },
+        6 => Operation::ReduceRows { monoid },
         _ => Operation::Extract { rows: Vec::new(), cols: Vec::new() },
+    }
+}
+
+/// Small scalars for the triangles, near the differences of rows and columns, and the ends of the range.
+fn select_scalar(rng: &mut Rng, op: u32) -> i32 {
+    match rng.below(4) {
+        0 => rng.pick(&[i32::MIN, i32::MIN + 1, i32::MAX - 1, i32::MAX]),
+        1 | 2 if op >= 6 => rng.between(0, 8) as i32 - 4,
+        _ => value(rng),
+    }
+}
+
+/// A monoid's number, at times none.
+pub fn any_monoid(rng: &mut Rng) -> u32 {
+    match rng.once_in(8) {
+        true => rng.pick(&[0, 1, 2, 4, 4, 8, 8, 256, u32::MAX]),
+        false => rng.pick(&[3, 5, 6, 7]),
     }
 }
 
@@ -178,7 +197,8 @@ fn spoil_operation(rng: &mut Rng, operation: &mut Operation) {
                 *monoid = rng.pick(&[0, 1, 2, 4, 4, 8, u32::MAX]);
             }
         }
-        Operation::EwiseMult { op } | Operation::EwiseAdd { op } => *op = not_binary,
+        Operation::EwiseMult { op } | Operation::EwiseAdd { op } | Operation::Select { op, .. } => *op = not_binary,
+        Operation::ReduceRows { monoid } => *monoid = rng.pick(&[0, 1, 2, 4, 4, 8, u32::MAX]),
         Operation::Apply { kind, op, .. } => match rng.below(3) {
             0 => *kind = rng.pick(&[4, 4, 5, 256, u32::MAX]),
             _ => {

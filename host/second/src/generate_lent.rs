@@ -24,6 +24,7 @@ pub fn lent_call(rng: &mut Rng) -> LentCall {
             LentCall::ReadCell { words, i, j }
         }
         19..=24 => row_view(rng),
+        25..=29 => LentCall::Reduce { words: lone_buffer(rng), monoid: any_monoid(rng) },
         _ => LentCall::Operation(operation_call(rng)),
     }
 }
@@ -108,7 +109,8 @@ fn fit(rng: &mut Rng, operation: &mut Operation, options: &Options, [m, k, n]: [
         Operation::EwiseMult { .. } | Operation::EwiseAdd { .. } => {
             Shapes { a: turned((m, n), first), b: turned((m, n), second), c: (m, n) }
         }
-        Operation::Apply { .. } => Shapes { a: turned((m, n), first), b: (1, 1), c: (m, n) },
+        Operation::Apply { .. } | Operation::Select { .. } => Shapes { a: turned((m, n), first), b: (1, 1), c: (m, n) },
+        Operation::ReduceRows { .. } => Shapes { a: turned((m, n), first), b: (1, 1), c: (1, m) },
         Operation::Extract { rows, cols } => {
             // No index occurs twice in lists that are no longer than A's sides.
             let (height, width) = (k.max(m), side(rng).max(n));
@@ -218,7 +220,7 @@ fn outer_product(rng: &mut Rng, mut options: Options) -> LentOperation {
 /// A final C of 2,047 to 2,050 entries, as the union of old C and T or of both inputs.
 fn at_the_limit(rng: &mut Rng, mut operation: Operation, mut options: Options) -> LentOperation {
     let wanted = entries_near_limit(rng);
-    let strip = matches!(operation, Operation::Vxm { .. });
+    let strip = matches!(operation, Operation::Vxm { .. } | Operation::ReduceRows { .. });
     if strip {
         operation = Operation::EwiseAdd { op: rng.between(0, 7) };
     }
@@ -264,7 +266,7 @@ fn grown(rng: &mut Rng, grid: &Grid, wanted: usize) -> Grid {
 
 /// Square sheets, one buffer in several roles.
 fn shared_roles(rng: &mut Rng, mut operation: Operation, options: Options, n: u32) -> LentOperation {
-    let n = if matches!(operation, Operation::Vxm { .. }) { 1 } else { n };
+    let n = if matches!(operation, Operation::Vxm { .. } | Operation::ReduceRows { .. }) { 1 } else { n };
     if let Operation::Extract { rows, cols } = &mut operation {
         *rows = index_list(rng, n as usize, n);
         *cols = index_list(rng, n as usize, n);

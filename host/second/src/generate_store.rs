@@ -191,7 +191,8 @@ fn next_calls(rng: &mut Rng, grids: Option<&StoreGrids>, sides: &[u32; 3]) -> Ve
         14..=18 => vec![StoreCall::Drop { slot: if rng.percent(20) { rng.below(SLOTS) } else { named } }],
         19..=43 => vec![StoreCall::SetCell { slot: named, i, j, value: value(rng) as u32 }],
         44..=50 => vec![StoreCall::ClearCell { slot: named, i, j }],
-        51..=57 => vec![StoreCall::ReadCell { slot: named, i, j }],
+        51..=55 => vec![StoreCall::ReadCell { slot: named, i, j }],
+        56..=60 => vec![StoreCall::Reduce { slot: named, monoid: any_monoid(rng) }],
         _ => operation_calls(rng, grids),
     }
 }

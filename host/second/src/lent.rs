@@ -26,6 +26,9 @@ impl Model {
                 };
                 one_buffer(answer, words.clone())
             }
+            LentCall::Reduce { words, monoid } => {
+                one_buffer(self.total(Grid::read(words, self.fault).as_ref(), *monoid, 3), words.clone())
+            }
             LentCall::RowView { first, second, i, values } => {
                 let buffers = [("first", first), ("second", second)].map(|(name, words)| self.read_only(name, words));
                 Outcome { answer: self.row_view(first, second, *i, *values != 0), buffers: buffers.into() }

@@ -71,6 +71,11 @@ pub fn lent(call: &LentCall) -> Outcome {
             let answer = library::read_cell(*i, *j, buffer.words());
             Outcome { answer, buffers: vec![buffer.returned()] }
         }
+        LentCall::Reduce { words, monoid } => {
+            let buffer = Lent::new("buffer", words);
+            let answer = library::reduce(*monoid, buffer.words());
+            Outcome { answer, buffers: vec![buffer.returned()] }
+        }
         LentCall::RowView { first, second, i, values } => {
             let (first, second) = (Lent::new("first", first), Lent::new("second", second));
             let answer = library::row_view(*i, *values, first.words(), second.words());
@@ -121,6 +126,7 @@ pub fn store(words: &mut Vec<u32>, call: &StoreCall) -> Outcome {
         StoreCall::SetCell { slot, i, j, value } => library::store_set_cell(*slot, *i, *j, *value, store.words_mut()),
         StoreCall::ClearCell { slot, i, j } => library::store_clear_cell(*slot, *i, *j, store.words_mut()),
         StoreCall::ReadCell { slot, i, j } => library::store_read_cell(*slot, *i, *j, store.words()),
+        StoreCall::Reduce { slot, monoid } => library::store_reduce(*slot, *monoid, store.words()),
         StoreCall::Operation(call) => {
             let lists = lists(&call.operation);
             let mut work = Lent::new("work buffer", &call.work.words());

@@ -3,7 +3,9 @@
 use crate::calls::*;
 use crate::fault::Fault;
 use crate::grid::{is_shape, Grid, MAX_ENTRIES, MAX_LIST};
-use crate::operators::{binary, index_unary, is_binary, is_index_unary, is_monoid, is_unary, unary};
+use crate::operators::{
+    binary, identity, index_unary, is_binary, is_condition, is_index_unary, is_monoid, is_unary, selects, unary,
+};
 use std::collections::{BTreeMap, BTreeSet};
 
 /// The model, with at most one planted fault.
@@ -62,6 +64,13 @@ impl Model {
             }
             Operation::Apply { .. } => Some(first.shape()),
             Operation::Extract { rows, cols } => Some((rows.len() as u32, cols.len() as u32)),
+            Operation::Select { .. } => Some(first.shape()),
+            // Document 02, A4: "rows into a strip 1 by R".
+            Operation::ReduceRows { .. } => match self.fault {
+                Fault::ColumnsReduced => Some((1, first.cols)),
+                Fault::ColumnOfTotals => Some((first.rows, 1)),
+                _ => Some((1, first.rows)),
+            },
         }
     }
 
@@ -106,6 +115,13 @@ impl Model {
                 }
                 extracted(&first, rows, cols)
             }
+            Operation::Select { op, scalar } => {
+                let turned = options.has(TRANSPOSE_FIRST) && fault == Fault::TriangleAsStored;
+                let seen = |(i, j): (u32, u32)| if turned { (j, i) } else { (i, j) };
+                let keeps = |at, x| selects(*op, x, seen(at).0, seen(at).1, *scalar as i32, fault);
+                first.cells.iter().filter(|(at, x)| keeps(**at, **x)).map(|(&at, &x)| (at, x)).collect()
+            }
+            Operation::ReduceRows { monoid } => self.row_totals(&first, *monoid),
         };
         let (rows, cols) = self.shape_of_t(operation, options, sheets).unwrap_or((1, 1));
         let mut t = Grid { rows, cols, cells };
@@ -124,6 +140,43 @@ impl Model {
             }
         }
         cells
+    }
+
+    /// Document 02, A4: "holding an entry exactly for the rows with entries".
+    fn row_totals(&self, a: &Grid, monoid: u32) -> BTreeMap<(u32, u32), i32> {
+        let a = a.transposed_if(self.has(Fault::ColumnsReduced));
+        let mut cells = BTreeMap::new();
+        for i in 0..a.rows {
+            let values: Vec<i32> = a.cells.range((i, 0)..(i + 1, 0)).map(|(_, &value)| value).collect();
+            let total = match values.split_first() {
+                None if self.has(Fault::EmptyRowIdentity) => identity(monoid, self.fault),
+                None => continue,
+                Some((&first, rest)) => rest.iter().fold(first, |sum, &x| binary(monoid, sum, x, self.fault)),
+            };
+            let at = if self.has(Fault::ColumnOfTotals) { (i, 0) } else { (0, i) };
+            cells.insert(at, total);
+        }
+        cells
+    }
+
+    /// "a whole sheet into one number, which is the monoid's identity for an empty sheet", or a refusal of 2 or the number
+    /// given for a sheet that is not there.
+    pub fn total(&self, grid: Option<&Grid>, monoid: u32, missing: u32) -> u64 {
+        let refused = |code, known: bool| match known && self.has(Fault::RefusedTotalIdentity) {
+            true => counted(code, 0) | number(identity(monoid, self.fault)),
+            false => counted(code, 0),
+        };
+        if !is_monoid(monoid, self.fault) {
+            return refused(2, false);
+        }
+        match grid {
+            None => refused(missing, true),
+            Some(grid) if grid.cells.is_empty() && self.has(Fault::EmptyTotalRefused) => refused(missing, false),
+            Some(grid) => {
+                let sum = |sum, &x: &i32| binary(monoid, sum, x, self.fault);
+                number(grid.cells.values().fold(identity(monoid, self.fault), sum))
+            }
+        }
     }
 
     fn union(
@@ -215,6 +268,8 @@ impl Model {
                 _ => true,
             },
             Operation::Extract { .. } => false,
+            Operation::Select { op, .. } => !is_condition(op),
+            Operation::ReduceRows { monoid } => !is_monoid(monoid, self.fault),
         };
         let accumulates = options.has_accumulator || self.has(Fault::AbsentAccumulatorRead);
         unknown || accumulates && !is_binary(options.accumulator)

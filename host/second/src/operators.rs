@@ -18,6 +18,11 @@ pub fn is_monoid(number: u32, fault: Fault) -> bool {
     matches!(number, 3 | 5 | 6 | 7) || fault == Fault::MonoidMinusAccepted && number == 4
 }
 
+/// Document 02, A4: the conditions of select are "numbered 0 to 7".
+pub fn is_condition(number: u32) -> bool {
+    number <= 7
+}
+
 /// An exact value brought back modulo 2^32 into the signed range.
 fn wrap(exact: i64) -> i32 {
     const MODULUS: i64 = 1 << 32;
@@ -77,5 +82,46 @@ pub fn index_unary(number: u32, i: u32, j: u32, scalar: i32, fault: Fault) -> i3
         2 if fault == Fault::DiagIndexParse => wrap(j - (i + s)),
         2 => wrap(j - i + s),
         _ => unreachable!("index operator {number}"),
+    }
+}
+
+/// Document 02, A4: "equal, not equal, less, at most, greater, at least (value against s), lower triangle (j at most i+s)
+/// and upper triangle (j at least i+s), the sums exact and not wrapped".
+pub fn selects(number: u32, x: i32, i: u32, j: u32, scalar: i32, fault: Fault) -> bool {
+    let (row, col) = if fault == Fault::TriangleTurned { (j, i) } else { (i, j) };
+    let exact = i64::from(row) + i64::from(scalar);
+    let sum = if fault == Fault::TriangleSumWraps { i64::from(wrap(exact)) } else { exact };
+    let col = i64::from(col);
+    let (x, scalar) = match fault {
+        Fault::SelectUnsigned => (i64::from(x as u32), i64::from(scalar as u32)),
+        Fault::SelectOperandsSwapped => (i64::from(scalar), i64::from(x)),
+        _ => (i64::from(x), i64::from(scalar)),
+    };
+    match number {
+        0 => x == scalar,
+        1 => x != scalar,
+        2 if fault == Fault::LessIsAtMost => x <= scalar,
+        2 => x < scalar,
+        3 if fault == Fault::AtMostIsLess => x < scalar,
+        3 => x <= scalar,
+        4 => x > scalar,
+        5 => x >= scalar,
+        6 if fault == Fault::TriangleStrict => col < sum,
+        6 => col <= sum,
+        7 => col >= sum,
+        _ => unreachable!("condition {number}"),
+    }
+}
+
+/// What a monoid gives for no values.
+pub fn identity(monoid: u32, fault: Fault) -> i32 {
+    match monoid {
+        3 => 0,
+        5 => 1,
+        6 if fault == Fault::ExtremesExchanged => i32::MIN,
+        7 if fault == Fault::ExtremesExchanged => i32::MAX,
+        6 => i32::MAX,
+        7 => i32::MIN,
+        _ => unreachable!("monoid {monoid}"),
     }
 }

@@ -65,6 +65,10 @@ fn smaller_calls(call: &LentCall) -> Vec<LentCall> {
             }
             calls
         }
+        LentCall::Reduce { words, monoid } => {
+            let monoid = *monoid;
+            smaller_lone_sheets(words).into_iter().map(|words| LentCall::Reduce { words, monoid }).collect()
+        }
         LentCall::RowView { first, second, i, values } => smaller_row_views(first, second, *i, *values),
         LentCall::NewEmpty { words, rows, cols } => {
             let (rows, cols) = (*rows, *cols);
@@ -140,6 +144,17 @@ fn smaller_numbers(operation: &Operation) -> Vec<Operation> {
                 all.extend([0, 1].map(|scalar| Operation::Apply { kind, op, scalar }));
             }
             all
+        }
+        Operation::Select { op, scalar } => {
+            let (op, scalar) = (*op, *scalar);
+            let mut all: Vec<Operation> = (0..op.min(8)).map(|op| Operation::Select { op, scalar }).collect();
+            if scalar > 1 {
+                all.extend([0, 1].map(|scalar| Operation::Select { op, scalar }));
+            }
+            all
+        }
+        Operation::ReduceRows { monoid } => {
+            (0..(*monoid).min(8)).map(|monoid| Operation::ReduceRows { monoid }).collect()
         }
         Operation::Extract { rows, cols } => {
             let mut all = Vec::new();

@@ -125,6 +125,7 @@ impl Model {
         | StoreCall::SetCell { slot, .. }
         | StoreCall::ClearCell { slot, .. }
         | StoreCall::ReadCell { slot, .. }
+        | StoreCall::Reduce { slot, .. }
         | StoreCall::Operation(StoreOperation { a: slot, .. })) = call;
         let slot = *slot;
         let Some(grids) = grids.filter(|_| slot < SLOTS) else {
@@ -156,6 +157,7 @@ impl Model {
                 Some(grid) if *i >= grid.rows || *j >= grid.cols => counted(7, 0),
                 Some(grid) => self.read_answer(grid, *i, *j),
             },
+            StoreCall::Reduce { monoid, .. } => self.total(grids.slots[slot].as_ref(), *monoid, 13),
             StoreCall::Operation(_) => unreachable!("answered above"),
         }
     }

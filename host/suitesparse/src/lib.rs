@@ -1,5 +1,5 @@
-//! SuiteSparse:GraphBLAS (version 7, the Debian package libgraphblas-dev) on matrices of 32-bit whole numbers: the six
-//! operations, the operators, masks, accumulators and flags that Ostrubel has too, with the same numbers.
+//! SuiteSparse:GraphBLAS (version 7, the Debian package libgraphblas-dev) on matrices of 32-bit whole numbers: the
+//! operations, operators, masks, accumulators and flags that Ostrubel has too, with the same numbers.
 //!
 //! The library is started by the first object that is made, in non-blocking mode, with one thread, and is never ended;
 //! each object is freed with its owner. Every operation waits until its result is materialized, so nothing is left to
@@ -12,9 +12,11 @@ mod operators;
 mod raw;
 mod triples;
 
-pub use operators::{Apply, Binary, IndexUnary, Monoid, Unary};
+pub use operators::{Apply, Binary, Condition, IndexUnary, Monoid, Unary};
 pub use raw::objects::{Descriptor, Matrix, Semiring, Vector};
-pub use raw::operations::{apply, apply_index, ewise_add, ewise_mult, extract, mxm, vxm, WriteBack};
+pub use raw::operations::{
+    apply, apply_index, ewise_add, ewise_mult, extract, mxm, reduce, reduce_rows, select, vxm, WriteBack,
+};
 pub use raw::{threads, version, Error};
 
 /// Outside the mask C loses its entries.

@@ -37,6 +37,20 @@ numbered!(
     IndexUnary { RowIndex = 0, ColIndex = 1, DiagIndex = 2, }
 );
 
+numbered!(
+    /// The conditions of select.
+    Condition {
+        ValueEq = 0,
+        ValueNe = 1,
+        ValueLt = 2,
+        ValueLe = 3,
+        ValueGt = 4,
+        ValueGe = 5,
+        Tril = 6,
+        Triu = 7,
+    }
+);
+
 /// What an apply does with each entry.
 #[derive(Clone, Copy, Debug, PartialEq, Eq)]
 pub enum Apply {

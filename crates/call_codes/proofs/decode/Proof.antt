@@ -39,6 +39,18 @@ enum-told c = search needs
 call-of-requires : tie.Need-call-of-requires
 call-of-requires c κs = search needs
 
+enum-known-verb-6 : tie.Need-enum-known-verb-6
+enum-known-verb-6 c = search needs
+
+select-call-requires : tie.Need-select-call-requires
+select-call-requires c κs = search needs
+
+enum-known-verb-7 : tie.Need-enum-known-verb-7
+enum-known-verb-7 c = search needs
+
+reduce-rows-call-requires : tie.Need-reduce-rows-call-requires
+reduce-rows-call-requires c κs = search needs
+
 returns : tie.Need-returns
 returns c = rw (c .before .before .verb .given .1) (c .product-call .ensures)
 
@@ -57,6 +69,12 @@ returns-5 c = rw (c .before .before .verb5 .given .1) (c .apply-call .ensures)
 returns-6 : tie.Need-returns-6
 returns-6 c = rw (c .before .enum-told .given .1) (c .call-of .ensures)
 
+returns-7 : tie.Need-returns-7
+returns-7 c = rw (c .before .before .verb6 .given .1) (c .select-call .ensures)
+
+returns-8 : tie.Need-returns-8
+returns-8 c = rw (c .before .before .verb7 .given .1) (c .reduce-rows-call .ensures)
+
 pub decode-spec : {M : Type 1} → statement M
 decode-spec =
     tie.close
@@ -73,9 +91,15 @@ decode-spec =
     apply-call-requires
     enum-told
     call-of-requires
+    enum-known-verb-6
+    select-call-requires
+    enum-known-verb-7
+    reduce-rows-call-requires
     returns
     returns-2
     returns-3
     returns-4
     returns-5
-    returns-6)
+    returns-6
+    returns-7
+    returns-8)

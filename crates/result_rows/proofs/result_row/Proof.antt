@@ -51,6 +51,26 @@ extracted-requires c κs =
     let e = c .before .before .enum-told .given .1 in
     (list-inputs _ _ _ _ _ _ (rw e at (p .0)), buffers (rw e at (p .1)))
 
+enum-known-operation-5 : tie.Need-enum-known-operation-5
+enum-known-operation-5 c = search needs
+
+selected-requires : tie.Need-selected-requires
+selected-requires c κs =
+    let p = c .before .before .before .before .before .before .before .before .before .before .before .before .pre in
+    let e = c .before .before .before .operation5 .given .1 in
+    let h = rw e at (p .0) in
+    (h .first, (h .row, buffers (rw e at (p .1))))
+
+enum-known-operation-6 : tie.Need-enum-known-operation-6
+enum-known-operation-6 c = search needs
+
+reduce-rows-requires : tie.Need-reduce-rows-requires
+reduce-rows-requires c κs =
+    let p = c .before .before .before .before .before .before .before .before .before .before .before .before .pre in
+    let e = c .before .before .before .operation6 .given .1 in
+    let h = rw e at (p .0) in
+    (h .first, buffers (rw e at (p .1)))
+
 same-length : tie.Need-same-length
 same-length c = search needs
 
@@ -108,6 +128,28 @@ returns-5 c =
     let q = c .before .before .before .before in
     rw (q .before .before .before .enum-told .given .1) (q .extracted .ensures)
 
+same-length-11 : tie.Need-same-length-11
+same-length-11 c = search needs
+
+same-length-12 : tie.Need-same-length-12
+same-length-12 c = search needs
+
+returns-6 : tie.Need-returns-6
+returns-6 c =
+    let q = c .before .before .before .before in
+    rw (q .before .before .before .before .operation5 .given .1) (q .selected .ensures)
+
+same-length-13 : tie.Need-same-length-13
+same-length-13 c = search needs
+
+same-length-14 : tie.Need-same-length-14
+same-length-14 c = search needs
+
+returns-7 : tie.Need-returns-7
+returns-7 c =
+    let q = c .before .before .before .before in
+    rw (q .before .before .before .before .operation6 .given .1) (q .reduce-rows .ensures)
+
 pub result-row-spec : {M : Type 1} → statement M
 result-row-spec =
     tie.close
@@ -122,6 +164,10 @@ result-row-spec =
     applied-requires
     enum-told
     extracted-requires
+    enum-known-operation-5
+    selected-requires
+    enum-known-operation-6
+    reduce-rows-requires
     same-length
     same-length-2
     returns
@@ -136,4 +182,10 @@ result-row-spec =
     returns-4
     same-length-9
     same-length-10
-    returns-5)
+    returns-5
+    same-length-11
+    same-length-12
+    returns-6
+    same-length-13
+    same-length-14
+    returns-7)

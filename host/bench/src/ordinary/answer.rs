@@ -48,6 +48,14 @@ pub fn pack_cell(answer: Result<Cell>) -> u64 {
     }
 }
 
+/// The same for a matrix that was reduced to a number.
+pub fn pack_number(answer: Result<u32>) -> u64 {
+    match answer {
+        Ok(number) => u64::from(number) << 32,
+        Err(refusal) => refusal as u64,
+    }
+}
+
 /// The place of a part of two matrices' words: which matrix, how many words, from which word on.
 pub fn pack_part(in_second: bool, from: usize, count: usize) -> u64 {
     u64::from(in_second) | (count as u64) << 8 | (from as u64) << 32

@@ -4,7 +4,7 @@ use super::answer::Result;
 use super::dense::{DenseRow, RowBuffer};
 use super::matrix::{Matrix, Row, MAX_SIDE, MAX_WORDS};
 use super::merge::{merge, MaskRow};
-use super::operators::{ApplyOp, BinaryOp};
+use super::operators::{ApplyOp, BinaryOp, SelectOp};
 use super::output::Output;
 use super::request::{Inputs, Operation, Request};
 use super::transpose::transpose;
@@ -30,6 +30,8 @@ pub fn compute<'w>(request: &Request, inputs: &Inputs, work: &'w mut [u32]) -> R
             let positions = Positions::new(cols);
             write.rows(result, |i, t| extract_row(a.row(rows[i] as usize), &positions, &mut dense, t))
         }
+        Operation::Select(op) => write.rows(result, |i, t| select_row(op, i as u32, a.row(i), t)),
+        Operation::ReduceRows(monoid) => write.rows(result, |_, t| row_totals(monoid, a, t)),
     }
 }
 
@@ -115,6 +117,28 @@ fn apply_row(op: ApplyOp, i: u32, a: Row, t: &mut RowBuffer) {
     for (j, x) in a.iter() {
         t.push(j, op.apply(x, i, j));
     }
+}
+
+fn select_row(op: SelectOp, i: u32, a: Row, t: &mut RowBuffer) {
+    for (j, x) in a.iter() {
+        if op.keeps(x, i, j) {
+            t.push(j, x);
+        }
+    }
+}
+
+/// At each column the total of that row, where it has entries.
+fn row_totals(monoid: BinaryOp, a: Matrix, t: &mut RowBuffer) {
+    for j in 0..a.rows() {
+        if let Some((&first, rest)) = a.row(j).values.split_first() {
+            t.push(j as u32, add_up(monoid, first, rest));
+        }
+    }
+}
+
+/// x and then each of the values.
+pub fn add_up(monoid: BinaryOp, x: u32, values: &[u32]) -> u32 {
+    values.iter().fold(x, |sum, &value| monoid.apply(sum, value))
 }
 
 /// For each column of A the position in the index list at which it is named, if it is.

@@ -1,8 +1,9 @@
 //! The calls on matrices in buffers of their own.
 
-use super::answer::{ensure, pack, pack_cell, pack_part, Refusal, Result};
-use super::compute::compute;
+use super::answer::{ensure, pack, pack_cell, pack_number, pack_part, Refusal, Result};
+use super::compute::{add_up, compute};
 use super::matrix::{side_valid, size, write_empty, Cell, Matrix};
+use super::operators::BinaryOp;
 use super::request::{Inputs, Operation, Request};
 use ostrubel::calls::OptionNumbers;
 
@@ -35,6 +36,17 @@ fn find_cell(i: u32, j: u32, words: &[u32]) -> Result<Cell> {
     let inside = (i as usize) < matrix.rows() && (j as usize) < matrix.cols;
     ensure(inside, Refusal::IndexOutOfBounds)?;
     Ok(matrix.cell(i as usize, j))
+}
+
+/// All values of the matrix added up with a monoid.
+pub fn reduce(monoid: u32, words: &[u32]) -> u64 {
+    pack_number(total(monoid, words))
+}
+
+fn total(monoid: u32, words: &[u32]) -> Result<u32> {
+    let op = BinaryOp::monoid(monoid).ok_or(Refusal::UnknownOperator)?;
+    let matrix = Matrix::parse(words).ok_or(Refusal::InvalidFirst)?;
+    Ok(add_up(op, op.identity(), matrix.values))
 }
 
 /// Where row i over two matrices lies: its column numbers where `values` is 0, else its values.
@@ -133,6 +145,31 @@ pub fn extract(
     work: &mut [u32],
 ) -> u64 {
     run(options, Some(Operation::Extract { rows: is, cols: js }), a, None, mask, c, work)
+}
+
+/// The entries of A for which a condition with a scalar holds.
+pub fn select(
+    options: OptionNumbers,
+    op: u32,
+    scalar: u32,
+    a: &[u32],
+    mask: &[u32],
+    c: &mut [u32],
+    work: &mut [u32],
+) -> u64 {
+    run(options, Operation::select(op, scalar), a, None, mask, c, work)
+}
+
+/// In one row, at column j, the values of A's row j added up with the monoid.
+pub fn reduce_rows(
+    options: OptionNumbers,
+    monoid: u32,
+    a: &[u32],
+    mask: &[u32],
+    c: &mut [u32],
+    work: &mut [u32],
+) -> u64 {
+    run(options, Operation::reduce_rows(monoid), a, None, mask, c, work)
 }
 
 /// The attempt, and then the workspace is cleared.

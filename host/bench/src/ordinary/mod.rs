@@ -17,8 +17,10 @@ mod sections;
 mod store;
 mod transpose;
 
-pub use lent::{apply, check, ewise_add, ewise_mult, extract, mxm, new_empty, read_cell, row_view, vxm};
+pub use lent::{
+    apply, check, ewise_add, ewise_mult, extract, mxm, new_empty, read_cell, reduce, reduce_rows, row_view, select, vxm,
+};
 pub use store::{
     store_apply, store_clear_cell, store_drop, store_ewise_add, store_ewise_mult, store_extract, store_mxm,
-    store_new_empty, store_read_cell, store_set_cell, store_vxm,
+    store_new_empty, store_read_cell, store_reduce, store_reduce_rows, store_select, store_set_cell, store_vxm,
 };

@@ -46,6 +46,16 @@ impl BinaryOp {
         }
     }
 
+    /// What a monoid gives for no values. Of another operator it is not asked.
+    pub fn identity(self) -> u32 {
+        match self {
+            BinaryOp::Times => 1,
+            BinaryOp::Min => i32::MAX as u32,
+            BinaryOp::Max => i32::MIN as u32,
+            _ => 0,
+        }
+    }
+
     /// The operator where both are there; a lone value as it is.
     pub fn unite(self, x: Option<u32>, y: Option<u32>) -> Option<u32> {
         match (x, y) {
@@ -140,6 +150,52 @@ impl ApplyOp {
             ApplyOp::ScalarFirst(op, scalar) => op.apply(scalar, x),
             ApplyOp::ScalarSecond(op, scalar) => op.apply(x, scalar),
             ApplyOp::Index(op, scalar) => op.apply(i, j, scalar),
+        }
+    }
+}
+
+/// A condition of select, with its scalar.
+#[derive(Clone, Copy, Debug)]
+pub enum SelectOp {
+    Equal(u32),
+    NotEqual(u32),
+    Less(i32),
+    AtMost(i32),
+    Greater(i32),
+    AtLeast(i32),
+    Lower(i32),
+    Upper(i32),
+}
+
+impl SelectOp {
+    pub fn numbered(op: u32, scalar: u32) -> Option<Self> {
+        let signed = scalar as i32;
+        Some(match op {
+            0 => SelectOp::Equal(scalar),
+            1 => SelectOp::NotEqual(scalar),
+            2 => SelectOp::Less(signed),
+            3 => SelectOp::AtMost(signed),
+            4 => SelectOp::Greater(signed),
+            5 => SelectOp::AtLeast(signed),
+            6 => SelectOp::Lower(signed),
+            7 => SelectOp::Upper(signed),
+            _ => return None,
+        })
+    }
+
+    /// Whether x at row i and column j of the matrix as transposed is kept.
+    pub fn keeps(self, x: u32, i: u32, j: u32) -> bool {
+        let value = x as i32;
+        let diagonal = |s: i32| i64::from(i) + i64::from(s);
+        match self {
+            SelectOp::Equal(s) => x == s,
+            SelectOp::NotEqual(s) => x != s,
+            SelectOp::Less(s) => value < s,
+            SelectOp::AtMost(s) => value <= s,
+            SelectOp::Greater(s) => value > s,
+            SelectOp::AtLeast(s) => value >= s,
+            SelectOp::Lower(s) => i64::from(j) <= diagonal(s),
+            SelectOp::Upper(s) => i64::from(j) >= diagonal(s),
         }
     }
 }

@@ -2,7 +2,7 @@
 
 use super::answer::{ensure, Refusal, Result};
 use super::matrix::{Matrix, MAX_SIDE, MAX_WORDS};
-use super::operators::{ApplyOp, BinaryOp};
+use super::operators::{ApplyOp, BinaryOp, SelectOp};
 use ostrubel::calls::OptionNumbers;
 
 const MAX_FLAGS: u32 = 31;
@@ -23,6 +23,8 @@ pub enum Operation<'a> {
     EwiseAdd(BinaryOp),
     Apply(ApplyOp),
     Extract { rows: &'a [u32], cols: &'a [u32] },
+    Select(SelectOp),
+    ReduceRows(BinaryOp),
 }
 
 impl<'a> Operation<'a> {
@@ -46,8 +48,17 @@ impl<'a> Operation<'a> {
         ApplyOp::numbered(kind, op, scalar).map(Operation::Apply)
     }
 
+    pub fn select(op: u32, scalar: u32) -> Option<Self> {
+        SelectOp::numbered(op, scalar).map(Operation::Select)
+    }
+
+    pub fn reduce_rows(monoid: u32) -> Option<Self> {
+        BinaryOp::monoid(monoid).map(Operation::ReduceRows)
+    }
+
     fn has_second(&self) -> bool {
-        !matches!(self, Operation::Apply(_) | Operation::Extract { .. })
+        use Operation::{EwiseAdd, EwiseMult, Mxm, Vxm};
+        matches!(self, Mxm { .. } | Vxm { .. } | EwiseMult(_) | EwiseAdd(_))
     }
 }
 
@@ -104,7 +115,8 @@ impl<'a> Request<'a> {
             Operation::Mxm { .. } => first.1 == second.0 && (first.0, second.1) == output,
             Operation::Vxm { .. } => first.0 == 1 && first.1 == second.0 && (1, second.1) == output,
             Operation::EwiseMult(_) | Operation::EwiseAdd(_) => first == second && first == output,
-            Operation::Apply(_) => first == output,
+            Operation::Apply(_) | Operation::Select(_) => first == output,
+            Operation::ReduceRows(_) => (1, first.0) == output,
             Operation::Extract { rows, cols } => (rows.len(), cols.len()) == output,
         };
         let mask_agrees = inputs.mask.is_none_or(|mask| mask.shape() == output);

@@ -1,8 +1,9 @@
 //! The calls on a store.
 
-use super::answer::{ensure, pack, pack_cell, Refusal, Result};
-use super::compute::compute;
+use super::answer::{ensure, pack, pack_cell, pack_number, Refusal, Result};
+use super::compute::{add_up, compute};
 use super::matrix::{side_valid, size, write_empty, Cell, Matrix, MAX_ENTRIES};
+use super::operators::BinaryOp;
 use super::request::{Inputs, Operation, Request};
 use super::sections::{Bounds, Store, SLOTS};
 use ostrubel::calls::OptionNumbers;
@@ -30,6 +31,18 @@ pub fn store_clear_cell(slot: usize, i: u32, j: u32, store: &mut [u32]) -> u64 {
 /// The cell at row i and column j of a slot's matrix.
 pub fn store_read_cell(slot: usize, i: u32, j: u32, store: &[u32]) -> u64 {
     pack_cell(find_cell(slot, i, j, store).map(|found| found.cell))
+}
+
+/// All values of a slot's matrix added up with a monoid.
+pub fn store_reduce(slot: usize, monoid: u32, store: &[u32]) -> u64 {
+    pack_number(total(slot, monoid, store))
+}
+
+fn total(slot: usize, monoid: u32, words: &[u32]) -> Result<u32> {
+    let store = parse(words, &[slot])?;
+    let op = BinaryOp::monoid(monoid).ok_or(Refusal::UnknownOperator)?;
+    let matrix = store.matrix(slot).ok_or(Refusal::EmptySlot)?;
+    Ok(add_up(op, op.identity(), matrix.values))
 }
 
 fn new_empty(slot: usize, rows: u32, cols: u32, words: &mut [u32]) -> Result<usize> {
@@ -226,6 +239,34 @@ pub fn store_extract(
     work: &mut [u32],
 ) -> u64 {
     run(options, Some(Operation::Extract { rows: is, cols: js }), Slots { a, b: None, mask, c }, store, work)
+}
+
+/// The entries of A for which a condition with a scalar holds.
+#[allow(clippy::too_many_arguments)]
+pub fn store_select(
+    options: OptionNumbers,
+    op: u32,
+    scalar: u32,
+    a: usize,
+    mask: usize,
+    c: usize,
+    store: &mut [u32],
+    work: &mut [u32],
+) -> u64 {
+    run(options, Operation::select(op, scalar), Slots { a, b: None, mask, c }, store, work)
+}
+
+/// In one row, at column j, the values of A's row j added up with the monoid.
+pub fn store_reduce_rows(
+    options: OptionNumbers,
+    monoid: u32,
+    a: usize,
+    mask: usize,
+    c: usize,
+    store: &mut [u32],
+    work: &mut [u32],
+) -> u64 {
+    run(options, Operation::reduce_rows(monoid), Slots { a, b: None, mask, c }, store, work)
 }
 
 /// The slots that a call names. The mask's is not looked at where there is none.

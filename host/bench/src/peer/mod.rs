@@ -13,7 +13,7 @@ use crate::timing::Subject;
 #[cfg(feature = "suitesparse")]
 pub use elements::{element, row};
 #[cfg(feature = "suitesparse")]
-pub use operations::operation;
+pub use operations::{operation, total};
 
 /// A call whose result can be looked at.
 pub trait Peer: Subject {
@@ -24,6 +24,12 @@ pub trait Peer: Subject {
 /// An operation on lent matrices.
 #[cfg(not(feature = "suitesparse"))]
 pub fn operation(_: &LentJob) -> Option<Box<dyn Peer>> {
+    None
+}
+
+/// A matrix reduced to a number, and the number.
+#[cfg(not(feature = "suitesparse"))]
+pub fn total(_: &[u32]) -> Option<(Box<dyn Subject>, i32)> {
     None
 }
 

@@ -1,17 +1,19 @@
-//! The six operations.
+//! The operations.
 
 use super::Peer;
 use crate::entries::Entries;
-use crate::jobs::{Buffers, LentJob, Operation, SCALAR};
+use crate::jobs::{Buffers, LentJob, Operation, SCALAR, THRESHOLD};
 use crate::timing::Subject;
-use suitesparse::{Apply, Binary, Descriptor, Matrix, Monoid, Semiring, Vector, WriteBack};
+use std::hint::black_box;
+use suitesparse::{Apply, Binary, Condition, Descriptor, Matrix, Monoid, Semiring, Vector, WriteBack};
 
 const FAILED: &str = "SuiteSparse carries out the call";
 
 /// An operation on lent matrices.
 pub fn operation(job: &LentJob) -> Option<Box<dyn Peer>> {
     match job.operation {
-        Operation::Vxm => Some(Box::new(VectorCall::new(job))),
+        Operation::Vxm => Some(Box::new(VectorCall::new(job, Some((semiring(), vector(&job.a))), matrix(&job.b)))),
+        Operation::ReduceRows => Some(Box::new(VectorCall::new(job, None, matrix(&job.a)))),
         _ => Some(Box::new(MatrixCall::new(job))),
     }
 }
@@ -26,6 +28,29 @@ fn vector(words: &[u32]) -> Vector {
     let Entries { cols, cells, .. } = Entries::read(words);
     let pairs: Vec<(u32, i32)> = cells.into_iter().map(|((_, j), value)| (j, value)).collect();
     Vector::from_pairs(cols as u32, &pairs).expect(FAILED)
+}
+
+/// A matrix reduced to a number, and the number.
+pub fn total(words: &[u32]) -> Option<(Box<dyn Subject>, i32)> {
+    let a = matrix(words);
+    let total = suitesparse::reduce(Monoid::Plus, &a).expect(FAILED);
+    Some((Box::new(TotalCall { a }), total))
+}
+
+struct TotalCall {
+    a: Matrix,
+}
+
+impl Subject for TotalCall {
+    fn restore(&mut self, _: &mut Buffers) {}
+
+    fn call(&mut self, _: &mut Buffers) {
+        black_box(suitesparse::reduce(Monoid::Plus, &self.a).expect(FAILED));
+    }
+
+    fn repeats(&self) -> bool {
+        true
+    }
 }
 
 fn accumulator(job: &LentJob) -> Option<Binary> {
@@ -46,6 +71,7 @@ enum MatrixOperation {
     EwiseAdd,
     Apply,
     Extract { rows: Vec<u64>, cols: Vec<u64> },
+    Select,
 }
 
 struct MatrixCall {
@@ -67,6 +93,8 @@ impl MatrixCall {
             Operation::EwiseAdd => MatrixOperation::EwiseAdd,
             Operation::Apply => MatrixOperation::Apply,
             Operation::Extract { rows, cols } => MatrixOperation::Extract { rows: wide(rows), cols: wide(cols) },
+            Operation::Select => MatrixOperation::Select,
+            Operation::ReduceRows => unreachable!("it has a vector for C"),
         };
         MatrixCall {
             operation,
@@ -98,6 +126,7 @@ impl Subject for MatrixCall {
                 suitesparse::apply(c, write, apply, a)
             }
             MatrixOperation::Extract { rows, cols } => suitesparse::extract(c, write, a, rows, cols),
+            MatrixOperation::Select => suitesparse::select(c, write, Condition::ValueGe, THRESHOLD as i32, a),
         };
         done.expect(FAILED);
     }
@@ -116,10 +145,10 @@ impl Peer for MatrixCall {
     }
 }
 
-/// `vxm`, whose vectors are no matrices here.
+/// `vxm` and `reduce_rows`, whose vectors are no matrices here.
 struct VectorCall {
-    semiring: Semiring,
-    u: Vector,
+    /// Of `vxm`.
+    product: Option<(Semiring, Vector)>,
     a: Matrix,
     mask: Option<Vector>,
     accumulator: Option<Binary>,
@@ -129,11 +158,10 @@ struct VectorCall {
 }
 
 impl VectorCall {
-    fn new(job: &LentJob) -> Self {
+    fn new(job: &LentJob, product: Option<(Semiring, Vector)>, a: Matrix) -> Self {
         VectorCall {
-            semiring: semiring(),
-            u: vector(&job.a),
-            a: matrix(&job.b),
+            product,
+            a,
             mask: (job.options.has_mask != 0).then(|| vector(&job.mask)),
             accumulator: accumulator(job),
             descriptor: Descriptor::new(job.options.flags).expect(FAILED),
@@ -150,7 +178,11 @@ impl Subject for VectorCall {
 
     fn call(&mut self, _: &mut Buffers) {
         let write = WriteBack { mask: self.mask.as_ref(), accumulator: self.accumulator, descriptor: &self.descriptor };
-        suitesparse::vxm(&self.w, write, &self.semiring, &self.u, &self.a).expect(FAILED);
+        let done = match &self.product {
+            Some((semiring, u)) => suitesparse::vxm(&self.w, write, semiring, u, &self.a),
+            None => suitesparse::reduce_rows(&self.w, write, Monoid::Plus, &self.a),
+        };
+        done.expect(FAILED);
     }
 
     fn repeats(&self) -> bool {

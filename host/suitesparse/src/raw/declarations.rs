@@ -81,6 +81,14 @@ extern "C" {
     pub static GrB_ROWINDEX_INT32: IndexUnaryOp;
     pub static GrB_COLINDEX_INT32: IndexUnaryOp;
     pub static GrB_DIAGINDEX_INT32: IndexUnaryOp;
+    pub static GrB_VALUEEQ_INT32: IndexUnaryOp;
+    pub static GrB_VALUENE_INT32: IndexUnaryOp;
+    pub static GrB_VALUELT_INT32: IndexUnaryOp;
+    pub static GrB_VALUELE_INT32: IndexUnaryOp;
+    pub static GrB_VALUEGT_INT32: IndexUnaryOp;
+    pub static GrB_VALUEGE_INT32: IndexUnaryOp;
+    pub static GrB_TRIL: IndexUnaryOp;
+    pub static GrB_TRIU: IndexUnaryOp;
 
     pub fn GrB_init(mode: c_int) -> Info;
     pub fn GxB_Global_Option_set_INT32(field: c_int, value: i32) -> Info;
@@ -227,6 +235,30 @@ extern "C" {
         row_count: Index,
         cols: *const Index,
         col_count: Index,
+        descriptor: Descriptor,
+    ) -> Info;
+    pub fn GrB_Matrix_select_INT32(
+        c: Matrix,
+        mask: Matrix,
+        accumulator: BinaryOp,
+        op: IndexUnaryOp,
+        a: Matrix,
+        scalar: i32,
+        descriptor: Descriptor,
+    ) -> Info;
+    pub fn GrB_Matrix_reduce_Monoid(
+        w: Vector,
+        mask: Vector,
+        accumulator: BinaryOp,
+        monoid: Monoid,
+        a: Matrix,
+        descriptor: Descriptor,
+    ) -> Info;
+    pub fn GrB_Matrix_reduce_INT32(
+        number: *mut i32,
+        accumulator: BinaryOp,
+        monoid: Monoid,
+        a: Matrix,
         descriptor: Descriptor,
     ) -> Info;
 }

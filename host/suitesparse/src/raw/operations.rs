@@ -1,8 +1,8 @@
-//! The six operations, and index operators on a vector. The result is materialized when one returns.
+//! The operations, and index operators on a vector. The result is materialized when one returns.
 
 use super::objects::{Descriptor, Matrix, Semiring, Vector};
 use super::{c, call, Error};
-use crate::operators::{Apply, Binary, IndexUnary, Monoid, Unary};
+use crate::operators::{Apply, Binary, Condition, IndexUnary, Monoid, Unary};
 use std::ptr::null_mut;
 
 /// How a result is written into C; `T` is the kind of the mask, a matrix or a vector.
@@ -88,6 +88,21 @@ fn index_unary_op(op: IndexUnary) -> c::IndexUnaryOp {
     }
 }
 
+fn condition_op(op: Condition) -> c::IndexUnaryOp {
+    unsafe {
+        match op {
+            Condition::ValueEq => c::GrB_VALUEEQ_INT32,
+            Condition::ValueNe => c::GrB_VALUENE_INT32,
+            Condition::ValueLt => c::GrB_VALUELT_INT32,
+            Condition::ValueLe => c::GrB_VALUELE_INT32,
+            Condition::ValueGt => c::GrB_VALUEGT_INT32,
+            Condition::ValueGe => c::GrB_VALUEGE_INT32,
+            Condition::Tril => c::GrB_TRIL,
+            Condition::Triu => c::GrB_TRIU,
+        }
+    }
+}
+
 /// C gets A times B.
 pub fn mxm(c: &Matrix, write: WriteBack<Matrix>, semiring: &Semiring, a: &Matrix, b: &Matrix) -> Result<(), Error> {
     let (mask, accumulator, descriptor) = (write.mask(), write.accumulator(), write.descriptor.handle());
@@ -162,4 +177,28 @@ pub fn extract(c: &Matrix, write: WriteBack<Matrix>, a: &Matrix, rows: &[u64], c
         call!(GrB_Matrix_extract(to, mask, accumulator, a, row_list, row_count, col_list, col_count, descriptor))?
     };
     c.wait()
+}
+
+/// The entries of A for which a condition holds.
+pub fn select(c: &Matrix, write: WriteBack<Matrix>, op: Condition, scalar: i32, a: &Matrix) -> Result<(), Error> {
+    let (mask, accumulator, descriptor) = (write.mask(), write.accumulator(), write.descriptor.handle());
+    let (to, op, a) = (c.handle(), condition_op(op), a.handle());
+    unsafe { call!(GrB_Matrix_select_INT32(to, mask, accumulator, op, a, scalar, descriptor))? };
+    c.wait()
+}
+
+/// w gets the values of each row of A added up.
+pub fn reduce_rows(w: &Vector, write: WriteBack<Vector>, monoid: Monoid, a: &Matrix) -> Result<(), Error> {
+    let (mask, accumulator, descriptor) = (write.mask(), write.accumulator(), write.descriptor.handle());
+    let (to, monoid, a) = (w.handle(), monoid_handle(monoid), a.handle());
+    unsafe { call!(GrB_Matrix_reduce_Monoid(to, mask, accumulator, monoid, a, descriptor))? };
+    w.wait()
+}
+
+/// All values of A added up.
+pub fn reduce(monoid: Monoid, a: &Matrix) -> Result<i32, Error> {
+    let mut number = 0;
+    let (monoid, a) = (monoid_handle(monoid), a.handle());
+    unsafe { call!(GrB_Matrix_reduce_INT32(&mut number, null_mut(), monoid, a, null_mut()))? };
+    Ok(number)
 }

@@ -1,0 +1,3 @@
+pub mod Identities
+pub mod Totals
+pub mod Same
