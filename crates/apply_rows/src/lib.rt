@@ -1,9 +1,13 @@
-// Apply on one row of the input as its transpose flag asks.
+// Apply on one row of the input as its transpose flag asks, and on the values of a whole matrix.
 use operators::ApplyOp;
-ghost use Prim.Native.Nat.{_≤_};
+ghost use mathlib.Core.Path.{_≡_};
+ghost use mathlib.Core.List.{map};
+ghost use Prim.Native.Nat.{_+_, _≤_};
 ghost use lib.ListN.{length};
+ghost use Rattle.words.specs.Words.{overwrite};
 ghost use Rattle.operations.specs.CellOperations.{applyCell};
 ghost use Rattle.rows.specs.Row.{lookup, Row, Holds};
+ghost use Rattle.apply_rows.specs.Values.{byValue, valueWord};
 
 // Row i, of `places` columns: each entry keeps its column, and its value becomes what the operator makes of it at row i
 // and that column. The result is left at the front of `oc` and `ov`, and its number of entries returned.
@@ -31,4 +35,28 @@ pub fn apply_row(
         p += 1;
     }
     p
+}
+
+// Whether an operator looks at the value alone, and not at row and column numbers.
+pub fn by_value(op: ApplyOp) -> bool
+    ensures { λ r. ⌜ r ≡ byValue op ⌝ }
+{
+    match op {
+        ApplyOp::Unary(_) => true,
+        ApplyOp::BinaryScalarFirst(_, _) => true,
+        ApplyOp::BinaryScalarSecond(_, _) => true,
+        ApplyOp::IndexUnary(_, _) => false,
+    }
+}
+
+// What an operator that looks at the value alone makes of the values `src`, written into `dst` from `at` on.
+pub fn apply_values(op: ApplyOp, dst: &mut [u32], at: usize, src: &[u32])
+    requires { ⌜ at + length (now src) ≤ length (now dst) ⌝ }
+    ensures { λ _. ⌜ now (dst .exit) ≡ overwrite at (map (valueWord op) (now (src .entry))) (now (dst .entry)) ⌝ }
+{
+    let mut k = 0;
+    while k < src.len() {
+        dst[at + k] = operators::apply_entry(op, src[k], 0, 0);
+        k += 1;
+    }
 }

@@ -4,12 +4,21 @@ use limits::MAX_ENTRIES;
 use limits::MAX_ROWS;
 use limits::ROW_PLACES;
 use matrix::layout::COLUMNS_PAST;
+use matrix::layout::COUNT_AGAIN_PAST;
+use matrix::layout::STARTS_AT;
+use matrix::layout::VALUES_PAST;
 use operations::Operation;
+use operators::ApplyOp;
 use products::Engine;
+ghost use mathlib.Core.Path.{_≡_};
+ghost use mathlib.Core.Bool.{true};
 ghost use Prim.Native.Nat.{_≤_};
 ghost use lib.ListN.{length};
 ghost use Rattle.matrix.specs.Layout.{gridOf, workspaceWords};
 ghost use Rattle.operations.specs.GridOperations.{resultGrid};
+ghost use Rattle.matrix.specs.Facts.{Matrix};
+ghost use Rattle.apply_rows.specs.Values.{byValue};
+ghost use Rattle.plain_results.specs.Applied.{appliedGrid};
 ghost use Rattle.plain_results.specs.Rows.{Inputs, Space, AllRows, Written};
 
 // The places of a buffer for all rows: as many as a matrix may have entries, and one row more.
@@ -17,9 +26,50 @@ const RESULT_PLACES: usize = MAX_ENTRIES as usize + ROW_PLACES;
 
 const START_PLACES: usize = MAX_ROWS as usize;
 
-// T at the front of the workspace: its column numbers are written where they stay, the starts of its rows and its values
-// are joined to them at the end. The number of entries; where it is too large, that of the rows so far.
+// T at the front of the workspace. The number of entries; where it is too large, that of the rows so far.
 pub fn write_result(
+    operation: Operation,
+    a: &[u32],
+    b: &[u32],
+    c: &[u32],
+    is: &[u32],
+    js: &[u32],
+    work: &mut [u32],
+    engine: Engine,
+) -> usize
+    requires { ⌜ Inputs operation (now a) (now b) (now c) (now is) (now js) ⌝ ∗ ⌜ workspaceWords ≤ length (now work) ⌝ }
+    ensures { λ r. ⌜ Written (resultGrid operation (gridOf (now (a .entry))) (gridOf (now (b .entry)))
+        (gridOf (now (c .entry))) (now (is .entry)) (now (js .entry))) r (now (work .exit)) ⌝ }
+{
+    match operation {
+        Operation::Apply(op) => {
+            if apply_rows::by_value(op) {
+                return write_applied(op, a, work);
+            }
+            write_rows(operation, a, b, c, is, js, work, engine)
+        }
+        _ => write_rows(operation, a, b, c, is, js, work, engine),
+    }
+}
+
+// T of apply by an operator that looks at the value alone: row starts and column numbers are those of A.
+fn write_applied(op: ApplyOp, a: &[u32], work: &mut [u32]) -> usize
+    requires { ⌜ Matrix (now a) ⌝ ∗ ⌜ byValue op ≡ true ⌝ ∗ ⌜ workspaceWords ≤ length (now work) ⌝ }
+    ensures { λ r. ⌜ Written (appliedGrid op (gridOf (now (a .entry)))) r (now (work .exit)) ⌝ }
+{
+    let rows = matrix::row_count(a) as usize;
+    let n = matrix::entry_count(a) as usize;
+    let cols = matrix::col_count(a);
+    words::copy_into(work, STARTS_AT, &a[STARTS_AT..rows + n + COUNT_AGAIN_PAST]);
+    let from = rows + n + VALUES_PAST;
+    apply_rows::apply_values(op, work, from, &a[from..from + n]);
+    matrix::write_header(work, rows as u32, cols, n as u32);
+    n
+}
+
+// T row by row: its column numbers are written where they stay, the starts of its rows and its values
+// are joined to them at the end. The number of entries; where it is too large, that of the rows so far.
+fn write_rows(
     operation: Operation,
     a: &[u32],
     b: &[u32],
