@@ -53,21 +53,41 @@ pub fn result_row_inside(
     if none_inside(w, mc) {
         return 0;
     }
+    match engine {
+        Engine::ByPlaces => result_rows::result_row(engine, operation, a, b, c, is, js, i, oc, ov),
+        Engine::ByEntries => row_by_entries(w, mc, mv, operation, a, b, c, is, js, i, oc, ov),
+    }
+}
+
+// The same under a mask, by the engine by entries: of the product what lies outside the mask is left out.
+fn row_by_entries(
+    w: WriteBack,
+    mc: &[u32],
+    mv: &[u32],
+    operation: Operation,
+    a: &[u32],
+    b: &[u32],
+    c: &[u32],
+    is: &[u32],
+    js: &[u32],
+    i: usize,
+    oc: &mut [u32],
+    ov: &mut [u32],
+) -> usize
+    requires { ⌜ RowInputs operation (now a) (now b) (now c) (now is) (now js) i ⌝ }
+    requires { ⌜ Buffers (resultGrid operation (gridOf (now a)) (gridOf (now b)) (gridOf (now c)) (now is) (now js))
+        (now oc) (now ov) ⌝ }
+    requires { ⌜ UnderMask w (now mc) (now mv) ⌝ }
+    ensures { λ r. ⌜ HoldsInside w (lookup (now (mc .entry)) (now (mv .entry)))
+        (resultGrid operation (gridOf (now (a .entry))) (gridOf (now (b .entry)))
+        (gridOf (now (c .entry))) (now (is .entry)) (now (js .entry)) .cols)
+        (resultGrid operation (gridOf (now (a .entry))) (gridOf (now (b .entry)))
+        (gridOf (now (c .entry))) (now (is .entry)) (now (js .entry)) .cell i)
+        r (now (oc .exit)) (now (ov .exit)) ⌝ }
+{
     match operation {
-        Operation::Mxm(monoid, op) => product_inside(
-            engine,
-            w,
-            mc,
-            mv,
-            monoid,
-            op,
-            a,
-            b,
-            i,
-            oc,
-            ov,
-        ),
-        _ => result_rows::result_row(engine, operation, a, b, c, is, js, i, oc, ov),
+        Operation::Mxm(monoid, op) => masked_product(w, mc, mv, monoid, op, a, b, i, oc, ov),
+        _ => result_rows::result_row(Engine::ByEntries, operation, a, b, c, is, js, i, oc, ov),
     }
 }
 
@@ -80,32 +100,6 @@ fn none_inside(w: WriteBack, mc: &[u32]) -> bool
         return false;
     }
     mc.len() == 0
-}
-
-// The product's row. The engine by entries leaves out what lies outside the mask.
-fn product_inside(
-    engine: Engine,
-    w: WriteBack,
-    mc: &[u32],
-    mv: &[u32],
-    monoid: Monoid,
-    op: BinaryOp,
-    a: &[u32],
-    b: &[u32],
-    i: usize,
-    oc: &mut [u32],
-    ov: &mut [u32],
-) -> usize
-    requires { ⌜ ProductInputs (now a) (now b) i ⌝ ∗ ⌜ UnderMask w (now mc) (now mv) ⌝ }
-    requires { ⌜ (cols (now b) ≤ length (now oc)) × (cols (now b) ≤ length (now ov)) ⌝ }
-    ensures { λ r. ⌜ HoldsInside w (lookup (now (mc .entry)) (now (mv .entry))) (cols (now (b .entry)))
-        (λ j. dot monoid op (cols (now (a .entry))) (cellOf (now (a .entry)) i) (λ k. cellOf (now (b .entry)) k j))
-        r (now (oc .exit)) (now (ov .exit)) ⌝ }
-{
-    match engine {
-        Engine::ByPlaces => result_rows::product(engine, monoid, op, a, b, i, oc, ov),
-        Engine::ByEntries => masked_product(w, mc, mv, monoid, op, a, b, i, oc, ov),
-    }
 }
 
 // The product's row inside the mask.

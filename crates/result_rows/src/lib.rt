@@ -53,7 +53,7 @@ pub fn result_row(
 }
 
 // The product's row.
-pub fn product(
+fn product(
     engine: Engine,
     monoid: Monoid,
     op: BinaryOp,

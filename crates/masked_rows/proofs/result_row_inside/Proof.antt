@@ -1,10 +1,9 @@
--- `result_row_inside`: the whole row, none where no place lies inside, or the product's row inside the mask.
+-- `result_row_inside`: the whole row, none where no place lies inside, or what the engine by entries leaves.
 use borrow.Author.Needs.{needs}
 use mathlib.Core.Path.{_≡_}
 use mathlib.Core.Bool.{true}
 use denote.Ref.{now}
 use borrow.Author.Tests.{not-false}
-use Rattle.result_rows.proofs.Inputs.{product-inputs, buffers}
 use Rattle.masked_rows.proofs.Inside.{inside-all, inside-no}
 use Rattle.masked_rows.proofs.result_row_inside.Statement.{statement}
 use Rattle.masked_rows.proofs.result_row_inside.Tie as tie
@@ -37,21 +36,21 @@ returns-2 c =
     let a = start q .args in
     inside-no _ (now (a .mc)) (now (a .mv)) _ _ _ _ (has-mask q) (c .before .none-inside .ensures (c .if2 .taken))
 
-enum-known-operation : tie.Need-enum-known-operation
-enum-known-operation c = search needs
-
-product-inside-requires : tie.Need-product-inside-requires
-product-inside-requires c κs =
-    let q = c .before .before .before .before .before .before .before in
-    let p = q .before .before .before .before .before .before .before .before .before .before .pre in
-    let e = c .before .before .before .operation .given .1 in
-    let m = has-mask q in (
-      product-inputs _ _ _ _ _ _ _ _ (rw e at (p .0)),
-      (record { has = m; row = p .1 .1 m }, buffers (rw e at (p .1 .0))),
-    )
+enum-told : tie.Need-enum-told
+enum-told c = search needs
 
 result-row-requires-2 : tie.Need-result-row-requires-2
 result-row-requires-2 c κs = search needs
+
+enum-told-2 : tie.Need-enum-told-2
+enum-told-2 c = search needs
+
+row-by-entries-requires : tie.Need-row-by-entries-requires
+row-by-entries-requires c κs =
+    let q = c .before .before .before .before .before .before in
+    let p = start q .pre in
+    let m = has-mask q in
+    (p .0, (p .1 .0, record { has = m; row = p .1 .1 m }))
 
 same-length-3 : tie.Need-same-length-3
 same-length-3 c = search needs
@@ -60,9 +59,7 @@ same-length-4 : tie.Need-same-length-4
 same-length-4 c = search needs
 
 returns-3 : tie.Need-returns-3
-returns-3 c =
-    let q = c .before .before .before .before in
-    rw (q .before .before .before .before .operation .given .1) (q .product-inside .ensures)
+returns-3 c = inside-all (c .before .before .before .before .result-row2 .ensures)
 
 same-length-5 : tie.Need-same-length-5
 same-length-5 c = search needs
@@ -71,7 +68,7 @@ same-length-6 : tie.Need-same-length-6
 same-length-6 c = search needs
 
 returns-4 : tie.Need-returns-4
-returns-4 c = inside-all (c .before .before .before .before .result-row2 .ensures)
+returns-4 c = search needs
 
 pub result-row-inside-spec : {M : Type 1} → statement M
 result-row-inside-spec =
@@ -83,9 +80,10 @@ result-row-inside-spec =
     returns
     none-inside-requires
     returns-2
-    enum-known-operation
-    product-inside-requires
+    enum-told
     result-row-requires-2
+    enum-told-2
+    row-by-entries-requires
     same-length-3
     same-length-4
     returns-3
