@@ -15,7 +15,7 @@ use Rattle.rows.proofs.Lookup.{gathered}
 use Rattle.matrix.specs.Layout.{rows, cols, start, rowColumns, rowValues, cellOf, gridOf}
 use Rattle.matrix.specs.Facts.{RowSpan, Matrix}
 use Rattle.matrix.proofs.Facts.{matrix-made, row-span}
-use Rattle.matrix.proofs.Rows.{columns-length}
+use Rattle.matrix.proofs.Rows.{columns-length, row-even}
 use Rattle.encoding.proofs.Canonical.{valid-row, valid-before}
 
 module _ (s : List ℕ) (i : ℕ) (m : Matrix s) (l : i < rows s) where
@@ -51,7 +51,7 @@ module _ (s : List ℕ) (i : ℕ) (m : Matrix s) (l : i < rows s) where
   -- the two parts of the row as they were taken: what the search requires of them, and what it finds
   module _ (cs vs : List ℕ) (w : cs ≡ rowColumns s i) (u : vs ≡ rowValues s i) where
     pub parts-searchable : Rises cs × (length vs ≡ length cs) × (start s i + length cs ≤ maxEntries)
-    parts-searchable = rw (w, u) (row .rises, row .even, row-few)
+    parts-searchable = rw (w, u) (row .rises, row-even s i (m .header) span, row-few)
 
     pub parts-entry : (j : ℕ) (r : EntryAt) → r ≡ entryOf (lookup cs vs j) (start s i + position j cs)
         → r ≡ entryAt (gridOf s) i j
