@@ -16,9 +16,9 @@
  *
  * Answers. Each call returns one number: take it apart by the functions below. A call that is accepted has the code 0;
  * only ostrubel_row_view has no code.
- * A refused call has the lowest code that applies (on a store 12 comes first, and 13 between 2 and 7), changes no word
- * but the workspace's, and its entries, value, position or number are 0. The workspace is all zeros after every call that has
- * one.
+ * A refused call has the lowest code that applies (on a store 12 comes first, and 13 between 2 and 7; of a file 15 comes
+ * before 11), changes no word but the workspace's, and its entries, value, position or number are 0. The workspace is all
+ * zeros after every call that has one.
  *
  * Threads. A call takes no memory beside its buffers and the stack, and keeps nothing: calls on several threads may run
  * at once where each has buffers of its own (those that are only read may be shared). 48 KB of stack are enough for any

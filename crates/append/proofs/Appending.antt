@@ -1,6 +1,6 @@
 -- Laws of `Appended`: nothing, one byte, and two lists of bytes one after the other. Cited by every function that
 -- appends.
-use Prim.Native.Nat.{ℕ, suc, _+_, _-_, _≤_, _<_}
+use Prim.Native.Nat.{ℕ, suc, _+_, _≤_, _<_}
 use native.Mathlib.Omega.{arith}
 use native.Mathlib.Nat.{add-zero}
 use native.Mathlib.Numerals.{add-one}
@@ -49,7 +49,8 @@ overwrite-more a x y s h =
     ∙ ap (λ (l : List ℕ). l ++ drop (a + length (x ++ y)) s) (append-assoc (take a s) x y)
 
 -- x, and then y
-pub appended-then : {x y s t u : List ℕ} {a b c : ℕ} → Appended x s t a b → Appended y t u b c → Appended (x ++ y) s u a c
+pub appended-then : {x y s t u : List ℕ} {a b c : ℕ} → Appended x s t a b → Appended y t u b c
+    → Appended (x ++ y) s u a c
 appended-then {x} {y} {s} {t} {u} {a} {b} {c} p q = record {
   next = rw (length-append x y) (omega (arith, p .next, q .next));
   fits = omega (arith, q .fits, p .kept);

@@ -2,13 +2,11 @@
 use Prim.Native.Nat.{ℕ, suc, _+_, _-_, _*_, _/_, _%_, _^_, _≤_, _<_}
 use native.Mathlib.Omega.{arith}
 use native.Mathlib.Decide.{decLt}
-use mathlib.Core.Path.{_≡_, refl, sym, ap, _∙_}
+use mathlib.Core.Path.{_≡_, ap, _∙_}
 use mathlib.Core.List.{List, [], _∷_, _++_}
-use lib.ListN.{length, length-append}
-use lib.IntN.{ℤ, pos, negsuc}
 use borrow.Author.Tests.{lt-ltb, le-ltb}
 use Rattle.twos_complement.specs.TwosComplement.{signed}
-use Rattle.decimals.specs.Decimal.{digit, minus, digits, decimal, decimalℤ, signedDecimal}
+use Rattle.decimals.specs.Decimal.{digit, minus, digits, decimal, signedDecimal}
 
 -- for numbers below b a turn more than `suc t` changes nothing
 abbrev Enough : ℕ → ℕ → Type 0

@@ -2,8 +2,7 @@
 use Prim.Native.Nat.{ℕ, suc, _+_, _-_, _*_, _/_, _%_, _^_, _≤_, _<_}
 use native.Mathlib.Omega.{arith}
 use native.Mathlib.Decide.{decLt}
-use mathlib.Core.Path.{_≡_, ap, _∙_}
-use mathlib.Core.List.{List, [], _∷_, _++_}
+use mathlib.Core.List.{[], _∷_}
 use lib.ListN.{length, length-append}
 use Rattle.decimals.specs.Decimal.{digit, decimal, signedDecimal}
 use Rattle.decimals.proofs.Digits.{decimal-small, decimal-large, signed-small, signed-large}

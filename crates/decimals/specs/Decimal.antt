@@ -1,5 +1,5 @@
--- Whole numbers in decimals, as bytes (document 02, A1: "signed decimals"): the digits with the highest first, no zero in
--- front, and a minus sign before those of a negative number.
+-- Whole numbers in decimals, as bytes (document 02, A1: "signed decimals"): the digits with the highest first, no zero
+-- in front, and a minus sign before those of a negative number.
 use Prim.Native.Nat.{ℕ, zero, suc, _+_, _/_, _%_}
 use mathlib.Core.Path.{_≡_, refl}
 use mathlib.Core.List.{List, [], _∷_, _++_}

@@ -1,5 +1,5 @@
 -- What a caller takes out of the answers of the calls on files and texts is what was packed.
-use Prim.Native.Nat.{ℕ, _*_, _<_, _≤_}
+use Prim.Native.Nat.{ℕ, _*_, _<_}
 use mathlib.Core.Path.{_≡_, ap}
 use mathlib.Core.Bool.{Bool, true, false, cond}
 use mathlib.Core.List.{List}
@@ -14,9 +14,9 @@ use Rattle.word_bytes.specs.Bytes.{wordsOf}
 use Rattle.files.specs.File.{fileOf, takenAnswer, writtenAnswer}
 use Rattle.text.specs.declared.TextAnswer.{TextAnswer}
 use Rattle.text.specs.Text.{textOf, maxTextBytes, textAnswer}
-use Rattle.exports.specs.Packing.{upperWord, packed}
+use Rattle.exports.specs.Packing.{packed}
 use Rattle.exports.specs.Unpacked.{Unpacked}
-use Rattle.exports.specs.Files.{packedText, LentFileRead, LentFileWritten, LentTextWritten, UnpackedText}
+use Rattle.exports.specs.Files.{LentFileRead, LentFileWritten, LentTextWritten, UnpackedText}
 
 -- one of two answers, by a test
 either : (b : Bool) (x y : Answer) → x .code < codeLimit → y .code < codeLimit → cond b x y .code < codeLimit

@@ -1,4 +1,5 @@
--- What the exported calls on files and texts answer and leave: the calls' own definitions, with the answer in one number r.
+-- What the exported calls on files and texts answer and leave: the calls' own definitions, with the answer in one
+-- number r.
 use Prim.Native.Nat.{ℕ, _+_, _*_, _%_, _/_}
 use mathlib.Core.Path.{_≡_}
 use mathlib.Core.List.{List}

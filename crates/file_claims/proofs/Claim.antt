@@ -1,7 +1,7 @@
 -- The theorem of specs/Claim: files carry matrices.
-use Prim.Native.Nat.{ℕ, _*_, _/_, _≤_}
+use Prim.Native.Nat.{ℕ, _*_, _≤_}
 use native.Mathlib.Omega.{arith}
-use mathlib.Core.Path.{_≡_, refl, sym, ap, _∙_}
+use mathlib.Core.Path.{_≡_, sym, ap, _∙_}
 use mathlib.Core.Bool.{true}
 use mathlib.Core.List.{List, _++_}
 use lib.ListN.{length, take, drop}
@@ -30,7 +30,6 @@ use Rattle.file_claims.proofs.Fronts.{
   matrix-valid,
   entries-of,
   size-of,
-  whole-of,
   words-of,
 }
 use Rattle.file_claims.proofs.Accepted.{Read, read-accepted, file-read, Wrote, write-accepted, file-written}

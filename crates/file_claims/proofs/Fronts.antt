@@ -1,8 +1,8 @@
 -- Words that are a matrix and nothing more, and words that begin with them: valid, of the same size and count.
-use Prim.Native.Nat.{ℕ, _+_, _*_, _^_, _≤_, _<_}
+use Prim.Native.Nat.{ℕ, _+_, _^_, _≤_, _<_}
 use native.Mathlib.Omega.{arith}
 use native.Mathlib.Decide.{decLt}
-use mathlib.Core.Path.{_≡_, refl, sym, ap, _∙_}
+use mathlib.Core.Path.{_≡_, sym, ap, _∙_}
 use mathlib.Core.Bool.{true}
 use mathlib.Core.List.{List, [], _++_, append-nil}
 use lib.ListN.{length, take, drop, take-append-drop, List·getD-append, List·getD-eq-default}
@@ -67,15 +67,13 @@ module _ (s : List ℕ) (v : valid s ≡ true) where
   pub size-of : size (matrixWords s) ≡ size s
   size-of = let r = rows-of in let e = entries-of in omega arith
 
-  pub whole-of : length (matrixWords s) ≡ size (matrixWords s)
-  whole-of = matrix-length ∙ sym size-of
-
 -- words of a part are words
 pub words-of : (s : List ℕ) (n : ℕ) → AreWords s → AreWords (take n s)
 words-of s n w k = go (decLt k (length (take n s)))
   where
     go : Dec (k < length (take n s)) → at (take n s) k < 2 ^ 32
     go (yes l) =
-        let e = sym (List·getD-append (take n s) (drop n s) 0 k l) ∙ ap (λ (x : List ℕ). at x k) (take-append-drop n s) in
+        let f = sym (List·getD-append (take n s) (drop n s) 0 k l) in
+        let e = f ∙ ap (λ (x : List ℕ). at x k) (take-append-drop n s) in
         rw e (w k)
     go (no l) = rw (List·getD-eq-default (take n s) 0 {n = k} (omega arith)) (omega arith)

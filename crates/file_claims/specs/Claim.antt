@@ -1,8 +1,8 @@
--- Document 02, A1: "Reading what was written gives the words back; each accepted file is what the writer gives." So a grid
--- has one file.
+-- Document 02, A1: "Reading what was written gives the words back; each accepted file is what the writer gives." So a
+-- grid has one file.
 --
--- The calls are `files::read_file` and `files::write_file`, and what they do is taken from their own contracts, by name:
--- `Reads.Learnt` is what a caller learns when the function returns.
+-- The calls are `files::read_file` and `files::write_file`, and what they do is taken from their own contracts, by
+-- name: `Reads.Learnt` is what a caller learns when the function returns.
 use Prim.Native.Nat.{ℕ, _*_, _≤_}
 use mathlib.Core.Path.{_≡_}
 use mathlib.Core.Bool.{true}

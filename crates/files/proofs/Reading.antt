@@ -1,7 +1,7 @@
 -- The cases of the reader, as the code reaches them.
 use Prim.Native.Nat.{ℕ, _+_, _*_, _/_, _≤_, _<_}
 use native.Mathlib.Omega.{arith}
-use mathlib.Core.Path.{_≡_, refl, sym, ap, _∙_}
+use mathlib.Core.Path.{_≡_, sym, ap, _∙_}
 use mathlib.Core.List.{List, _++_}
 use mathlib.Core.Bool.{true, false}
 use lib.ListN.{length, take, drop}
@@ -11,7 +11,6 @@ use borrow.Author.Tests.{le-leb, lt-leb, eq-eqb, ne-eqb, eqb-true}
 use Rattle.limits.specs.Sizes.{maxMatrixWords}
 use Rattle.conditions.specs.Tests.{_and_}
 use Rattle.conditions.proofs.Tests.{refuted, and-left, and-right}
-use Rattle.answers.specs.declared.Answer.{Answer}
 use Rattle.answers.specs.Refusals.{accepted, refused, insufficientSpace, invalidFile}
 use Rattle.words.specs.Words.{overwrite}
 use Rattle.matrix.specs.Layout.{size, entries}
@@ -33,7 +32,8 @@ overwrite-front x s = let e : 0 + length x ≡ length x = omega arith in rw e
 -- what was staged, without what lies behind it
 pub staged-words : (b d : List ℕ) (k : ℕ) → k ≡ length b / 4 → take k (overwrite 0 (wordsOf b) d) ≡ wordsOf b
 staged-words b d k e =
-    ap (take k) (overwrite-front (wordsOf b) d) ∙ take-at (wordsOf b) (drop (length (wordsOf b)) d) k (length-words b ∙ sym e)
+    ap (take k) (overwrite-front (wordsOf b) d)
+    ∙ take-at (wordsOf b) (drop (length (wordsOf b)) d) k (length-words b ∙ sym e)
 
 -- no file: 15, whatever room there is
 no-file : (n : ℕ) (h w : List ℕ) → fileOf n h ≡ false → Taken n h w (refused invalidFile) w

@@ -9,7 +9,7 @@ use Rattle.limits.specs.Ranges.{inRange}
 use Rattle.answers.specs.Refusals.{accepted, refused}
 use Rattle.matrix.specs.Valid.{headerValid, startsValid, rowsValid, valid}
 use Rattle.word_bytes.specs.Bytes.{bytesOf, wordsOf}
-use Rattle.files.specs.File.{fileOf, fileValid, fileBytes, takenAnswer, takenWords, writtenAnswer, writtenBytes}
+use Rattle.files.specs.File.{fileOf, fileValid, takenAnswer, takenWords, writtenAnswer, writtenBytes}
 
 -- 1 by 4 with 10, 20 and 40 at columns 0, 1 and 3
 abbrev strip : List ℕ

@@ -1,6 +1,6 @@
--- Matrices in files (document 02, A1). "A sheet file is the sheet's words and nothing more, four bytes each, lowest byte
--- first, at most 18,460 bytes" (A6: 20,412): which bytes are a file, what the reader and the writer answer, and what they
--- leave in the buffer that they write.
+-- Matrices in files (document 02, A1). "A sheet file is the sheet's words and nothing more, four bytes each, lowest
+-- byte first, at most 18,460 bytes" (A6: 20,412): which bytes are a file, what the reader and the writer answer, and
+-- what they leave in the buffer that they write.
 use Prim.Native.Nat.{ℕ, _*_}
 use mathlib.Core.Path.{_≡_, refl}
 use mathlib.Core.List.{List, _++_}

@@ -346,10 +346,10 @@ totals-answered : replies 200 (modelAfter 200 fresh (laid ++ (newEmpty 4 1 1 ∷
     ∷ number 1
     ∷ number 2147483647
     ∷ number 2147483648
-    ∷ value 5
+    ∷ value 5 0
     ∷ entries 1
     ∷ refusal 8
-    ∷ value 12
+    ∷ value 12 0
     ∷ []
 unfolding effect replyOf nextOf inRange _and_ all flatten gather one callFinal indexesValid listValid shapesAgree writeBack
     binaryWord monoidNumbered reducedRow gridTotal signed word

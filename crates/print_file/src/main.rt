@@ -47,9 +47,9 @@ fn more() -> bool {
     libc::read(STDIN_FILENO, &mut rest) != 0
 }
 
-// Reads on to the end of the input, so that whoever writes it is not cut off. A proved loop has to end, and nothing says
-// that the input does: it counts its turns down, from a number that no run uses up. It stops too where the input cannot
-// be read.
+// Reads on to the end of the input, so that whoever writes it is not cut off. A proved loop has to end, and nothing
+// says that the input does: it counts its turns down, from a number that no run uses up. It stops too where the input
+// cannot be read.
 fn drain() {
     let mut turns = u64::MAX;
     while turns > 0 && some() {

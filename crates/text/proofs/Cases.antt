@@ -1,7 +1,7 @@
 -- The text of a whole matrix: its first line and its rows, and the cases of `textAnswer`, as the code reaches them.
 use Prim.Native.Nat.{ℕ, _+_, _≤_, _<_}
 use native.Mathlib.Omega.{arith}
-use mathlib.Core.Path.{_≡_, refl, sym, ap, _∙_}
+use mathlib.Core.Path.{_≡_, sym, ap, _∙_}
 use mathlib.Core.List.{List, _++_}
 use mathlib.Core.Bool.{true, false}
 use lib.ListN.{length, drop, length-append}
@@ -19,7 +19,6 @@ use Rattle.append.specs.Appended.{Appended}
 use Rattle.append.proofs.Appending.{appended-then}
 use Rattle.decimals.specs.Decimal.{decimal}
 use Rattle.decimals.proofs.Digits.{signed-small}
-use Rattle.text.specs.declared.TextAnswer.{TextAnswer}
 use Rattle.text.specs.Text.{
   line,
   headLine,

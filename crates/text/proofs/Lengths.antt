@@ -1,8 +1,8 @@
 -- How long a text is: no longer than `maxTextBytes`.
 use Prim.Native.Nat.{ℕ, zero, suc, _+_, _*_, _^_, _≤_, _<_}
 use native.Mathlib.Omega.{arith}
-use mathlib.Core.Path.{_≡_, refl, ap, _∙_}
-use mathlib.Core.List.{List, [], _∷_, _++_, append-nil}
+use mathlib.Core.Path.{_≡_, refl}
+use mathlib.Core.List.{List, append-nil}
 use lib.ListN.{length, length-append}
 use Rattle.limits.specs.Limits.{maxRows, maxCols}
 use Rattle.grid.specs.declared.Cell.{Cell}
@@ -83,5 +83,6 @@ text-most s m w =
     let p = head-most (rows s) (cols s) (entryCount (gridOf s)) (omega arith) (omega arith) (omega arith) in
     let q = rows-most (cols s) (cellOf s) (rows s) (m .header .row-range .most) (m .header .col-range .most)
     (one-writing .values-fit s w) in
-    let a = length-append (headLine (rows s) (cols s) (entryCount (gridOf s))) (rowsText (cols s) (cellOf s) (rows s)) in
+    let h = headLine (rows s) (cols s) (entryCount (gridOf s)) in
+    let a = length-append h (rowsText (cols s) (cellOf s) (rows s)) in
     omega arith

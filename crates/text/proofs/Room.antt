@@ -4,11 +4,10 @@ use native.Mathlib.Omega.{arith}
 use native.Mathlib.Decide.{decLt}
 use native.Mathlib.Nat.{le-refl}
 use native.Mathlib.Numerals.{add-one}
-use mathlib.Core.Path.{_≡_, refl, sym, ap, _∙_}
-use mathlib.Core.List.{List, [], _++_}
+use mathlib.Core.Path.{_≡_, refl, ap}
+use mathlib.Core.List.{List, _++_}
 use lib.ListN.{length, length-append}
 use Rattle.words.specs.Words.{at}
-use Rattle.grid.specs.declared.Cell.{Cell}
 use Rattle.matrix.specs.Layout.{rows, cols, rowColumns, rowValues, cellOf}
 use Rattle.matrix.specs.Facts.{Matrix}
 use Rattle.append.specs.Appended.{Appended}
@@ -40,7 +39,8 @@ module _ (i : ℕ) (cols vals : List ℕ) where
       → Appended (linesTo i cols vals k) s t from b → b + length (entryLine i (at cols k) (at vals k)) ≤ length t
   unfolding linesTo
   line-room k n from b s t h l p =
-      let g = grows (linesTo i cols vals) (λ j. entryLine i (at cols j) (at vals j)) (λ j. refl) (suc k) n (omega arith) in
+      let f : ℕ → List ℕ = λ j. entryLine i (at cols j) (at vals j) in
+      let g = grows (linesTo i cols vals) f (λ j. refl) (suc k) n (omega arith) in
       let a = length-append (linesTo i cols vals k) (entryLine i (at cols k) (at vals k)) in
       omega (arith, p .next, p .kept)
 

@@ -10,7 +10,7 @@ use Rattle.words.specs.Words.{at}
 use Rattle.grid.specs.declared.Cell.{Cell}
 use Rattle.grid.specs.declared.Cell.the-variants.{Absent, Present}
 use Rattle.grid.specs.Entries.{column, value, one, gather}
-use Rattle.rows.specs.Row.{lookup, Row}
+use Rattle.rows.specs.Row.{lookup}
 use Rattle.rows.proofs.Lookup.{rising-row, gather-row, gather-lookup-columns, gather-lookup-values}
 use Rattle.matrix.specs.Layout.{rows, cols, rowColumns, rowValues, cellOf}
 use Rattle.matrix.specs.Facts.{Matrix}

@@ -1,11 +1,10 @@
 -- Texts, computed: document 01's strip, two rows with values at both ends of the range, a grid without entries.
-use Prim.Native.Nat.{ℕ}
 use mathlib.Core.Path.{_≡_, refl}
-use mathlib.Core.List.{List, [], _∷_, _++_}
+use mathlib.Core.List.{[], _∷_, _++_}
 use lib.ListN.{length}
 use Rattle.twos_complement.specs.TwosComplement.{signed}
 use Rattle.grid.specs.declared.Cell.{Cell}
-use Rattle.grid.specs.declared.Cell.the-variants.{Absent, Present}
+use Rattle.grid.specs.declared.Cell.the-variants.{Present}
 use Rattle.grid.specs.Grid.{Grid, emptyGrid}
 use Rattle.grid.specs.Entries.{one, gather, flatten}
 use Rattle.grid.specs.Update.{withCell}

@@ -1,6 +1,6 @@
 -- A matrix as text (document 02, A1): "a line "R C N", then a line "row column value" for each entry in order, signed
 -- decimals, each line ended by a newline byte".
-use Prim.Native.Nat.{ℕ, zero, suc, _+_, _*_, _≤_}
+use Prim.Native.Nat.{ℕ, zero, suc, _+_, _*_}
 use mathlib.Core.Path.{_≡_, refl}
 use mathlib.Core.List.{List, [], _∷_, _++_}
 use mathlib.Core.Bool.{cond}

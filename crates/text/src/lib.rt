@@ -25,8 +25,8 @@ pub struct TextAnswer {
     pub length: u32,
 }
 
-// The text of a matrix at the front of the buffer; what lies behind it stays. INVALID_FIRST where the words are no valid
-// matrix, INSUFFICIENT_SPACE where the buffer is shorter than MAX_TEXT_BYTES.
+// The text of a matrix at the front of the buffer; what lies behind it stays. INVALID_FIRST where the words are no
+// valid matrix, INSUFFICIENT_SPACE where the buffer is shorter than MAX_TEXT_BYTES.
 pub fn write_text(words: &[u32], out: &mut [u8]) -> TextAnswer
     ensures { λ r. ⌜ TextWritten (now (words .entry)) (now (out .entry)) r (now (out .exit)) ⌝ }
 {

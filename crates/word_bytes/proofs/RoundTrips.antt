@@ -1,11 +1,11 @@
 -- Words are their bytes read back, and bytes are those of their words. Cited by whoever reads what was written.
 use Prim.Native.Nat.{ℕ, zero, suc, _+_, _*_, _/_, _%_, _^_, _<_}
 use native.Mathlib.Omega.{arith}
-use mathlib.Core.Path.{_≡_, refl, ap, _∙_}
-use mathlib.Core.List.{List, [], _∷_, _++_}
-use lib.ListN.{length, length-append}
+use mathlib.Core.Path.{_≡_, refl}
+use mathlib.Core.List.{List, [], _∷_}
+use lib.ListN.{length}
 use Rattle.words.specs.Words.{at}
-use Rattle.word_bytes.specs.Bytes.{wordBytes, bytesOf, wordFrom, wordsOf, AreBytes}
+use Rattle.word_bytes.specs.Bytes.{bytesOf, wordFrom, wordsOf, AreBytes}
 
 -- four bytes a word
 pub length-bytes : (ws : List ℕ) → length (bytesOf ws) ≡ length ws * 4

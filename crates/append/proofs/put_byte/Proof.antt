@@ -1,5 +1,4 @@
 -- `put_byte` appends one byte.
-use denote.Ref.{now}
 use Rattle.append.proofs.Appending.{appended-one}
 use borrow.Author.Needs.{needs}
 use Rattle.append.proofs.put_byte.Statement.{statement}

@@ -38,8 +38,9 @@ refused-requires-2 c κs = search needs
 returns-2 : tie.Need-returns-2
 returns-2 c =
     let q = c .before .before in
+    let e = ap (λ (k : ℕ). k * 4) (sym (q .matrix-size .ensures)) in
     rw (c .refused2 .ensures)
-    (other-length _ _ _ (valid-held (q .before)) (λ e. c .before .if2 .taken (e ∙ ap (λ (k : ℕ). k * 4) (sym (q .matrix-size .ensures)))))
+    (other-length _ _ _ (valid-held (q .before)) (λ f. c .before .if2 .taken (f ∙ e)))
 
 refused-requires-3 : tie.Need-refused-requires-3
 refused-requires-3 c κs = search needs
@@ -57,7 +58,9 @@ copy-into-requires c κs =
     omega (arith, q .matrix-size .ensures)
 
 entry-count-requires : tie.Need-entry-count-requires
-entry-count-requires c κs = matrix-facts _ (valid-held (c .before .before .before .before .before .before .before)) .header
+entry-count-requires c κs =
+    let q = c .before .before .before .before .before .before .before in
+    matrix-facts _ (valid-held q) .header
 
 same-length : tie.Need-same-length
 same-length c = search needs

@@ -1,6 +1,6 @@
 -- `write_file` answers and leaves what `FileWritten` says.
 use native.Mathlib.Omega.{arith}
-use mathlib.Core.Path.{_≡_, ap, sym, _∙_}
+use mathlib.Core.Path.{_≡_, _∙_}
 use mathlib.Core.Bool.{true}
 use denote.Ref.{now}
 use Rattle.conditions.proofs.Tests.{said-no, said-yes}
@@ -54,7 +54,9 @@ write-bytes-requires c κs =
     simp length-take (omega (arith, q .matrix-size .ensures))
 
 entry-count-requires : tie.Need-entry-count-requires
-entry-count-requires c κs = matrix-facts _ (held (c .before .before .before .before .before .before .before)) .header
+entry-count-requires c κs =
+    let q = c .before .before .before .before .before .before .before in
+    matrix-facts _ (held q) .header
 
 same-length : tie.Need-same-length
 same-length c = search needs

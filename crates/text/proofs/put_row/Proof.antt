@@ -23,8 +23,12 @@ abbrev μ-loop : tie.MeasureT-loop
 loop-holds : tie.Need-loop-holds Inv-loop μ-loop
 loop-holds c =
     let s = c .before .before .before in
-    let a = s .args in
-    (lines-start (a .i) (now (a .columns)) (now (a .values)) (now (a .out)) (a .from) (omega arith), omega arith, s .pre .0, s .pre .1)
+    let a = s .args in (
+      lines-start (a .i) (now (a .columns)) (now (a .values)) (now (a .out)) (a .from) (omega arith),
+      omega arith,
+      s .pre .0,
+      s .pre .1,
+    )
 
 mul-put-line : tie.Need-mul-put-line Inv-loop μ-loop
 mul-put-line c = search needs
@@ -42,8 +46,8 @@ put-line-requires : tie.Need-put-line-requires Inv-loop μ-loop
 put-line-requires c κs =
     let l = c .before .before .before .before .loop in
     let a = c .before .before .before .before .before .before .before .before .args in
-    line-room (a .i) (now (a .columns)) (now (a .values)) (l .k) (length (now (a .columns))) (a .from) (l .at) (now (a .out))
-    (l .out) (omega arith) (l .inv .3) (l .inv .0)
+    line-room (a .i) (now (a .columns)) (now (a .values)) (l .k) (length (now (a .columns))) (a .from) (l .at)
+    (now (a .out)) (l .out) (omega arith) (l .inv .3) (l .inv .0)
 
 add-k : tie.Need-add-k Inv-loop μ-loop
 add-k c = search needs
@@ -53,10 +57,14 @@ loop-less c = search needs
 
 loop-again : tie.Need-loop-again Inv-loop μ-loop
 loop-again c =
-    let l = c .before .before .before .before .before .before .before .loop in
-    let a = c .before .before .before .before .before .before .before .before .before .before .before .args in
-    let v = l .inv in
-    (lines-turn (a .i) (now (a .columns)) (now (a .values)) (l .k) (v .0) (c .before .before .put-line .ensures), omega arith, v .2, v .3)
+    let q = c .before .before .before .before .before .before .before in
+    let a = q .before .before .before .before .args in
+    let v = q .loop .inv in (
+      lines-turn (a .i) (now (a .columns)) (now (a .values)) (q .loop .k) (v .0) (c .before .before .put-line .ensures),
+      omega arith,
+      v .2,
+      v .3,
+    )
 
 same-length : tie.Need-same-length Inv-loop μ-loop
 same-length c = search needs

@@ -29,8 +29,13 @@ row-count-requires c κs = c .before .before .pre .0 .header
 loop-holds : tie.Need-loop-holds Inv-loop μ-loop
 loop-holds c =
     let s = c .before .before .before in
-    let a = s .args in
-    (rows-start (now (a .words)) (now (a .out)) (a .from) (omega arith), omega arith, c .row-count .ensures, s .pre .0, s .pre .1)
+    let a = s .args in (
+      rows-start (now (a .words)) (now (a .out)) (a .from) (omega arith),
+      omega arith,
+      c .row-count .ensures,
+      s .pre .0,
+      s .pre .1,
+    )
 
 cast-row : tie.Need-cast-row Inv-loop μ-loop
 cast-row c = search needs
@@ -69,13 +74,19 @@ loop-less c = search needs
 loop-again : tie.Need-loop-again Inv-loop μ-loop
 loop-again c =
     let t = c .before .before in
-    let l = c .before .before .before .before .before .before .before .loop in
-    let w = now (c .before .before .before .before .before .before .before .before .before .before .before .args .words) in
+    let q = c .before .before .before .before .before .before .before in
+    let l = q .loop in
+    let w = now (q .before .before .before .before .args .words) in
     let v = l .inv in
     let h : l .i < rows w = omega arith in
-    let p = c .before .before .before .before .row-columns .ensures .words in
-    let q = c .before .before .before .row-values .ensures .words in
-    (rows-turn w (l .i) (v .3) h (v .0) (rw (p, q) at (t .put-row .ensures)), omega arith, v .2, v .3, v .4)
+    let e = c .before .before .before .before .row-columns .ensures .words in
+    let f = c .before .before .before .row-values .ensures .words in (
+      rows-turn w (l .i) (v .3) h (v .0) (rw (e, f) at (t .put-row .ensures)),
+      omega arith,
+      v .2,
+      v .3,
+      v .4,
+    )
 
 same-length : tie.Need-same-length Inv-loop μ-loop
 same-length c = search needs

@@ -35,7 +35,8 @@ same-length c = search needs
 
 returns-3 : tie.Need-returns-3
 returns-3 c =
-    text-written _ _ (held (c .before .before .before .before .before)) (omega arith) _ _ (c .before .before .put-matrix .ensures .0)
+    let q = c .before .before in
+    text-written _ _ (held (q .before .before .before)) (omega arith) _ _ (q .put-matrix .ensures .0)
 
 pub write-text-spec : {M : Type 1} → statement M
 write-text-spec =
