@@ -352,5 +352,5 @@ totals-answered : replies 200 (modelAfter 200 fresh (laid ++ (newEmpty 4 1 1 ∷
     ∷ value 12 0
     ∷ []
 unfolding effect replyOf nextOf inRange _and_ all flatten gather one callFinal indexesValid listValid shapesAgree writeBack
-    binaryWord monoidNumbered reducedRow gridTotal signed word
+    binaryWord monoidNumbered reducedRow gridTotal signed word entryAt
 totals-answered = refl

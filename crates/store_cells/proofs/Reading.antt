@@ -16,7 +16,7 @@ use Rattle.slots.specs.Sections.{endFrom, slotAt}
 use Rattle.slots.specs.Valid.{storeValid}
 use Rattle.slots.proofs.Facts.{store-facts}
 use Rattle.cells.proofs.Positions.{entry-few}
-use Rattle.model.specs.Effects.{Reply, wrote, found, replyOf}
+use Rattle.model.specs.Effects.{Reply, wrote, found, totalled, replyOf}
 use Rattle.model.specs.Calls.{readCell, effect}
 use Rattle.store_encoding.specs.Stores.{modelOf, effectReply, replyOn}
 use Rattle.store_encoding.proofs.Held.{grid-model}
@@ -28,6 +28,7 @@ use Rattle.store_cells.proofs.Refusals.{Reached, reached}
 abbrev positionIn : Reply → ℕ
 positionIn (wrote a) = 0
 positionIn (found a) = a .position
+positionIn (totalled a) = 0
 
 module _ (s : List ℕ) (k i j : ℕ) where
   -- the words are no store
