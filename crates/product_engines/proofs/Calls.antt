@@ -11,7 +11,7 @@ use Rattle.requests.specs.Refusal.{lentFinal}
 use Rattle.calls.specs.Completion.{Completed}
 use Rattle.calls.proofs.operate_with.Met as with-met
 use Rattle.calls.proofs.operate_with.Reads as with
-use Rattle.model.specs.Effects.{Reply, wrote, found}
+use Rattle.model.specs.Effects.{Reply, wrote, found, totalled}
 use Rattle.model.specs.Calls.{StoreCall, operate}
 use Rattle.store_encoding.specs.Stores.{Performed}
 use Rattle.store_calls.proofs.operate_with.Met as store-with-met
@@ -35,6 +35,7 @@ completed-unique {call} {a} {b} {m} {c} {is} {js} {w} {r} {r′} h k =
 abbrev answerIn : Answer → Reply → Answer
 answerIn d (wrote r) = r
 answerIn d (found r) = d
+answerIn d (totalled r) = d
 
 performed-unique : (call : StoreCall) {s : List ℕ} {r r′ : Answer} {s₁ s₂ w₁ w₂ : List ℕ} (w : List ℕ)
     → Performed s call (wrote r) s₁ × (w₁ ≡ replicate (length w) 0)
