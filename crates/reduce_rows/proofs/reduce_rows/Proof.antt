@@ -40,7 +40,6 @@ room : (c : tie.After-known-told Inv-loop μ-loop)
     → turn c .before .loop .e < rows (now (start (turn c .before) .args .words))
 room c = let t = turn c in reducing-room (start (t .before) .pre .0) (t .before .loop .inv) (below t)
 
-
 row-count-requires : tie.Need-row-count-requires Inv-loop μ-loop
 row-count-requires c κs = c .before .before .before .pre .0 .header
 

@@ -15,8 +15,6 @@ use Rattle.select_rows.proofs.Selecting.{
 use Rattle.select_rows.proofs.select_row.Statement.{statement}
 use Rattle.select_rows.proofs.select_row.Tie as tie
 
-
-
 abbrev Inv-loop : tie.InvT-loop
 Inv-loop places op i columns values oc₀ ov₀ p₀ e₀ oc ov p e =
     Selecting places op i columns values oc₀ ov₀ oc ov p e
