@@ -6,7 +6,7 @@ use Rattle.limits.specs.Limits.{maxList}
 use Rattle.words.specs.Words.{at}
 use Rattle.operations.specs.declared.Shape.{Shape}
 
--- an index list that fits n rows or columns; that none stands twice is not used
+-- an index list that fits n rows or columns
 pub record IndexList (n : ℕ) (l : List ℕ) : Type 0 where
   pub least : 1 ≤ length l
   pub most : length l ≤ maxList

@@ -116,10 +116,7 @@ impl Call {
 
     /// Whether the call can change the store.
     pub fn writes(&self) -> bool {
-        !matches!(
-            self,
-            Call::Read { .. } | Call::Show { .. } | Call::List | Call::Reduce { .. } | Call::Doors(_)
-        )
+        !matches!(self, Call::Read { .. } | Call::Show { .. } | Call::List | Call::Reduce { .. } | Call::Doors(_))
     }
 
     /// The slots that the call names, inputs first.

@@ -133,7 +133,7 @@ mod tests {
     #[test]
     fn each_page_fits_one_screen() {
         for page in pages() {
-            assert!(page.lines().count() < 60, "{page}");
+            assert!(page.lines().count() < 64, "{page}");
             for line in page.lines() {
                 assert!(line.chars().count() <= 100, "{line}");
             }
