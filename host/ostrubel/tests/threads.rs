@@ -17,6 +17,7 @@ const TRIL: u32 = 6;
 /// A structural mask, an accumulator, and both inputs transposed.
 const EVERYTHING: OptionNumbers =
     OptionNumbers { flags: 4 + 8 + 16, has_mask: 1, has_accumulator: 1, accumulator: PLUS };
+const PLAIN: OptionNumbers = OptionNumbers { flags: 0, has_mask: 0, has_accumulator: 0, accumulator: 0 };
 const TRANSPOSED: OptionNumbers = OptionNumbers { flags: 8 + 16, has_mask: 0, has_accumulator: 0, accumulator: 0 };
 
 /// The buffers of calls at the largest shapes, all on the heap.
@@ -88,6 +89,7 @@ impl Buffers {
     /// Every call once; its answers.
     fn run(&mut self) -> Vec<u64> {
         let mut answers = self.lent_calls();
+        answers.extend(self.plain_calls());
         answers.extend(self.file_calls());
         answers.extend(self.store_calls());
         answers.push(self.doors_call());
@@ -118,6 +120,21 @@ impl Buffers {
             calls::reduce_rows(TRANSPOSED, PLUS, a, mask, c_row, work),
             calls::reduce(PLUS, a),
             calls::new_empty(MAX_ROWS, MAX_COLS, c_row),
+        ]
+    }
+
+    /// Where C takes the result as it is: other buffers are on the stack.
+    fn plain_calls(&mut self) -> Vec<u64> {
+        let Buffers { a, b, mask, vector, c, rows, cols, work, .. } = self;
+        let mut c_row = vec![0; MAX_MATRIX_WORDS];
+        calls::new_empty(1, MAX_COLS, &mut c_row);
+        vec![
+            calls::vxm(PLAIN, PLUS, TIMES, vector, a, mask, &mut c_row, work),
+            calls::vxm_by_places(PLAIN, PLUS, TIMES, vector, a, mask, &mut c_row, work),
+            calls::ewise_mult(PLAIN, TIMES, a, b, mask, c, work),
+            calls::apply(PLAIN, INDEX, DIAGINDEX, 5, a, mask, c, work),
+            calls::extract(PLAIN, a, rows, cols, mask, c, work),
+            calls::select(PLAIN, TRIL, 5, a, mask, c, work),
         ]
     }
 
