@@ -381,6 +381,9 @@ fn compute_rows<'a>(
     ensures { λ r. ⌜ Computed r (lentFinal call (now (a .entry)) (now (b .entry)) (now (mask .entry)) (now (c .entry))
         (now (is .entry)) (now (js .entry))) (now (work .exit)) ⌝ }
 {
+    if call.has_mask {
+        return merged_rows(call, first, second, a, b, mask, c, is, js, work, engine);
+    }
     if is_straight(write_back_of(call), first, second) {
         let operation = call.operation;
         return plain_rows(operation, a, b, c, is, js, work, engine);

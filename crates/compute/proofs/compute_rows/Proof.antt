@@ -14,19 +14,19 @@ use Rattle.compute.proofs.compute_rows.Statement.{statement}
 use Rattle.compute.proofs.compute_rows.Tie as tie
 
 -- where the function starts, from where C takes T
-abbrev start : tie.Then1 → tie.Start
-start t = t .before .before .before .before .before .before .before .before .before .before
+abbrev start : tie.Then2 → tie.Start
+start t = t .before .before .before .before .before .before .before .before .before .before .before
 
 -- the test was true
-taken : (t : tie.Then1) → let x = start t .args in straight (writeBackOf (x .call)) (x .first) (x .second) ≡ true
+taken : (t : tie.Then2) → let x = start t .args in straight (writeBackOf (x .call)) (x .first) (x .second) ≡ true
 taken t =
     let k = t .before in
     let x = start t .args in
     sym (ap (λ (w : WriteBack). straight w (x .first) (x .second)) (k .before .write-back-of .ensures))
-    ∙ sym (k .is-straight .ensures) ∙ t .if1 .taken
+    ∙ sym (k .is-straight .ensures) ∙ t .if2 .taken
 
 -- the inputs are read as they are lent
-first-source : (t : tie.Then1) → let x = start t .args in Source (transposeFirst (x .call)) (now (x .a)) (now (x .a))
+first-source : (t : tie.Then2) → let x = start t .args in Source (transposeFirst (x .call)) (now (x .a)) (now (x .a))
 first-source t =
     let s = start t in
     let x = s .args in
@@ -34,7 +34,7 @@ first-source t =
     (first-lent (writeBackOf (x .call)) (x .first) (x .second) (taken t) _ _)
     (s .pre .1 .1 .0 .0) (s .pre .1 .0 .first)
 
-second-source : (t : tie.Then1) → let x = start t .args in hasSecond (x .call .operation) ≡ true
+second-source : (t : tie.Then2) → let x = start t .args in hasSecond (x .call .operation) ≡ true
     → Source (transposeSecond (x .call)) (now (x .b)) (now (x .b))
 second-source t h =
     let s = start t in
@@ -58,11 +58,11 @@ plain-rows-requires c κs =
       s .pre .1 .1 .1,
     )
 
-same-length : tie.Need-same-length
-same-length c = search needs
+same-length-2 : tie.Need-same-length-2
+same-length-2 c = search needs
 
-returns : tie.Need-returns
-returns c =
+returns-2 : tie.Need-returns-2
+returns-2 c =
     let q = c .before .before in
     let t = q .before .before in
     let s = start t in
@@ -74,21 +74,33 @@ returns c =
 merged-rows-requires : tie.Need-merged-rows-requires
 merged-rows-requires c κs = search needs
 
-same-length-2 : tie.Need-same-length-2
-same-length-2 c = search needs
+same-length : tie.Need-same-length
+same-length c = search needs
 
-returns-2 : tie.Need-returns-2
-returns-2 c = search needs
+returns : tie.Need-returns
+returns c = search needs
+
+merged-rows-requires-2 : tie.Need-merged-rows-requires-2
+merged-rows-requires-2 c κs = search needs
+
+same-length-3 : tie.Need-same-length-3
+same-length-3 c = search needs
+
+returns-3 : tie.Need-returns-3
+returns-3 c = search needs
 
 pub compute-rows-spec : {M : Type 1} → statement M
 compute-rows-spec =
     tie.close
     (tie.spec
+    merged-rows-requires
+    same-length
+    returns
     write-back-of-requires
     is-straight-requires
     plain-rows-requires
-    same-length
-    returns
-    merged-rows-requires
     same-length-2
-    returns-2)
+    returns-2
+    merged-rows-requires-2
+    same-length-3
+    returns-3)
