@@ -114,9 +114,14 @@ module _ {g : Grid} {w : List ℕ} (h : InPlace g w) where
         header = headed-words r c n w (h .fits);
       }
 
-  -- are the writing of the grid, and then what lay behind them
-  pub headed-written : whole ≡ writtenOver g w
-  headed-written =
+  -- are the writing of the grid, made anew
+  pub headed-anew : whole ≡ writtenOver g whole
+  headed-anew =
       assembled g whole headed-assembled
       ∙ ap (λ (v : ℕ). writtenRevised v g whole) (headed-revision (g .rows) (g .cols) (entryCount g) w (h .fits))
+
+  -- and then what lay behind them
+  pub headed-written : whole ≡ writtenOver g w
+  headed-written =
+      headed-anew
       ∙ ap (λ (l : List ℕ). encode g ++ l) (headed-spare (g .rows) (g .cols) (entryCount g) w (h .fits))

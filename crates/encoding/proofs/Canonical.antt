@@ -6,10 +6,11 @@ use mathlib.Core.List.{List, _++_}
 use mathlib.Core.Bool.{true}
 use lib.ListN.{length, drop}
 use Rattle.grid.specs.Grid.{Grid, Same}
+use Rattle.grid.specs.Revision.{nextRevision}
 use Rattle.grid.specs.Entries.{column, value}
 use Rattle.rows.proofs.Lookup.{lookup-gather}
 use Rattle.matrix.specs.Layout.{revision, rows, sizeOf, size, cellOf, gridOf}
-use Rattle.matrix.specs.HeaderWords.{withRevision}
+use Rattle.matrix.specs.HeaderWords.{withRevision, touched}
 use Rattle.matrix.specs.Valid.{valid}
 use Rattle.matrix.proofs.Facts.{matrix-facts, matrix-made}
 use Rattle.grid.proofs.Same.{same-entries}
@@ -48,6 +49,11 @@ pub encode-revised : (v u : ℕ) (g : Grid) (t : List ℕ)
 unfolding encodeRevised
 encode-revised v u g t = refl
 
+-- the next revision in a writing
+pub encode-touched : (v : ℕ) (g : Grid) (t : List ℕ)
+    → touched (encodeRevised v g ++ t) ≡ encodeRevised (nextRevision v) g ++ t
+encode-touched v g t = rw (encode-revision v g t) (encode-revised v (nextRevision v) g t)
+
 -- the grid of valid words is within the limits
 pub valid-within : (s : List ℕ) → valid s ≡ true → Within (gridOf s)
 valid-within s v =
@@ -58,6 +64,12 @@ valid-within s v =
 -- the spare words
 pub valid-encoded : (s : List ℕ) → valid s ≡ true → s ≡ encodeRevised (revision s) (gridOf s) ++ drop (size s) s
 valid-encoded s v = rw (valid-entries s v) at (assembled (gridOf s) s (valid-assembled s v))
+
+-- with the next revision they are the writing with that one
+pub valid-touched : (s : List ℕ) → valid s ≡ true
+    → touched s ≡ encodeRevised (nextRevision (revision s)) (gridOf s) ++ drop (size s) s
+valid-touched s v =
+    ap touched (valid-encoded s v) ∙ encode-touched (revision s) (gridOf s) (drop (size s) s)
 
 -- the length of that writing is the size of the matrix
 pub valid-size : (v : ℕ) (s : List ℕ) → valid s ≡ true → length (encodeRevised v (gridOf s)) ≡ size s

@@ -7,6 +7,7 @@ use mathlib.Core.List.{List}
 use lib.ListN.{length, set}
 use Rattle.limits.specs.Limits.{maxRows}
 use Rattle.words.specs.Words.{at}
+use Rattle.grid.specs.Revision.{nextRevision}
 use Rattle.matrix.specs.Layout.{
   revisionCountAt,
   revisionAt,
@@ -18,6 +19,7 @@ use Rattle.matrix.specs.Layout.{
   countAgainAt,
   sizeOf,
   revisionCount,
+  revision,
   shapeCount,
   rows,
   cols,
@@ -32,6 +34,10 @@ pub record HeaderBounds (r n : ℕ) (w : List ℕ) : Type 0 where
 -- the words with another revision
 abbrev pub withRevision : ℕ → List ℕ → List ℕ
 withRevision v w = set w revisionAt v
+
+-- the words with the next one
+abbrev pub touched : List ℕ → List ℕ
+touched w = withRevision (nextRevision (revision w)) w
 
 -- "1, then a revision number", which of a new matrix is 0
 abbrev pub unrevised : List ℕ → List ℕ

@@ -31,7 +31,7 @@ ghost use Rattle.matrix.specs.Layout.{revisionAt, revision, rows, cols, 
 ghost use Rattle.matrix.specs.Valid.{inRange, headerValid, startsValid, rowsValid, valid, checkAnswer};
 ghost use Rattle.matrix.specs.Facts.{Header, Starts, RowSpan};
 ghost use Rattle.matrix.specs.Falls.{fallsAtStart, startFalls};
-ghost use Rattle.matrix.specs.HeaderWords.{HeaderBounds, headed, withRevision};
+ghost use Rattle.matrix.specs.HeaderWords.{HeaderBounds, headed, withRevision, touched};
 
 // 0 and N where the words begin with a valid matrix, else INVALID_FIRST.
 pub fn check(words: &[u32]) -> Answer
@@ -128,6 +128,15 @@ pub fn next_revision(v: u32) -> u32
         return 0;
     }
     v + 1
+}
+
+// The next revision; nothing else changes.
+pub fn touch(words: &mut [u32])
+    requires { ⌜ revisionAt < length (now words) ⌝ }
+    ensures { λ _. ⌜ now (words .exit) ≡ touched (now (words .entry)) ⌝ }
+{
+    let v = words[REVISION_AT];
+    words[REVISION_AT] = next_revision(v);
 }
 
 // Another revision; nothing else changes.

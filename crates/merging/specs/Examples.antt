@@ -35,32 +35,32 @@ abbrev merged : List (List ℕ) → List ℕ
 merged xs = encode (joinAll (gridOf board) (map gridOf xs))
 
 in-order : merged (first ∷ second ∷ third ∷ []) ≡ joinedWords
-unfolding encode tabulate flatten gather one cellOf lookup binaryWord signed word
+unfolding encodeRevised tabulate flatten gather one cellOf lookup binaryWord signed word
 in-order = refl
 
 second-late : merged (first ∷ third ∷ second ∷ []) ≡ joinedWords
-unfolding encode tabulate flatten gather one cellOf lookup binaryWord signed word
+unfolding encodeRevised tabulate flatten gather one cellOf lookup binaryWord signed word
 second-late = refl
 
 second-early : merged (second ∷ first ∷ third ∷ []) ≡ joinedWords
-unfolding encode tabulate flatten gather one cellOf lookup binaryWord signed word
+unfolding encodeRevised tabulate flatten gather one cellOf lookup binaryWord signed word
 second-early = refl
 
 first-late : merged (second ∷ third ∷ first ∷ []) ≡ joinedWords
-unfolding encode tabulate flatten gather one cellOf lookup binaryWord signed word
+unfolding encodeRevised tabulate flatten gather one cellOf lookup binaryWord signed word
 first-late = refl
 
 third-early : merged (third ∷ first ∷ second ∷ []) ≡ joinedWords
-unfolding encode tabulate flatten gather one cellOf lookup binaryWord signed word
+unfolding encodeRevised tabulate flatten gather one cellOf lookup binaryWord signed word
 third-early = refl
 
 backwards : merged (third ∷ second ∷ first ∷ []) ≡ joinedWords
-unfolding encode tabulate flatten gather one cellOf lookup binaryWord signed word
+unfolding encodeRevised tabulate flatten gather one cellOf lookup binaryWord signed word
 backwards = refl
 
 -- one of them again
 first-again : merged (first ∷ second ∷ third ∷ first ∷ []) ≡ joinedWords
-unfolding encode tabulate flatten gather one cellOf lookup binaryWord signed word
+unfolding encodeRevised tabulate flatten gather one cellOf lookup binaryWord signed word
 first-again = refl
 
 -- under PLUS a report merged again would count again

@@ -35,7 +35,7 @@ use Rattle.store_cells.proofs.Outcomes.{performed-put}
 
 -- the size of an empty matrix
 pub empty-size : (r c : ℕ) → length (encode (emptyGrid r c)) ≡ sizeOf r 0
-empty-size r c = encode-length (emptyGrid r c) ∙ ap (sizeOf r) (empty-count r c)
+empty-size r c = encode-length 0 (emptyGrid r c) ∙ ap (sizeOf r) (empty-count r c)
 
 -- its words at the front of others
 pub empty-front : (r c : ℕ) (t : List ℕ) → take (sizeOf r 0) (encode (emptyGrid r c) ++ t) ≡ encode (emptyGrid r c)
