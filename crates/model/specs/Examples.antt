@@ -154,7 +154,7 @@ cells-answered = refl
 -- and a set that fits exactly is accepted
 abbrev full : Model
 full =
-    holding (record { rows = 64; cols = 33; cell = λ i j. cond (ltb j 32) (Present 1) Absent })
+    holding 0 (record { rows = 64; cols = 33; cell = λ i j. cond (ltb j 32) (Present 1) Absent })
     ∷ replicate 7 vacant
 
 abbrev fullCalls : List StoreCall
