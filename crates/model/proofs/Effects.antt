@@ -25,7 +25,7 @@ use Rattle.grid.specs.declared.EntryAt.the-variants as entry
 use Rattle.grid.specs.Grid.{Grid, Same, emptyGrid}
 use Rattle.grid.specs.Position.{entryAt}
 use Rattle.grid.specs.Update.{withCell}
-use Rattle.grid.specs.Revision.{Writing, revisionAfter}
+use Rattle.grid.specs.Revision.{Writing, updating, making, revisionAfter}
 use Rattle.grid.proofs.Same.{same-refl, same-count, same-changed}
 use Rattle.grid.proofs.Counts.{empty-count, cleared-count}
 use Rattle.grid.proofs.Position.{same-entry}
@@ -209,24 +209,24 @@ module _ (n : ℕ) (m m′ : Model) (a : Alike m m′) where
   unfolding effect
   effect-same (newEmpty k r c) =
       let s = same-refl (emptyGrid r c) in
-      putting-same _ k _ _ n m m′ a
+      putting-same making k _ _ n m m′ a
       (ap (λ (x : Case). firstApplying (noSlot k ∷ shape r c ∷ x ∷ [])) (room-same n m m′ a k _ _ s)) (λ z. s)
   effect-same (dropSlot k) =
       record { refusal = refl; answer = λ z. refl; change = λ z. alike-put m m′ k vacant vacant a tt }
   effect-same (setCell k i j v) =
       let s = changed-same k i j (Present v) in
-      putting-same _ k _ _ n m m′ a
+      putting-same updating k _ _ n m m′ a
       (ap (λ (xs : List Case). firstApplying (xs ++ fitCases n m k (withValue m k i j v))) (cell-cases n m m′ a k i j)
       ∙ ap (λ (xs : List Case). firstApplying (cellCases m′ k i j ++ xs)) (fit-same n m m′ a k _ _ s)) (λ z. s)
   effect-same (clearCell k i j) =
-      putting-same _ k _ _ n m m′ a (ap firstApplying (cell-cases n m m′ a k i j)) (λ z. changed-same k i j Absent)
+      putting-same updating k _ _ n m m′ a (ap firstApplying (cell-cases n m m′ a k i j)) (λ z. changed-same k i j Absent)
   effect-same (readCell k i j) = record {
     refusal = ap firstApplying (cell-cases n m m′ a k i j);
     answer = λ z. ap (λ (x : EntryAt). found (foundAnswer x)) (found-same k i j z);
     change = λ z. a;
   }
   effect-same (operation x) =
-      putting-same _ _ _ _ n m m′ a (operation-same n m m′ a (operateOf x)) (operated-same n m m′ a (operateOf x))
+      putting-same updating _ _ _ n m m′ a (operation-same n m m′ a (operateOf x)) (operated-same n m m′ a (operateOf x))
   effect-same (reduceSlot k number) = record {
     refusal = ap (λ (x : Case). firstApplying (noSlot k ∷ noMonoid number ∷ x ∷ [])) (no-grid n m m′ a k);
     answer = λ z.
@@ -279,20 +279,20 @@ found-code (entry.Present v p) = refl
 
 pub effect-sound : (c : StoreCall) → Sound (effect c)
 unfolding effect
-effect-sound (newEmpty k r c) = putting-sound _ k _ _ (λ n m. (omega arith, (omega arith, (omega arith, tt))))
+effect-sound (newEmpty k r c) = putting-sound making k _ _ (λ n m. (omega arith, (omega arith, (omega arith, tt))))
 effect-sound (dropSlot k) =
     record { coded = λ n m. (omega arith, tt); accepted-code = λ m. refl; of-kind = λ m. tt }
 effect-sound (setCell k i j v) =
-    putting-sound _ k _ _ (λ n m. coded-append (cellCases m k i j) (fitCases n m k (withValue m k i j v))
+    putting-sound updating k _ _ (λ n m. coded-append (cellCases m k i j) (fitCases n m k (withValue m k i j v))
     (cell-coded m k i j)
     (outputs-coded (withValue m k i j v) (neededWith m k (withValue m k i j v)) n))
-effect-sound (clearCell k i j) = putting-sound _ k _ _ (λ n m. cell-coded m k i j)
+effect-sound (clearCell k i j) = putting-sound updating k _ _ (λ n m. cell-coded m k i j)
 effect-sound (readCell k i j) = record {
   coded = λ n m. cell-coded m k i j;
   accepted-code = λ m. found-code (entryAt (gridAt m k) i j);
   of-kind = λ m. tt;
 }
-effect-sound (operation x) = putting-sound _ _ _ _ (λ n m. operation-coded n m (operateOf x))
+effect-sound (operation x) = putting-sound updating _ _ _ (λ n m. operation-coded n m (operateOf x))
 effect-sound (reduceSlot k number) = record {
   coded = λ n m. (omega arith, (omega arith, (omega arith, tt)));
   accepted-code = λ m. refl;

@@ -102,7 +102,7 @@ module _ (n : ℕ) (m : Model) (h : Fitting n m) where
         let h₁ = later (ltb maxEntries (entryCount g)) 10 _ refl z in
         let h₂ = later (ltb n (neededWith m k g)) 11 0 refl (h₁ .rest) in
         put-fits k (holding v g) (shaped (ltb-false _ _ (h₁ .here)))
-        (omega (arith, needed-with m k v g, ltb-false _ _ (h₂ .here)))
+        (omega (arith, needed-with m k v g, ltb-false n (neededWith m k g) (h₂ .here)))
 
     -- with no more entries it needs no more room
     pub fewer-fits : (v : ℕ) → entryCount g ≤ entryCount (gridAt m k) → Fitting n (put m k (holding v g))

@@ -21,6 +21,9 @@ use Rattle.operations.specs.Calls.{callFinal}
 use Rattle.refusals.specs.Cases.{firstApplying, agreementCases, agreementRefusal}
 use Rattle.requests.specs.Refusal.{lentFinal}
 use Rattle.requests.specs.Inputs.{Valid}
+use Rattle.compute.specs.declared.Outcome.{Outcome}
+use Rattle.compute.specs.declared.Outcome.the-variants as outcome
+use Rattle.compute.specs.Computing.{Computed}
 use Rattle.slots.specs.Sections.{slotAt}
 use Rattle.slots.specs.Facts.{Held}
 use Rattle.model.specs.declared.Roles.{Roles}
@@ -43,6 +46,11 @@ revised-front v g w t =
     let d : w ≡ encode g ++ drop k w = sym (take-append-drop k w) ∙ ap (λ (x : List ℕ). x ++ drop k w) t in
     ap (λ (x : List ℕ). take k (withRevision v x)) d ∙ ap (take k) (encode-revised 0 v g (drop k w))
     ∙ take-at (encodeRevised v g) (drop k w) k (encode-length v g)
+
+-- what the working part left, once it is known to be done
+pub computed-done : {r : Outcome} (n : ℕ) (g : Grid) (w : List ℕ) → r ≡ outcome.Done n → Computed r g w
+    → Computed (outcome.Done n) g w
+computed-done n g w e h = subst (λ (x : Outcome). Computed x g w) e h
 
 -- the words of each role, as they are lent
 pub record Lent (s : List ℕ) (r : Roles) (a b m c : List ℕ) : Type 0 where

@@ -11,7 +11,7 @@ use lib.Dec.{eqb}
 use borrow.Author.Tests.{eq-eqb, ne-eqb}
 use Rattle.limits.specs.Limits.{slotCount}
 use Rattle.grid.specs.Grid.{Grid}
-use Rattle.matrix.specs.Layout.{gridOf, size}
+use Rattle.matrix.specs.Layout.{revision, size, gridOf}
 use Rattle.matrix.proofs.Facts.{matrix-made}
 use Rattle.encoding.specs.Encode.{encodeRevised}
 use Rattle.encoding.proofs.Canonical.{encode-length, valid-encoded}
