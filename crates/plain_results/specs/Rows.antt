@@ -5,6 +5,7 @@ use mathlib.Core.List.{List}
 use lib.ListN.{length, take}
 use Rattle.limits.specs.Limits.{maxRows, maxCols, maxEntries}
 use Rattle.words.specs.Words.{at}
+use Rattle.grid.specs.declared.Cell.the-variants.{Absent}
 use Rattle.grid.specs.Grid.{Grid}
 use Rattle.grid.specs.Entries.{column, value, flatten, entryCount}
 use Rattle.matrix.specs.Layout.{rows, cols}
@@ -19,6 +20,10 @@ pub record Inputs (op : Operation) (a b c is js : List ℕ) : Type 0 where
   pub row : (i : ℕ) → i < rows c → RowInputs op a b c is js i
   pub same-rows : rowNeeds op a b c is js .result .rows ≡ rows c
   pub same-cols : rowNeeds op a b c is js .result .cols ≡ cols c
+
+-- row i has no entries
+abbrev pub EmptyRow : Grid → ℕ → Type 0
+EmptyRow g i = (j : ℕ) → g .cell i j ≡ Absent
 
 -- room for the starts, and for one row more than the entries of a matrix
 pub record Space (st oc ov : List ℕ) : Type 0 where

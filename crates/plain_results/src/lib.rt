@@ -14,12 +14,14 @@ ghost use mathlib.Core.Path.{_≡_};
 ghost use mathlib.Core.Bool.{true};
 ghost use Prim.Native.Nat.{_≤_};
 ghost use lib.ListN.{length};
-ghost use Rattle.matrix.specs.Layout.{gridOf, workspaceWords};
+ghost use Rattle.rows.specs.Row.{Holds};
+ghost use Rattle.matrix.specs.Layout.{rowColumns, gridOf, workspaceWords};
 ghost use Rattle.operations.specs.GridOperations.{resultGrid};
-ghost use Rattle.matrix.specs.Facts.{Matrix};
+ghost use Rattle.matrix.specs.Facts.{Header, RowSpan, Matrix};
+ghost use Rattle.result_rows.specs.RowInputs.{RowInputs, Buffers};
 ghost use Rattle.apply_rows.specs.Values.{byValue};
 ghost use Rattle.plain_results.specs.Applied.{appliedGrid};
-ghost use Rattle.plain_results.specs.Rows.{Inputs, Space, AllRows, Written};
+ghost use Rattle.plain_results.specs.Rows.{Inputs, EmptyRow, Space, AllRows, Written};
 
 // The places of a buffer for all rows: as many as a matrix may have entries, and one row more.
 const RESULT_PLACES: usize = MAX_ENTRIES as usize + ROW_PLACES;
@@ -131,7 +133,7 @@ fn all_rows(
     let mut i: usize = 0;
     while i < total {
         starts[i] = n as u32;
-        n += result_rows::result_row(
+        n += row_or_none(
             engine,
             operation,
             a,
@@ -149,4 +151,70 @@ fn all_rows(
         i += 1;
     }
     n
+}
+
+// Row i of T, left at the front of `oc` and `ov`: its number of entries.
+fn row_or_none(
+    engine: Engine,
+    operation: Operation,
+    a: &[u32],
+    b: &[u32],
+    c: &[u32],
+    is: &[u32],
+    js: &[u32],
+    i: usize,
+    oc: &mut [u32],
+    ov: &mut [u32],
+) -> usize
+    requires { ⌜ RowInputs operation (now a) (now b) (now c) (now is) (now js) i ⌝ }
+    requires { ⌜ Buffers (resultGrid operation (gridOf (now a)) (gridOf (now b)) (gridOf (now c)) (now is) (now js))
+        (now oc) (now ov) ⌝ }
+    ensures { λ r. ⌜ Holds (resultGrid operation (gridOf (now (a .entry))) (gridOf (now (b .entry)))
+        (gridOf (now (c .entry))) (now (is .entry)) (now (js .entry)) .cols)
+        (resultGrid operation (gridOf (now (a .entry))) (gridOf (now (b .entry)))
+        (gridOf (now (c .entry))) (now (is .entry)) (now (js .entry)) .cell i)
+        r (now (oc .exit)) (now (ov .exit)) ⌝ }
+{
+    if is_empty(operation, a, b, c, is, js, i) {
+        return 0;
+    }
+    result_rows::result_row(engine, operation, a, b, c, is, js, i, oc, ov)
+}
+
+// Whether the row starts alone tell that row i of T has no entries.
+fn is_empty(
+    operation: Operation,
+    a: &[u32],
+    b: &[u32],
+    c: &[u32],
+    is: &[u32],
+    js: &[u32],
+    i: usize,
+) -> bool
+    requires { ⌜ RowInputs operation (now a) (now b) (now c) (now is) (now js) i ⌝ }
+    ensures { λ r. ⌜ (r ≡ true → EmptyRow (resultGrid operation (gridOf (now (a .entry))) (gridOf (now (b .entry)))
+        (gridOf (now (c .entry))) (now (is .entry)) (now (js .entry))) i) ⌝ }
+{
+    match operation {
+        Operation::Mxm(_, _) => has_none(a, i),
+        Operation::EwiseMult(_) => has_none(a, i),
+        Operation::EwiseAdd(_) => {
+            if !has_none(a, i) {
+                return false;
+            }
+            has_none(b, i)
+        }
+        Operation::Apply(_) => has_none(a, i),
+        Operation::Select(_) => has_none(a, i),
+        _ => false,
+    }
+}
+
+// Whether row i of a matrix has no entries.
+fn has_none(words: &[u32], i: usize) -> bool
+    requires { ⌜ Header (now words) ⌝ ∗ ⌜ RowSpan (now words) i ⌝ }
+    ensures { λ r. ⌜ (r ≡ true → length (rowColumns (now (words .entry)) i) ≡ 0) ⌝ }
+{
+    let columns = matrix::row_columns(words, i);
+    columns.len() == 0
 }

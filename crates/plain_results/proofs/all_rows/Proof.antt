@@ -29,11 +29,11 @@ abbrev μ-loop : tie.MeasureT-loop
 μ-loop operation a b c is js starts₀ oc₀ ov₀ engine total n₀ i₀ starts oc ov n i = total - i
 
 -- the turn of the loop, from where its row is worked out
-abbrev turn : tie.After-result-row Inv-loop μ-loop → tie.In-loop Inv-loop μ-loop
+abbrev turn : tie.After-row-or-none Inv-loop μ-loop → tie.In-loop Inv-loop μ-loop
 turn c = c .before .before .before
 
 -- the row, from where its entries are counted
-abbrev worked : tie.After-slice-known5 Inv-loop μ-loop → tie.After-result-row Inv-loop μ-loop
+abbrev worked : tie.After-slice-known5 Inv-loop μ-loop → tie.After-row-or-none Inv-loop μ-loop
 worked c = c .before .before .before .before
 
 row-count-requires : tie.Need-row-count-requires Inv-loop μ-loop
@@ -56,35 +56,35 @@ mul-starts c = search needs
 slice-write-starts : tie.Need-slice-write-starts Inv-loop μ-loop
 slice-write-starts c = search needs
 
-mul-result-row : tie.Need-mul-result-row Inv-loop μ-loop
-mul-result-row c = search needs
+mul-row-or-none : tie.Need-mul-row-or-none Inv-loop μ-loop
+mul-row-or-none c = search needs
 
-sub-result-row : tie.Need-sub-result-row Inv-loop μ-loop
-sub-result-row c = search needs
+sub-row-or-none : tie.Need-sub-row-or-none Inv-loop μ-loop
+sub-row-or-none c = search needs
 
-part-result-row-start : tie.Need-part-result-row-start Inv-loop μ-loop
-part-result-row-start c = search needs
+part-row-or-none-start : tie.Need-part-row-or-none-start Inv-loop μ-loop
+part-row-or-none-start c = search needs
 
-part-result-row-end : tie.Need-part-result-row-end Inv-loop μ-loop
-part-result-row-end c = search needs
+part-row-or-none-end : tie.Need-part-row-or-none-end Inv-loop μ-loop
+part-row-or-none-end c = search needs
 
-mul-result-row-2 : tie.Need-mul-result-row-2 Inv-loop μ-loop
-mul-result-row-2 c = search needs
+mul-row-or-none-2 : tie.Need-mul-row-or-none-2 Inv-loop μ-loop
+mul-row-or-none-2 c = search needs
 
-sub-result-row-2 : tie.Need-sub-result-row-2 Inv-loop μ-loop
-sub-result-row-2 c = search needs
+sub-row-or-none-2 : tie.Need-sub-row-or-none-2 Inv-loop μ-loop
+sub-row-or-none-2 c = search needs
 
-part-result-row-start-2 : tie.Need-part-result-row-start-2 Inv-loop μ-loop
-part-result-row-start-2 c = search needs
+part-row-or-none-start-2 : tie.Need-part-row-or-none-start-2 Inv-loop μ-loop
+part-row-or-none-start-2 c = search needs
 
-part-result-row-end-2 : tie.Need-part-result-row-end-2 Inv-loop μ-loop
-part-result-row-end-2 c = search needs
+part-row-or-none-end-2 : tie.Need-part-row-or-none-end-2 Inv-loop μ-loop
+part-row-or-none-end-2 c = search needs
 
-result-row-requires : tie.Need-result-row-requires Inv-loop μ-loop
-result-row-requires c κs = let t = c .before .before in row-needs _ _ _ _ _ _ (t .before .loop .inv .0) (t .loop-test .taken)
+row-or-none-requires : tie.Need-row-or-none-requires Inv-loop μ-loop
+row-or-none-requires c κs = let t = c .before .before in row-needs _ _ _ _ _ _ (t .before .loop .inv .0) (t .loop-test .taken)
 
 add-n : tie.Need-add-n Inv-loop μ-loop
-add-n c = let q = worked c in sum-fits _ _ _ _ _ _ (turn q .before .loop .inv .0) (q .result-row .ensures)
+add-n c = let q = worked c in sum-fits _ _ _ _ _ _ (turn q .before .loop .inv .0) (q .row-or-none .ensures)
 
 cast-if1 : tie.Need-cast-if1 Inv-loop μ-loop
 cast-if1 c = search needs
@@ -97,21 +97,21 @@ same-length-2 : tie.Need-same-length-2 Inv-loop μ-loop
 same-length-2 c =
     let q = worked (c .before) in
     let v = turn q .before .loop .inv in
-    back-length (turn q .before .loop .n) (turn q .before .loop .oc) (q .result-row .last .1 .1 .1 .1 .1 .1 .1 .1 .0)
-    (columns-room _ _ _ _ _ _ (v .0)) (q .result-row .kept .1 .1 .1 .1 .1 .1 .1 .1 .0) ∙ v .1 .1
+    back-length (turn q .before .loop .n) (turn q .before .loop .oc) (q .row-or-none .last .1 .1 .1 .1 .1 .1 .1 .1 .0)
+    (columns-room _ _ _ _ _ _ (v .0)) (q .row-or-none .kept .1 .1 .1 .1 .1 .1 .1 .1 .0) ∙ v .1 .1
 
 same-length-3 : tie.Need-same-length-3 Inv-loop μ-loop
 same-length-3 c =
     let q = worked (c .before) in
     let v = turn q .before .loop .inv in
-    back-length (turn q .before .loop .n) (turn q .before .loop .ov) (q .result-row .last .1 .1 .1 .1 .1 .1 .1 .1 .1 .0)
-    (values-room _ _ _ _ _ _ (v .0)) (q .result-row .kept .1 .1 .1 .1 .1 .1 .1 .1 .1 .0) ∙ v .1 .2
+    back-length (turn q .before .loop .n) (turn q .before .loop .ov) (q .row-or-none .last .1 .1 .1 .1 .1 .1 .1 .1 .1 .0)
+    (values-room _ _ _ _ _ _ (v .0)) (q .row-or-none .kept .1 .1 .1 .1 .1 .1 .1 .1 .1 .0) ∙ v .1 .2
 
 returns : tie.Need-returns Inv-loop μ-loop
 returns c =
     let q = worked (c .before) in
     let t = turn q in
-    passed-full _ _ _ _ _ _ (t .before .loop .inv .0) (q .result-row .ensures) (t .loop-test .taken) (c .if1 .taken) _ _ _
+    passed-full _ _ _ _ _ _ (t .before .loop .inv .0) (q .row-or-none .ensures) (t .loop-test .taken) (c .if1 .taken) _ _ _
 
 add-i : tie.Need-add-i Inv-loop μ-loop
 add-i c = let t = turn (worked (c .before)) in counter-fits _ _ _ _ _ _ (t .before .loop .inv .0) (t .loop-test .taken)
@@ -124,9 +124,9 @@ loop-again c =
     let q = worked (c .before) in
     let t = turn q in
     let v = t .before .loop .inv in
-    let x = q .result-row .last .1 .1 .1 .1 .1 .1 .1 .1 in
-    let k = q .result-row .kept .1 .1 .1 .1 .1 .1 .1 .1 in (
-      passed-next _ _ _ _ _ _ (v .0) (q .result-row .ensures) (t .loop-test .taken) (c .if1 .left) (k .0) (k .1 .0),
+    let x = q .row-or-none .last .1 .1 .1 .1 .1 .1 .1 .1 in
+    let k = q .row-or-none .kept .1 .1 .1 .1 .1 .1 .1 .1 in (
+      passed-next _ _ _ _ _ _ (v .0) (q .row-or-none .ensures) (t .loop-test .taken) (c .if1 .left) (k .0) (k .1 .0),
       (
         length-set (t .before .loop .starts) (t .before .loop .i) (t .before .loop .n) ∙ v .1 .0,
         back-length (t .before .loop .n) (t .before .loop .oc) (x .0) (columns-room _ _ _ _ _ _ (v .0)) (k .0) ∙ v .1 .1,
@@ -158,15 +158,15 @@ all-rows-spec =
     cast-starts
     mul-starts
     slice-write-starts
-    mul-result-row
-    sub-result-row
-    part-result-row-start
-    part-result-row-end
-    mul-result-row-2
-    sub-result-row-2
-    part-result-row-start-2
-    part-result-row-end-2
-    result-row-requires
+    mul-row-or-none
+    sub-row-or-none
+    part-row-or-none-start
+    part-row-or-none-end
+    mul-row-or-none-2
+    sub-row-or-none-2
+    part-row-or-none-start-2
+    part-row-or-none-end-2
+    row-or-none-requires
     add-n
     cast-if1
     same-length
