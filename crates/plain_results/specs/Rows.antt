@@ -38,6 +38,13 @@ pub record Rows (g : Grid) (i n : ℕ) (st oc ov : List ℕ) : Type 0 where
   pub columns : take n oc ≡ flatten column (g .cols) (g .cell) i
   pub values : take n ov ≡ flatten value (g .cols) (g .cell) i
 
+-- the rows of g from i up to r have no entries, and their starts are written behind those of the first i, with n entries
+pub record Skipped (g : Grid) (total i n : ℕ) (st : List ℕ) (r : ℕ) (st′ : List ℕ) : Type 0 where
+  pub rises : i ≤ r
+  pub within : r ≤ total
+  pub size : length st′ ≡ length st
+  pub passes : (oc ov : List ℕ) → Rows g i n st oc ov → Rows g r n st′ oc ov
+
 -- all rows of g, with n entries, or too many entries
 pub record AllRows (g : Grid) (n : ℕ) (starts oc ov : List ℕ) : Type 0 where
   pub all : n ≤ maxEntries → Rows g (g .rows) n starts oc ov

@@ -14,14 +14,14 @@ ghost use mathlib.Core.Path.{_≡_};
 ghost use mathlib.Core.Bool.{true};
 ghost use Prim.Native.Nat.{_≤_};
 ghost use lib.ListN.{length};
-ghost use Rattle.rows.specs.Row.{Holds};
-ghost use Rattle.matrix.specs.Layout.{rowColumns, gridOf, workspaceWords};
+ghost use Rattle.limits.specs.Limits.{maxRows, maxEntries};
+ghost use Rattle.matrix.specs.Layout.{rows, rowColumns, gridOf, workspaceWords};
 ghost use Rattle.operations.specs.GridOperations.{resultGrid};
 ghost use Rattle.matrix.specs.Facts.{Header, RowSpan, Matrix};
-ghost use Rattle.result_rows.specs.RowInputs.{RowInputs, Buffers};
+ghost use Rattle.result_rows.specs.RowInputs.{RowInputs};
 ghost use Rattle.apply_rows.specs.Values.{byValue};
 ghost use Rattle.plain_results.specs.Applied.{appliedGrid};
-ghost use Rattle.plain_results.specs.Rows.{Inputs, EmptyRow, Space, AllRows, Written};
+ghost use Rattle.plain_results.specs.Rows.{Inputs, EmptyRow, Space, Skipped, AllRows, Written};
 
 // The places of a buffer for all rows: as many as a matrix may have entries, and one row more.
 const RESULT_PLACES: usize = MAX_ENTRIES as usize + ROW_PLACES;
@@ -130,10 +130,10 @@ fn all_rows(
 {
     let total = matrix::row_count(c) as usize;
     let mut n: usize = 0;
-    let mut i: usize = 0;
+    let mut i = skip_rows(operation, a, b, c, is, js, starts, 0, 0);
     while i < total {
         starts[i] = n as u32;
-        n += row_or_none(
+        n += result_rows::result_row(
             engine,
             operation,
             a,
@@ -148,37 +148,39 @@ fn all_rows(
         if (MAX_ENTRIES as usize) < n {
             return n;
         }
-        i += 1;
+        i = skip_rows(operation, a, b, c, is, js, starts, i + 1, n);
     }
     n
 }
 
-// Row i of T, left at the front of `oc` and `ov`: its number of entries.
-fn row_or_none(
-    engine: Engine,
+// Writes the starts of the rows from `from` on that are known to be empty, after n entries: the first row that is not.
+fn skip_rows(
     operation: Operation,
     a: &[u32],
     b: &[u32],
     c: &[u32],
     is: &[u32],
     js: &[u32],
-    i: usize,
-    oc: &mut [u32],
-    ov: &mut [u32],
+    starts: &mut [u32],
+    from: usize,
+    n: usize,
 ) -> usize
-    requires { ⌜ RowInputs operation (now a) (now b) (now c) (now is) (now js) i ⌝ }
-    requires { ⌜ Buffers (resultGrid operation (gridOf (now a)) (gridOf (now b)) (gridOf (now c)) (now is) (now js))
-        (now oc) (now ov) ⌝ }
-    ensures { λ r. ⌜ Holds (resultGrid operation (gridOf (now (a .entry))) (gridOf (now (b .entry)))
-        (gridOf (now (c .entry))) (now (is .entry)) (now (js .entry)) .cols)
-        (resultGrid operation (gridOf (now (a .entry))) (gridOf (now (b .entry)))
-        (gridOf (now (c .entry))) (now (is .entry)) (now (js .entry)) .cell i)
-        r (now (oc .exit)) (now (ov .exit)) ⌝ }
+    requires { ⌜ Inputs operation (now a) (now b) (now c) (now is) (now js) ⌝ }
+    requires { ⌜ (from ≤ rows (now c)) × (n ≤ maxEntries) ⌝ ∗ ⌜ maxRows ≤ length (now starts) ⌝ }
+    ensures { λ r. ⌜ Skipped (resultGrid operation (gridOf (now (a .entry))) (gridOf (now (b .entry)))
+        (gridOf (now (c .entry))) (now (is .entry)) (now (js .entry)))
+        (rows (now (c .entry))) from n (now (starts .entry)) r (now (starts .exit)) ⌝ }
 {
-    if is_empty(operation, a, b, c, is, js, i) {
-        return 0;
+    let total = matrix::row_count(c) as usize;
+    let mut i = from;
+    while i < total {
+        if !is_empty(operation, a, b, c, is, js, i) {
+            return i;
+        }
+        starts[i] = n as u32;
+        i += 1;
     }
-    result_rows::result_row(engine, operation, a, b, c, is, js, i, oc, ov)
+    i
 }
 
 // Whether the row starts alone tell that row i of T has no entries.
