@@ -38,7 +38,7 @@ pub record Rows (g : Grid) (i n : ℕ) (st oc ov : List ℕ) : Type 0 where
   pub columns : take n oc ≡ flatten column (g .cols) (g .cell) i
   pub values : take n ov ≡ flatten value (g .cols) (g .cell) i
 
--- the rows of g from i up to r have no entries, and their starts are written behind those of the first i, with n entries
+-- the rows of g from i up to r have no entries, and their starts follow those of the first i, which have n entries
 pub record Skipped (g : Grid) (total i n : ℕ) (st : List ℕ) (r : ℕ) (st′ : List ℕ) : Type 0 where
   pub rises : i ≤ r
   pub within : r ≤ total

@@ -74,7 +74,8 @@ module _ {columns vals : List ℕ} (w : Row maxCols columns vals) {monoid : Mono
     placing-step {top′ = top′} {map′} l k e g =
         let c = at columns p in
         let before : flagged map sums c ≡ old c = h .swept .rest c (omega (arith, front-at maxCols columns p l)) in
-        subst (λ (s : List ℕ). Placing monoid op x columns vals old sums₀ top′ map′ s (p + 1)) (sym (g .stored)) record {
+        subst (λ (s : List ℕ). Placing monoid op x columns vals old sums₀ top′ map′ s (p + 1)) (sym (g .stored))
+        record {
           tracked = g .marking .tracked;
           long = length-set sums c (g .sum) ∙ h .long;
           swept = swept-step w (keeps monoid op x _ old) (h .swept) l

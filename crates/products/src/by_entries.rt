@@ -206,7 +206,7 @@ fn sum_entries(
     used
 }
 
-// Adds a product at column j, which is marked: the new top word. A column that was marked already leaves the map as it is.
+// Adds a product at column j, which is marked: the new top word. Where it was marked before, the map stays as it is.
 fn add_at(
     monoid: Monoid,
     product: u32,

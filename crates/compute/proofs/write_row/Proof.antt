@@ -25,7 +25,8 @@ mask-columns-requires : tie.Need-mask-columns-requires
 mask-columns-requires c κs = c .before .before .before .before .before .before .before .before .before .pre .0 .mask
 
 mask-values-requires : tie.Need-mask-values-requires
-mask-values-requires c κs = c .before .before .before .before .before .before .before .before .before .before .pre .0 .mask
+mask-values-requires c κs =
+    c .before .before .before .before .before .before .before .before .before .before .pre .0 .mask
 
 row-columns-requires : tie.Need-row-columns-requires
 row-columns-requires c κs =
@@ -39,7 +40,8 @@ row-values-requires c κs =
 
 merge-row-requires : tie.Need-merge-row-requires
 merge-row-requires c κs =
-    let p = c .before .before .before .before .before .before .before .before .before .before .before .before .before .before .before .pre in
+    let e = c .before .before .before .before .before .before .before in
+    let p = e .before .before .before .before .before .before .before .before .pre in
     let h = p .0 in
     let r = c .before .before in
     let s = r .before .before in

@@ -157,10 +157,12 @@ loop-again c =
     let v = t .before .loop .inv in
     let x = q .result-row .last .1 .1 .1 .1 .1 .1 .1 .1 in
     let k = q .result-row .kept .1 .1 .1 .1 .1 .1 .1 .1 in
-    let m = passed-next _ _ _ _ _ _ (v .0) (q .result-row .ensures) (t .loop-test .taken) (l .if1 .left) (k .0) (k .1 .0) in (
+    let m = passed-next _ _ _ _ _ _ (v .0) (q .result-row .ensures) (t .loop-test .taken) (l .if1 .left) (k .0)
+    (k .1 .0) in (
       passed-skip _ _ _ _ _ _ m (s .skip-rows2 .ensures),
       (
-        s .skip-rows2 .ensures .size ∙ length-set (t .before .loop .starts) (t .before .loop .i) (t .before .loop .n) ∙ v .1 .0,
+        s .skip-rows2 .ensures .size
+            ∙ length-set (t .before .loop .starts) (t .before .loop .i) (t .before .loop .n) ∙ v .1 .0,
         back-length (t .before .loop .n) (t .before .loop .oc) (x .0) (columns-room _ _ _ _ _ _ (v .0)) (k .0) ∙ v .1 .1,
         back-length (t .before .loop .n) (t .before .loop .ov) (x .1 .0) (values-room _ _ _ _ _ _ (v .0)) (k .1 .0) ∙ v .1 .2,
       ),

@@ -4,7 +4,8 @@ use mathlib.Core.Bool.{false≢true}
 use denote.Ref.{now}
 use borrow.Author.Tests.{not-false}
 use Rattle.result_rows.proofs.Inputs.{add-inputs}
-use Rattle.plain_results.proofs.Empty.{row-matched, spanned, product-none, mult-none, add-none, apply-none, select-none}
+use Rattle.plain_results.proofs.Empty.{row-matched, spanned}
+use Rattle.plain_results.proofs.Empty.{product-none, mult-none, add-none, apply-none, select-none}
 use borrow.Author.Needs.{needs}
 use Rattle.plain_results.proofs.is_empty.Statement.{statement}
 use Rattle.plain_results.proofs.is_empty.Tie as tie

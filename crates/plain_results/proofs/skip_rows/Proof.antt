@@ -71,8 +71,8 @@ loop-less c = omega (arith, turn c .loop-test .taken)
 
 loop-again : tie.Need-loop-again Inv-loop μ-loop
 loop-again c =
-    skipped-next (turn c .before .loop .inv) (c .before .is-empty .ensures (not-false _ (c .if1 .left))) (in-rows (turn c))
-    (in-starts (turn c))
+    skipped-next (turn c .before .loop .inv) (c .before .is-empty .ensures (not-false _ (c .if1 .left)))
+    (in-rows (turn c)) (in-starts (turn c))
 
 same-length-2 : tie.Need-same-length-2 Inv-loop μ-loop
 same-length-2 c = c .before .loop .inv .size

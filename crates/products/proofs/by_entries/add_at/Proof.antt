@@ -25,8 +25,8 @@ returns : tie.Need-returns
 returns c =
     let looked = c .before .before .before in
     let a = looked .before .before .before .args in
-    added-first (a .monoid) (a .product) (now (a .sums)) (sym (looked .mark-at .ensures) ∙ c .before .before .if1 .taken)
-    (c .mark-column .ensures)
+    added-first (a .monoid) (a .product) (now (a .sums))
+    (sym (looked .mark-at .ensures) ∙ c .before .before .if1 .taken) (c .mark-column .ensures)
 
 mul-add-product : tie.Need-mul-add-product
 mul-add-product c = search needs
