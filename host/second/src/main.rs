@@ -2,6 +2,7 @@
 //!
 //! `cargo run --release -p second -- --seed 1 --calls 200000` compares.
 
+use second::arguments::{self, Arguments};
 use second::calls::{answers_of, code_of, Answers, LentCall, StoreList};
 use second::compare::{judge_lent, judge_list, see_lent, see_list, Seen};
 use second::fault::{self, Fault};
@@ -23,60 +24,42 @@ Compares the library with a model on each cell of some rows, on random calls, an
   --fault N   plants one fault, and shows the shrunk case that notices it
   --program PATH   runs the program that prints a file of standard input, and nothing else";
 
-struct Arguments {
+/// What is to be compared.
+struct Run {
     seed: u64,
     calls: u64,
     lists: u64,
-    faults: bool,
     fault: Fault,
-    program: Option<String>,
 }
 
-fn arguments() -> Result<Arguments, String> {
-    let (mut seed, mut calls, mut lists, mut faults, mut planted) = (1, None, None, false, Fault::None);
-    let mut program = None;
-    let mut given = std::env::args().skip(1);
-    while let Some(name) = given.next() {
-        if name == "--program" {
-            program = Some(given.next().ok_or("--program wants a path")?);
-            continue;
-        }
-        let mut number = || -> Result<u64, String> {
-            let text = given.next().ok_or(format!("{name} wants a number"))?;
-            text.parse().map_err(|_| format!("{name} wants a number and not {text}"))
-        };
-        match name.as_str() {
-            "--seed" => seed = number()?,
-            "--calls" => calls = Some(number()?),
-            "--lists" => lists = Some(number()?),
-            "--faults" => faults = true,
-            "--fault" => {
-                let number = number()?;
-                let position = usize::try_from(number).ok().and_then(|number| number.checked_sub(1));
-                let entry = position.and_then(|position| fault::ALL.get(position));
-                planted = entry.ok_or(format!("faults go from 1 to {}", fault::ALL.len()))?.0;
-            }
-            _ => return Err(USAGE.to_string()),
-        }
+impl Run {
+    fn new(arguments: &Arguments) -> Result<Run, String> {
+        let default_calls = if arguments.has("--faults") { 40_000 } else { 200_000 };
+        let calls = arguments.number("--calls")?.unwrap_or(default_calls);
+        Ok(Run {
+            seed: arguments.number("--seed")?.unwrap_or(1),
+            calls,
+            lists: arguments.number("--lists")?.unwrap_or(calls / 20),
+            fault: arguments.number("--fault")?.map_or(Ok(Fault::None), numbered_fault)?,
+        })
     }
-    let calls = calls.unwrap_or(if faults { 40_000 } else { 200_000 });
-    Ok(Arguments { seed, calls, lists: lists.unwrap_or(calls / 20), faults, fault: planted, program })
+}
+
+/// The faults are numbered from 1.
+fn numbered_fault(number: usize) -> Result<Fault, String> {
+    let entry = number.checked_sub(1).and_then(|position| fault::ALL.get(position));
+    Ok(entry.ok_or(format!("faults go from 1 to {}", fault::ALL.len()))?.0)
 }
 
 fn main() -> ExitCode {
-    if std::env::args().skip(1).any(|argument| argument == "--help") {
-        println!("{USAGE}");
-        return ExitCode::SUCCESS;
-    }
-    match arguments() {
-        Err(text) => {
-            eprintln!("{text}");
-            ExitCode::from(2)
-        }
-        Ok(Arguments { program: Some(program), seed, .. }) => run_program(&program, seed),
-        Ok(arguments) if arguments.faults => plant_faults(&arguments),
-        Ok(arguments) => compare_all(&arguments),
-    }
+    arguments::run(USAGE, |arguments| {
+        let run = Run::new(arguments)?;
+        Ok(match arguments.text("--program") {
+            Some(program) => run_program(program, run.seed),
+            None if arguments.has("--faults") => plant_faults(&run),
+            None => compare_all(&run),
+        })
+    })
 }
 
 /// The program that prints a file.
@@ -177,13 +160,13 @@ impl Comparison {
     }
 }
 
-fn compare_all(arguments: &Arguments) -> ExitCode {
+fn compare_all(run: &Run) -> ExitCode {
     let all = || {
-        compare_rows(arguments)?;
-        compare_merges(arguments)?;
-        compare_files(arguments)?;
-        compare_doors(arguments)?;
-        compare_random(arguments)
+        compare_rows(run)?;
+        compare_merges(run)?;
+        compare_files(run)?;
+        compare_doors(run)?;
+        compare_random(run)
     };
     match all() {
         Ok(()) => ExitCode::SUCCESS,
@@ -192,8 +175,8 @@ fn compare_all(arguments: &Arguments) -> ExitCode {
 }
 
 /// Each cell of rows with few, many and all columns.
-fn compare_rows(arguments: &Arguments) -> Result<(), Disagreement> {
-    let mut comparison = Comparison { model: Model { fault: arguments.fault }, counts: Counts::default() };
+fn compare_rows(run: &Run) -> Result<(), Disagreement> {
+    let mut comparison = Comparison { model: Model { fault: run.fault }, counts: Counts::default() };
     for (number, call) in full_rows::reads().into_iter().enumerate() {
         comparison.call(&format!("rows, read {number}"), call)?;
     }
@@ -206,8 +189,8 @@ fn compare_rows(arguments: &Arguments) -> Result<(), Disagreement> {
 }
 
 /// Sheets merged in several orders; as many lists of them as lists of calls.
-fn compare_merges(arguments: &Arguments) -> Result<(), Disagreement> {
-    let &Arguments { seed, lists, .. } = arguments;
+fn compare_merges(run: &Run) -> Result<(), Disagreement> {
+    let &Run { seed, lists, .. } = run;
     for number in 0..lists {
         let rng = &mut Rng::of_case(seed, 3, number);
         if let Err(text) = merges::merges(rng).judge(rng) {
@@ -220,8 +203,8 @@ fn compare_merges(arguments: &Arguments) -> Result<(), Disagreement> {
 }
 
 /// Files and texts; as many as lists of calls.
-fn compare_files(arguments: &Arguments) -> Result<(), Disagreement> {
-    let &Arguments { seed, lists, .. } = arguments;
+fn compare_files(run: &Run) -> Result<(), Disagreement> {
+    let &Run { seed, lists, .. } = run;
     for number in 0..lists {
         if let Err(text) = files::case(&mut Rng::of_case(seed, 4, number)).judge(files::Slip::None) {
             println!("seed {seed}, file {number}: {text}");
@@ -233,8 +216,8 @@ fn compare_files(arguments: &Arguments) -> Result<(), Disagreement> {
 }
 
 /// Keys behind doors; as many calls as lists of calls on a store.
-fn compare_doors(arguments: &Arguments) -> Result<(), Disagreement> {
-    let &Arguments { seed, lists, .. } = arguments;
+fn compare_doors(run: &Run) -> Result<(), Disagreement> {
+    let &Run { seed, lists, .. } = run;
     let mut codes: BTreeMap<u32, u64> = BTreeMap::new();
     for number in 0..lists {
         match doors::doors(&mut Rng::of_case(seed, 4, number)).judge() {
@@ -249,8 +232,8 @@ fn compare_doors(arguments: &Arguments) -> Result<(), Disagreement> {
     Ok(())
 }
 
-fn compare_random(arguments: &Arguments) -> Result<(), Disagreement> {
-    let &Arguments { seed, calls, lists, fault, .. } = arguments;
+fn compare_random(run: &Run) -> Result<(), Disagreement> {
+    let &Run { seed, calls, lists, fault, .. } = run;
     let mut comparison = Comparison { model: Model { fault }, counts: Counts::default() };
     let begin = Instant::now();
     for number in 0..calls {
@@ -291,8 +274,8 @@ fn report_list(model: Model, case: &str, list: StoreList) {
 }
 
 /// Runs calls and lists until each faulty model has disagreed with the library.
-fn plant_faults(arguments: &Arguments) -> ExitCode {
-    let &Arguments { seed, calls, lists, .. } = arguments;
+fn plant_faults(run: &Run) -> ExitCode {
+    let &Run { seed, calls, lists, .. } = run;
     let begin = Instant::now();
     let mut noticed: Vec<Option<String>> = vec![None; fault::ALL.len()];
     let mut sound = true;

@@ -46,9 +46,7 @@ impl Merges {
     /// The positions of the sheets in another order.
     fn shuffled(&self, rng: &mut Rng) -> Vec<usize> {
         let mut order: Vec<usize> = (0..self.sheets.len()).collect();
-        for at in (1..order.len()).rev() {
-            order.swap(at, rng.below(at + 1));
-        }
+        rng.shuffle(&mut order);
         order
     }
 
