@@ -1,9 +1,9 @@
 //! Links the proved library's static archive.
 //!
-//! Where `OSTRUBEL_LIB_DIR` names a folder by its absolute path, `libostrubel.a` there is linked (or `libexports.a`, as the
-//! toolchain names it), and nothing is built. Else `host/library.sh` proves and builds what has changed, which can take
-//! minutes: its lines are shown on the terminal, if there is one. An archive for another machine than the target's is
-//! refused.
+//! Where `OSTRUBEL_LIB_DIR` names a folder by its absolute path, `libostrubel.a` there is linked (or `libexports.a`, as
+//! the toolchain names it), and nothing is built. Else `host/library.sh` proves and builds what has changed, which can
+//! take minutes: its lines are shown on the terminal, if there is one. An archive for another machine than the target's
+//! is refused.
 
 use std::env;
 use std::fs::{self, File};

@@ -1,5 +1,5 @@
-//! The options that a program is given, for the programs that check and measure. Which there are is said by the usage text
-//! alone: a line of it that begins with `  --name` is an option, with a value where a word in capitals follows.
+//! The options that a program is given, for the programs that check and measure. Which there are is said by the usage
+//! text alone: a line of it that begins with `  --name` is an option, with a value where a word in capitals follows.
 
 use std::process::ExitCode;
 use std::str::FromStr;
@@ -46,7 +46,7 @@ fn takes_value(usage: &str, name: &str) -> Option<bool> {
     Some(line.is_some_and(|word| word.chars().all(|letter| letter.is_ascii_uppercase())))
 }
 
-/// Runs a program on what it was given. With `--help` the usage is printed instead; an error is printed, and is status 2.
+/// Runs a program on what it was given. With `--help` the usage is printed instead. An error is printed: status 2.
 pub fn run(usage: &str, program: impl FnOnce(&Arguments) -> Result<ExitCode, String>) -> ExitCode {
     let words = || std::env::args().skip(1);
     if words().any(|word| word == "--help") {
