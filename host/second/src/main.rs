@@ -8,7 +8,8 @@ use second::compare::{judge_lent, judge_list, see_lent, see_list, Seen};
 use second::fault::{self, Fault};
 use second::model::{Model, SOUND};
 use second::rng::Rng;
-use second::{describe, doors, files, full_rows, generate_lent, generate_store, merges, program, shrink};
+use second::shrink::shrink;
+use second::{describe, doors, files, full_rows, generate_lent, generate_store, merges, program};
 use std::collections::{BTreeMap, BTreeSet};
 use std::process::ExitCode;
 use std::time::Instant;
@@ -76,12 +77,13 @@ fn run_program(path: &str, seed: u64) -> ExitCode {
     }
 }
 
-fn make_call(seed: u64, number: u64) -> LentCall {
-    generate_lent::lent_call(&mut Rng::of_case(seed, 1, number))
+/// The generators of the calls and the lists of a run, by their number.
+fn call_rng(seed: u64, number: u64) -> Rng {
+    Rng::of_case(seed, 1, number)
 }
 
-fn make_list(seed: u64, number: u64) -> StoreList {
-    generate_store::store_list(&mut Rng::of_case(seed, 2, number))
+fn list_rng(seed: u64, number: u64) -> Rng {
+    Rng::of_case(seed, 2, number)
 }
 
 /// What was seen of one function of the library.
@@ -139,20 +141,34 @@ struct Comparison {
 struct Disagreement;
 
 impl Comparison {
-    fn call(&mut self, case: &str, call: LentCall) -> Result<(), Disagreement> {
+    /// The call that is made by the generator.
+    fn call(
+        &mut self,
+        case: &str,
+        rng: impl Fn() -> Rng,
+        make: impl Fn(&mut Rng) -> LentCall,
+    ) -> Result<(), Disagreement> {
+        let call = make(&mut rng());
         let seen = see_lent(&call);
         if !judge_lent(self.model, &call, &seen).is_empty() {
-            report_call(self.model, case, call);
+            report_call(self.model, case, rng(), make);
             return Err(Disagreement);
         }
         self.counts.add(&seen);
         Ok(())
     }
 
-    fn list(&mut self, case: &str, list: StoreList) -> Result<(), Disagreement> {
+    /// The list that is made by the generator.
+    fn list(
+        &mut self,
+        case: &str,
+        rng: impl Fn() -> Rng,
+        make: impl Fn(&mut Rng) -> StoreList,
+    ) -> Result<(), Disagreement> {
+        let list = make(&mut rng());
         let seen = see_list(&list);
         if judge_list(self.model, &list, &seen).is_some() {
-            report_list(self.model, case, list);
+            report_list(self.model, case, rng(), make);
             return Err(Disagreement);
         }
         seen.iter().for_each(|seen| self.counts.add(seen));
@@ -177,11 +193,15 @@ fn compare_all(run: &Run) -> ExitCode {
 /// Each cell of rows with few, many and all columns.
 fn compare_rows(run: &Run) -> Result<(), Disagreement> {
     let mut comparison = Comparison { model: Model { fault: run.fault }, counts: Counts::default() };
-    for (number, call) in full_rows::reads().into_iter().enumerate() {
-        comparison.call(&format!("rows, read {number}"), call)?;
+    let numbered = |number: usize| move || Rng::of_choices(vec![number as u64]);
+    let (reads, lists) = (full_rows::reads(), full_rows::lists());
+    for number in 0..reads.len() {
+        let make = |rng: &mut Rng| reads[rng.below(reads.len())].clone();
+        comparison.call(&format!("rows, read {number}"), numbered(number), make)?;
     }
-    for (row, list) in full_rows::lists().into_iter().enumerate() {
-        comparison.list(&format!("rows, row {row} in a store"), list)?;
+    for row in 0..lists.len() {
+        let make = |rng: &mut Rng| lists[rng.below(lists.len())].clone();
+        comparison.list(&format!("rows, row {row} in a store"), numbered(row), make)?;
     }
     comparison.counts.print();
     println!("each cell of the rows, {} calls: no disagreement", comparison.counts.total());
@@ -206,8 +226,11 @@ fn compare_merges(run: &Run) -> Result<(), Disagreement> {
 fn compare_files(run: &Run) -> Result<(), Disagreement> {
     let &Run { seed, lists, .. } = run;
     for number in 0..lists {
-        if let Err(text) = files::case(&mut Rng::of_case(seed, 4, number)).judge(files::Slip::None) {
-            println!("seed {seed}, file {number}: {text}");
+        let rng = || Rng::of_case(seed, 4, number);
+        let judge = |case: &files::Case| case.judge(files::Slip::None);
+        if judge(&files::case(&mut rng())).is_err() {
+            let small = shrink(rng(), files::case, |case| judge(case).is_err());
+            println!("seed {seed}, file {number}, made small: {}", judge(&small).unwrap_err());
             return Err(Disagreement);
         }
     }
@@ -220,10 +243,12 @@ fn compare_doors(run: &Run) -> Result<(), Disagreement> {
     let &Run { seed, lists, .. } = run;
     let mut codes: BTreeMap<u32, u64> = BTreeMap::new();
     for number in 0..lists {
-        match doors::doors(&mut Rng::of_case(seed, 4, number)).judge() {
+        let rng = || Rng::of_case(seed, 5, number);
+        match doors::doors(&mut rng()).judge() {
             Ok(answer) => *codes.entry(code_of(answer)).or_default() += 1,
-            Err(text) => {
-                println!("seed {seed}, doors {number}: {text}");
+            Err(_) => {
+                let small = shrink(rng(), doors::doors, |case| case.judge().is_err());
+                println!("seed {seed}, doors {number}, made small: {}", small.judge().unwrap_err());
                 return Err(Disagreement);
             }
         }
@@ -237,11 +262,13 @@ fn compare_random(run: &Run) -> Result<(), Disagreement> {
     let mut comparison = Comparison { model: Model { fault }, counts: Counts::default() };
     let begin = Instant::now();
     for number in 0..calls {
-        comparison.call(&format!("seed {seed}, call {number}"), make_call(seed, number))?;
+        let case = format!("seed {seed}, call {number}");
+        comparison.call(&case, || call_rng(seed, number), generate_lent::lent_call)?;
     }
     let lent_seconds = begin.elapsed().as_secs_f64();
     for number in 0..lists {
-        comparison.list(&format!("seed {seed}, list {number}"), make_list(seed, number))?;
+        let case = format!("seed {seed}, list {number}");
+        comparison.list(&case, || list_rng(seed, number), generate_store::store_list)?;
     }
     comparison.counts.print();
     let total = comparison.counts.total();
@@ -254,18 +281,18 @@ fn compare_random(run: &Run) -> Result<(), Disagreement> {
     Ok(())
 }
 
-fn report_call(model: Model, case: &str, call: LentCall) {
+fn report_call(model: Model, case: &str, rng: Rng, make: impl Fn(&mut Rng) -> LentCall) {
     println!("{case}: the model and the library disagree; the case, made small:");
     let fails = |call: &LentCall| !judge_lent(model, call, &see_lent(call)).is_empty();
-    let small = shrink::lent_call(call, fails);
+    let small = shrink(rng, make, fails);
     describe::lent_call(&small).iter().for_each(|line| println!("{line}"));
     judge_lent(model, &small, &see_lent(&small)).iter().for_each(|line| println!("{line}"));
 }
 
-fn report_list(model: Model, case: &str, list: StoreList) {
+fn report_list(model: Model, case: &str, rng: Rng, make: impl Fn(&mut Rng) -> StoreList) {
     println!("{case}: the model and the library disagree; the case, made small:");
     let fails = |list: &StoreList| judge_list(model, list, &see_list(list)).is_some();
-    let small = shrink::store_list(list, fails);
+    let small = shrink(rng, make, fails);
     describe::store_list(&small).iter().for_each(|line| println!("{line}"));
     if let Some((call, lines)) = judge_list(model, &small, &see_list(&small)) {
         println!("at call {call}:");
@@ -284,14 +311,14 @@ fn plant_faults(run: &Run) -> ExitCode {
             break;
         }
         if number < calls {
-            let call = make_call(seed, number);
+            let call = generate_lent::lent_call(&mut call_rng(seed, number));
             let seen = see_lent(&call);
             let differs = |fault| !judge_lent(Model { fault }, &call, &seen).is_empty();
             sound &= !differs(SOUND.fault);
             note(&mut noticed, differs, &format!("call {number}"));
         }
         if number < lists {
-            let list = make_list(seed, number);
+            let list = generate_store::store_list(&mut list_rng(seed, number));
             let seen = see_list(&list);
             let differs = |fault| judge_list(Model { fault }, &list, &seen).is_some();
             sound &= !differs(SOUND.fault);
