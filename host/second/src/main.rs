@@ -193,15 +193,21 @@ fn compare_all(run: &Run) -> ExitCode {
 /// Each cell of rows with few, many and all columns.
 fn compare_rows(run: &Run) -> Result<(), Disagreement> {
     let mut comparison = Comparison { model: Model { fault: run.fault }, counts: Counts::default() };
-    let numbered = |number: usize| move || Rng::of_choices(vec![number as u64]);
     let (reads, lists) = (full_rows::reads(), full_rows::lists());
     for number in 0..reads.len() {
         let make = |rng: &mut Rng| reads[rng.below(reads.len())].clone();
-        comparison.call(&format!("rows, read {number}"), numbered(number), make)?;
+        comparison.call(&format!("rows, read {number}"), || Rng::of_choices(vec![number as u64]), make)?;
     }
-    for row in 0..lists.len() {
-        let make = |rng: &mut Rng| lists[rng.below(lists.len())].clone();
-        comparison.list(&format!("rows, row {row} in a store"), numbered(row), make)?;
+    // A list of calls, where it ends, and how many of its calls there are; at first all.
+    let part = |rng: &mut Rng| {
+        let StoreList { store, calls } = &lists[rng.below(lists.len())];
+        let end = rng.below(calls.len() + 1);
+        let calls = calls[end - rng.below(end + 1)..end].to_vec();
+        StoreList { store: store.clone(), calls }
+    };
+    for (row, list) in lists.iter().enumerate() {
+        let whole = || Rng::of_choices([row, list.calls.len(), list.calls.len()].map(|choice| choice as u64).into());
+        comparison.list(&format!("rows, row {row} in a store"), whole, part)?;
     }
     comparison.counts.print();
     println!("each cell of the rows, {} calls: no disagreement", comparison.counts.total());

@@ -9,6 +9,9 @@ const TRIES: usize = 30_000;
 /// Up to so many choices, each is lowered while others are cut, as for a count and what it counts.
 const FEW: usize = 120;
 
+/// So many of them at the most.
+const MOST_CUT: usize = 16;
+
 /// A small case that fails, found from the one that `make` makes by `rng`, which fails.
 pub fn shrink<T>(rng: Rng, make: impl Fn(&mut Rng) -> T, fails: impl Fn(&T) -> bool) -> T {
     let mut rng = rng.recorded();
@@ -93,7 +96,7 @@ impl<T, M: Fn(&mut Rng) -> T, F: Fn(&T) -> bool> Search<T, M, F> {
     fn lower_and_cut_after(&mut self, at: usize) -> bool {
         let mut lowered = self.choices.clone();
         lowered[at] -= 1;
-        let places = (1..=8).flat_map(|count| (at + 1..lowered.len()).map(move |from| (from, count)));
+        let places = (1..=MOST_CUT).flat_map(|count| (at + 1..lowered.len()).map(move |from| (from, count)));
         let fits = |&(from, count): &(usize, usize)| from + count <= lowered.len();
         places.filter(fits).any(|(from, count)| self.take(without(&lowered, from, count)))
     }
