@@ -17,8 +17,6 @@ mod plan;
 mod planted;
 mod stream;
 mod suite;
-#[cfg(test)]
-mod worked_examples;
 
 use second::arguments::{self, Arguments};
 use std::process::ExitCode;
