@@ -1,6 +1,6 @@
 //! Matrices as lists of entries, and as words.
 
-use crate::rng::Rng;
+use second::rng::Rng;
 use std::collections::BTreeMap;
 
 /// A shape, and the values of the present cells by row and column.

@@ -5,7 +5,7 @@
 //! mutably. Any numbers and any words may be passed.
 
 mod c {
-    extern "C" {
+    unsafe extern "C" {
         pub fn ostrubel_check(words: *const u32, n: usize) -> u64;
         pub fn ostrubel_new_empty(rows: u32, cols: u32, buffer: *mut u32, n: usize) -> u64;
         pub fn ostrubel_read_cell(i: u32, j: u32, words: *const u32, n: usize) -> u64;
@@ -122,7 +122,7 @@ macro_rules! operation {
         $(#[$about:meta])* $lent:ident $c_lent:ident $store:ident $c_store:ident,
         [$($number:ident),*], [$($input:ident $count:ident),*], [$($slot:ident),*], [$($list:ident $length:ident),*]
     ) => {
-        extern "C" {
+        unsafe extern "C" {
             fn $c_lent(
                 flags: u32, has_mask: u32, has_accumulator: u32, accumulator: u32, $($number: u32,)*
                 $($input: *const u32, $count: usize,)* $($list: *const u32, $length: usize,)*
@@ -184,7 +184,7 @@ operation!(
 /// A product by the first of the library's two engines, on lent matrices: the C function and a safe function.
 macro_rules! product_by_places {
     ($(#[$about:meta])* $lent:ident $c_lent:ident) => {
-        extern "C" {
+        unsafe extern "C" {
             fn $c_lent(
                 flags: u32, has_mask: u32, has_accumulator: u32, accumulator: u32, monoid: u32, op: u32,
                 a: *const u32, a_n: usize, b: *const u32, b_n: usize,
@@ -235,7 +235,7 @@ operation!(
     extract ostrubel_extract store_extract ostrubel_store_extract, [], [a a_n], [a], [is is_n, js js_n]
 );
 
-extern "C" {
+unsafe extern "C" {
     fn ostrubel_open_doors(
         allowance: u32,
         locks: *const u32,

@@ -1,6 +1,7 @@
 //! Making matrices and reading them.
 
-use ostrubel::{Error, Found, Matrix, Section};
+use ostrubel::{ApplyOp, Error, Found, Matrix, Options, Section, UnaryOp, MAX_COLS, MAX_ENTRIES, MAX_ROWS};
+use std::collections::BTreeMap;
 
 /// Document 01's strip: 10, 20, 40 at columns 0, 1, 3.
 const STRIP: [u32; 14] = [2, 1, 4, 2, 0, 3, 3, 0, 1, 3, 3, 10, 20, 40];
@@ -92,6 +93,93 @@ fn entries_come_row_by_row() -> Result<(), Error> {
         sum += value;
     }
     assert_eq!(sum, 6);
+    Ok(())
+}
+
+#[test]
+fn entries_of_a_matrix_that_is_given_away() -> Result<(), Error> {
+    let triples = [(1, 0, 1), (1, 2, 2), (4, 1, 3)];
+    let mut entries = Matrix::from_triples(6, 3, triples)?.into_iter();
+    for (at, triple) in triples.into_iter().enumerate() {
+        assert_eq!(entries.len(), 3 - at);
+        assert_eq!(entries.next(), Some(triple));
+    }
+    assert_eq!((entries.next(), entries.next(), entries.len()), (None, None, 0));
+    assert_eq!(Matrix::new(1, 1)?.into_iter().next(), None);
+    Ok(())
+}
+
+#[test]
+fn words_are_tried() {
+    assert_eq!(Matrix::try_from(&STRIP[..]).map(Matrix::into_words), Ok(STRIP.to_vec()));
+    assert_eq!(Matrix::try_from(&STRIP[..13]), Err(Error::InvalidFirst));
+}
+
+/// Each cell set and cleared, beside a matrix made of the cells there are.
+#[test]
+fn cells_are_set_and_cleared() -> Result<(), Error> {
+    let mut matrix = Matrix::new(3, 3)?;
+    let mut cells = BTreeMap::new();
+    for step in 0..60 {
+        let (i, j) = (step * 7 % 3, step * 5 % 9 / 3);
+        let entries = if step % 3 == 0 {
+            cells.remove(&(i, j));
+            matrix.clear(i, j)?
+        } else {
+            cells.insert((i, j), step as i32 % 4 - 1);
+            matrix.set(i, j, step as i32 % 4 - 1)?
+        };
+        let expected: Vec<_> = cells.iter().map(|(&(i, j), &value)| (i, j, value)).collect();
+        assert_eq!((matrix.to_triples(), entries), (expected, cells.len()), "step {step}");
+    }
+    for (i, j) in [(3, 0), (0, 3), (u32::MAX, u32::MAX)] {
+        let before = matrix.clone();
+        assert_eq!(matrix.set(i, j, 1), Err(Error::IndexOutOfBounds));
+        assert_eq!(matrix.clear(i, j), Err(Error::IndexOutOfBounds));
+        assert_eq!(matrix, before);
+    }
+    Ok(())
+}
+
+#[test]
+fn a_full_matrix_takes_no_other_cell() -> Result<(), Error> {
+    let cells = (0..MAX_ENTRIES as u32).map(|k| (k % MAX_ROWS, k / MAX_ROWS, 1));
+    let mut matrix = Matrix::from_triples(MAX_ROWS, MAX_COLS, cells)?;
+    let before = matrix.clone();
+    assert_eq!(matrix.set(999, 999, 1), Err(Error::TooManyEntries));
+    assert_eq!(matrix, before);
+    assert_eq!(matrix.set(0, 0, 2)?, MAX_ENTRIES);
+    assert_eq!(matrix.clear(0, 0)?, MAX_ENTRIES - 1);
+    assert_eq!(matrix.set(999, 999, 1)?, MAX_ENTRIES);
+    Ok(())
+}
+
+#[test]
+fn transposing() -> Result<(), Error> {
+    let matrix = Matrix::from_triples(2, 1_000, [(0, 999, 7), (1, 0, 0), (1, 999, i32::MIN)])?;
+    let expected = Matrix::from_triples(1_000, 2, [(999, 0, 7), (0, 1, 0), (999, 1, i32::MIN)])?;
+    assert_eq!(matrix.transpose().to_triples(), expected.to_triples());
+    assert_eq!((matrix.transpose().rows(), matrix.transpose().cols()), (1_000, 2));
+    Ok(())
+}
+
+/// A matrix keeps no room of the largest one after a call that wrote it.
+#[test]
+fn room_is_given_back() -> Result<(), Error> {
+    let room = |matrix: Matrix| {
+        let words = matrix.into_words();
+        (words.capacity() - words.len()) as u32
+    };
+    let a = Matrix::from_triples(2, 3, [(0, 2, 7), (1, 0, -5)])?;
+    let mut c = Matrix::new(3, 2)?;
+    assert!(room(c.clone()) < 64 && room(Matrix::new(3, 2)?) < 64);
+    c.apply(ApplyOp::Unary(UnaryOp::Abs), &a, &Options::new().transpose_first())?;
+    assert!(room(c) < 64);
+    let mut refused = Matrix::new(2, 2)?;
+    assert!(refused.apply(ApplyOp::Unary(UnaryOp::Abs), &a, &Options::new()).is_err());
+    assert!(room(refused) < 64);
+    assert!(room(Matrix::open_doors(&a.transpose(), &a, &Matrix::new(1, 3)?, 1)?) < 64);
+    assert!(room(Matrix::from_bytes(&a.to_bytes())?) < 64);
     Ok(())
 }
 

@@ -105,6 +105,25 @@ fn a_smaller_result_leaves_no_spare_words() -> Result<(), Error> {
 }
 
 #[test]
+fn operators_of_apply_as_text() {
+    let scalars = [0, -1, i32::MIN, i32::MAX];
+    let mut all: Vec<ApplyOp> = UnaryOp::ALL.iter().map(|&op| ApplyOp::Unary(op)).collect();
+    for scalar in scalars {
+        all.extend(BinaryOp::ALL.iter().map(|&op| ApplyOp::ScalarFirst(scalar, op)));
+        all.extend(BinaryOp::ALL.iter().map(|&op| ApplyOp::ScalarSecond(op, scalar)));
+        all.extend(IndexUnaryOp::ALL.iter().map(|&op| ApplyOp::Index(op, scalar)));
+    }
+    for op in all {
+        assert_eq!(op.to_string().parse(), Ok(op));
+        assert_eq!(format!("  {}\t", op.to_string().to_lowercase()).parse(), Ok(op));
+    }
+    let others = ["", "7", "plus", "abs 1", "1 abs", "1 rowindex", "plus plus", "1 2", "plus 1 2", "plus 4294967296"];
+    for text in others {
+        assert_eq!(text.parse::<ApplyOp>(), Err(Error::UnknownOperator), "{text:?}");
+    }
+}
+
+#[test]
 fn names() {
     assert_eq!(
         BinaryOp::ALL.iter().map(|op| op.name()).collect::<Vec<_>>().join(" "),

@@ -1,4 +1,4 @@
-//! Every refusal. A refused call leaves the matrix or the store that it would write as it was.
+//! Every refusal but 10, which `limits` has. A refused call leaves the matrix or the store that it would write as it was.
 //!
 //! What the types of the API rule out is provoked by `ostrubel::calls`, to see that the numbers are the library's: flags
 //! above 31 (1) and unknown operators (2), which the enums do not have; inputs, masks and outputs that are no valid
@@ -114,26 +114,6 @@ fn r8_shapes_on_a_store() -> Result<(), Error> {
     refused(&mut store, Error::InvalidShape, |store| store.ewise_add(2, BinaryOp::Plus, 0, 1, &none));
     refused(&mut store, Error::InvalidShape, |store| store.apply(0, COPY, 1, &none.mask(2)));
     refused(&mut store, Error::InvalidShape, |store| store.extract(0, 1, &[0], &[0], &none));
-    Ok(())
-}
-
-#[test]
-fn r10_too_many_entries() -> Result<(), Error> {
-    let cells = |count| (0..count).map(|k: u32| (k / 1_000, k % 1_000, 1));
-    assert_eq!(Matrix::from_triples(5, 1_000, cells(2_049)), Err(Error::TooManyEntries));
-
-    let full = Matrix::from_triples(5, 1_000, cells(2_048))?;
-    let other = Matrix::from_triples(5, 1_000, [(4, 999, 1)])?;
-    let mut c = other.clone();
-    let accumulate = Options::new().accumulate(BinaryOp::Max);
-    refused(&mut c, Error::TooManyEntries, |c| c.apply(COPY, &full, &accumulate));
-
-    let mut store = Store::new(10_000)?;
-    store.put(0, &full)?;
-    store.put(1, &other)?;
-    refused(&mut store, Error::TooManyEntries, |store| store.set(0, 4, 999, 1));
-    let accumulate = Options::new().accumulate(BinaryOp::Max);
-    refused(&mut store, Error::TooManyEntries, |store| store.apply(1, COPY, 0, &accumulate));
     Ok(())
 }
 

@@ -1,6 +1,7 @@
 //! The calls of a store.
 
-use ostrubel::{ApplyOp, BinaryOp, Error, Found, IndexUnaryOp, Matrix, Monoid, Options, Semiring, Store, SLOTS};
+use ostrubel::{ApplyOp, BinaryOp, Error, Found, IndexUnaryOp, Matrix, Monoid, Options, Semiring, Store};
+use ostrubel::{MAX_STORE_WORDS, SLOTS};
 
 fn square() -> Result<Matrix, Error> {
     Matrix::from_triples(2, 2, [(0, 0, 1), (0, 1, 2), (1, 1, 3)])
@@ -8,7 +9,7 @@ fn square() -> Result<Matrix, Error> {
 
 /// A store whose slot 0 has the square and slot 1 an empty matrix of its shape.
 fn store() -> Result<Store, Error> {
-    let mut store = Store::new(100)?;
+    let mut store = Store::new(200)?;
     store.put(0, &square()?)?;
     store.new_empty(1, 2, 2)?;
     Ok(store)
@@ -21,6 +22,24 @@ fn a_new_store_is_empty() -> Result<(), Error> {
     assert_eq!(store.used_words(), 8);
     assert!((0..=SLOTS).all(|slot| !store.occupied(slot)));
     assert_eq!(Store::from_words(store.clone().into_words())?, store);
+    Ok(())
+}
+
+#[test]
+fn the_longest_store_is_the_default() -> Result<(), Error> {
+    assert_eq!(Store::default(), Store::new(MAX_STORE_WORDS)?);
+    assert_eq!(Store::default().to_string(), "8 of 16384 words are used");
+    Ok(())
+}
+
+#[test]
+fn a_store_is_drawn_slot_by_slot() -> Result<(), Error> {
+    let mut store = store()?;
+    store.put(7, &Matrix::from_triples(100, 1, [(99, 0, -1)])?)?;
+    let expected = "slot 0:\n   0  1\n0  1  2\n1  .  3\nslot 1:\n   0  1\n0  .  .\n1  .  .\nslot 7:\n\
+                    100 by 1, 1 entry\n99 0 -1\n";
+    let words = format!("{} of {} words are used", store.used_words(), store.words().len());
+    assert_eq!(store.to_string(), expected.to_string() + &words);
     Ok(())
 }
 

@@ -46,9 +46,7 @@ impl Merges {
     /// The positions of the sheets in another order.
     fn shuffled(&self, rng: &mut Rng) -> Vec<usize> {
         let mut order: Vec<usize> = (0..self.sheets.len()).collect();
-        for at in (1..order.len()).rev() {
-            order.swap(at, rng.below(at + 1));
-        }
+        rng.shuffle(&mut order);
         order
     }
 
@@ -84,7 +82,7 @@ fn merge(rng: &mut Rng, c: &mut Vec<u32>, words: &[u32]) -> Result<(), String> {
         b: 0,
         mask: 0,
         c: c.clone(),
-        work: Work { length: WORK_WORDS, seed: rng.next() },
+        work: Work { length: WORK_WORDS, seed: rng.seed() },
     });
     let outcome = library::lent(&call);
     let code = code_of(outcome.answer);
