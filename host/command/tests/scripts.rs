@@ -27,7 +27,7 @@ fn comments_calls_and_answers() {
                    > read 0 1 1\n-7\n> read 0 0 0\nempty\n> show 0\n   0   1\n0  .   .\n1  .  -7\n> clear 0 1 1\n\
                    place 0: 0 entries\n> drop 0\nplace 0: empty\n#end\n";
     assert_eq!(folder.script("s", script), printed);
-    assert_eq!(folder.bytes("s"), [0; 4000]);
+    assert_eq!(folder.words("s"), [0; 4000]);
 }
 
 #[test]

@@ -83,7 +83,7 @@ fn places_and_room() {
     folder.accept("new small 20");
     let output = folder.run("import small 0 strip");
     assert!(error_text(&output).starts_with("refused (11): "), "{}", error_text(&output));
-    assert_eq!(folder.bytes("small"), [0; 80]);
+    assert_eq!(folder.words("small"), [0; 80]);
 }
 
 #[test]
