@@ -395,9 +395,10 @@ fn the_example_of_the_help() {
 #[test]
 fn the_examples_of_all_pages() {
     let folder = Folder::new();
-    let mut lines = vec!["ostrubel new keys.shelf 5000".to_string()];
+    let mut lines = vec!["ostrubel new keys.shelf 5000; ostrubel new other.shelf 1000".to_string()];
+    folder.write("house.names", "row 2 medicine cupboard\n");
     let pages = "lay set clear read show list drop mxm vxm eWiseMult eWiseAdd apply extract select reduceRows reduce \
-                 doors run";
+                 doors run export import diff merge copy resize convert names man";
     let shapes = [
         ("mxm", "0 4 4, 1 4 4"),
         ("vxm", "1 1 5, 2 5 3, 3 1 3"),
@@ -408,14 +409,20 @@ fn the_examples_of_all_pages() {
         ("doors", "0 2 3, 1 3 2, 2 1 2"),
         ("select", "0 5 4, 2 5 4"),
         ("reduceRows", "0 5 4, 3 1 5"),
+        ("export", "0 5 4, 1 5 4"),
+        ("merge", "0 5 4, 1 5 4"),
     ];
     for name in pages.split(' ') {
         let laid = shapes.iter().filter(|(page, _)| *page == name).flat_map(|(_, shapes)| shapes.split(", "));
         lines.extend(laid.map(|shape| format!("ostrubel lay keys.shelf {shape}")));
+        if name == "merge" {
+            lines.push("ostrubel export keys.shelf 1 other.sheet".to_string());
+        }
         let page = folder.accept(&format!("help {name}"));
         let examples: Vec<String> = page
             .lines()
             .filter(|line| line.starts_with("    ostrubel ") || line.starts_with("    printf "))
+            .filter(|line| !line.contains("| man "))
             .map(str::to_string)
             .collect();
         assert!(!examples.is_empty(), "{name}");
