@@ -27,7 +27,7 @@ const WITH_VALUE: [&str; 17] = [
     "--places",
     "--to",
 ];
-const WITHOUT_VALUE: [&str; 9] = [
+const WITHOUT_VALUE: [&str; 10] = [
     "--replace",
     "--complement",
     "--structural",
@@ -36,6 +36,7 @@ const WITHOUT_VALUE: [&str; 9] = [
     "--position",
     "--json",
     "--picture",
+    "--revision",
     "--dry-run",
 ];
 

@@ -15,7 +15,8 @@ pub enum Call {
     Set { cell: Cell, value: i32 },
     Clear { cell: Cell },
     Read { cell: Cell, position: bool },
-    Show { slot: Whole },
+    Show { slot: Whole, revision: bool },
+    Revision { slot: Whole },
     List,
     Diff { old: Whole, new: Whole, picture: bool },
     Reduce { slot: Whole, monoid: Monoid },
@@ -122,17 +123,19 @@ impl Call {
 
     /// Whether the call can change the store.
     pub fn writes(&self) -> bool {
-        use Call::{Diff, Doors, List, Read, Reduce, Show};
-        !matches!(self, Read { .. } | Show { .. } | List | Diff { .. } | Reduce { .. } | Doors(_))
+        use Call::{Diff, Doors, List, Read, Reduce, Revision, Show};
+        !matches!(self, Revision { .. } | Read { .. } | Show { .. } | List | Diff { .. } | Reduce { .. } | Doors(_))
     }
 
     /// The slots that the call names, inputs first.
     pub fn roles(&self) -> Vec<Role<'_>> {
         let plain = |slot| vec![Role { name: "", slot, transposed: false }];
         match self {
-            Call::Lay { slot, .. } | Call::Drop { slot } | Call::Show { slot } | Call::Reduce { slot, .. } => {
-                plain(slot)
-            }
+            Call::Lay { slot, .. }
+            | Call::Drop { slot }
+            | Call::Show { slot, .. }
+            | Call::Revision { slot }
+            | Call::Reduce { slot, .. } => plain(slot),
             Call::Set { cell, .. } | Call::Clear { cell } | Call::Read { cell, .. } => plain(&cell.slot),
             Call::List => Vec::new(),
             Call::Diff { old, new, .. } => {
@@ -181,7 +184,8 @@ fn call_of(command: Command, arguments: &mut Arguments) -> Result<Call, Usage> {
         Command::Set => Ok(Call::Set { cell: cell(arguments)?, value: arguments.value(3)? }),
         Command::Clear => Ok(Call::Clear { cell: cell(arguments)? }),
         Command::Read => Ok(Call::Read { cell: cell(arguments)?, position: arguments.flag("--position") }),
-        Command::Show => Ok(Call::Show { slot: arguments.whole(0)? }),
+        Command::Show => Ok(Call::Show { slot: arguments.whole(0)?, revision: arguments.flag("--revision") }),
+        Command::Revision => Ok(Call::Revision { slot: arguments.whole(0)? }),
         Command::List => Ok(Call::List),
         Command::Diff => {
             Ok(Call::Diff { old: arguments.whole(0)?, new: arguments.whole(1)?, picture: arguments.flag("--picture") })

@@ -29,6 +29,7 @@ pub enum Command {
     Copy,
     Resize,
     Convert,
+    Revision,
     Completions,
     Man,
     Help,
@@ -39,7 +40,7 @@ const WRITE_BACK: [&str; 7] =
     ["--mask", "--structural", "--complement", "--replace", "--accum", "--transpose-a", "--transpose-b"];
 
 impl Command {
-    pub const ALL: [Command; 30] = [
+    pub const ALL: [Command; 31] = [
         Command::New,
         Command::Lay,
         Command::Drop,
@@ -67,6 +68,7 @@ impl Command {
         Command::Copy,
         Command::Resize,
         Command::Convert,
+        Command::Revision,
         Command::Completions,
         Command::Man,
         Command::Help,
@@ -101,6 +103,7 @@ impl Command {
             Command::Copy => "copy",
             Command::Resize => "resize",
             Command::Convert => "convert",
+            Command::Revision => "revision",
             Command::Completions => "completions",
             Command::Man => "man",
             Command::Help => "help",
@@ -121,7 +124,7 @@ impl Command {
         match self {
             Command::New | Command::Resize => &["WORDS"],
             Command::Lay => &["PLACE", "ROWS", "COLS"],
-            Command::Drop | Command::Show | Command::Reduce => &["PLACE"],
+            Command::Drop | Command::Show | Command::Reduce | Command::Revision => &["PLACE"],
             Command::Set => &["PLACE", "ROW", "COL", "VALUE"],
             Command::Clear | Command::Read => &["PLACE", "ROW", "COL"],
             Command::List | Command::Print | Command::Convert | Command::Man | Command::Help => &[],
@@ -142,7 +145,7 @@ impl Command {
     pub fn options(self) -> Vec<&'static str> {
         let mut options: Vec<&str> = match self {
             Command::Read => vec!["--position", "--json"],
-            Command::Show => vec!["--json", "--svg", "--html"],
+            Command::Show => vec!["--json", "--svg", "--html", "--revision"],
             Command::List => vec!["--json"],
             Command::Mxm | Command::Vxm => vec!["--semiring"],
             Command::EwiseMult | Command::EwiseAdd => vec!["--op"],
@@ -170,14 +173,14 @@ impl Command {
 
     /// Whether it can write a file.
     pub fn writes(self) -> bool {
-        use Command::{Completions, Diff, Doors, Help, List, Man, Print, Read, Reduce, Show};
-        !matches!(self, Read | Show | List | Reduce | Doors | Diff | Print | Completions | Man | Help)
+        use Command::{Completions, Diff, Doors, Help, List, Man, Print, Read, Reduce, Revision, Show};
+        !matches!(self, Revision | Read | Show | List | Reduce | Doors | Diff | Print | Completions | Man | Help)
     }
 
     /// Whether it has rows, columns or places to call by their names.
     pub fn shows_cells(self) -> bool {
-        use Command::{Completions, Convert, Doors, Help, Man, New, Print, Reduce, Resize};
-        !matches!(self, New | Reduce | Doors | Print | Resize | Convert | Completions | Man | Help)
+        use Command::{Completions, Convert, Doors, Help, Man, New, Print, Reduce, Resize, Revision};
+        !matches!(self, Revision | New | Reduce | Doors | Print | Resize | Convert | Completions | Man | Help)
     }
 
     /// Whether a script may have it in a line.

@@ -1,5 +1,6 @@
 //! A sheet as a picture file: SVG, or a page of HTML.
 
+use crate::form;
 use crate::labels::Labels;
 use crate::sheet_file::described;
 use crate::text::is_control;
@@ -32,6 +33,12 @@ fn escaped(text: &str) -> String {
     escaped
 }
 
+/// The shape, the entries and the revision.
+fn about(matrix: &Matrix) -> String {
+    let revision = form::revision(matrix).map_or_else(String::new, |revision| format!(", revision {revision}"));
+    format!("{}{revision}", described(matrix))
+}
+
 /// The widths of the rows' heads and of each column, in characters.
 fn widths(matrix: &Matrix, labels: &Labels) -> (usize, Vec<usize>) {
     let count = |text: String| text.chars().count();
@@ -56,11 +63,11 @@ pub fn svg(matrix: &Matrix, title: &str, labels: &Labels) -> String {
         })
         .collect();
     let (width, height) = (edges[edges.len() - 1], LINE * (matrix.rows() as usize + 1));
-    let (title, about) = (escaped(title), described(matrix));
+    let (title, about) = (escaped(title), about(matrix));
     let mut text = format!(
         "{SVG_FRONT} width=\"{width}\" height=\"{height}\" viewBox=\"0 0 {width} {height}\" role=\"img\" \
          font-family=\"monospace\" font-size=\"13\" text-anchor=\"end\">\n<title>{title}</title>\n<desc>{about}</desc>\n\
-         <rect width=\"{width}\" height=\"{height}\" fill=\"white\"/>\n<g stroke=\"#bbb\">\n"
+         <rect width=\"{width}\" height=\"{height}\" fill=\"white\" stroke=\"#bbb\"/>\n<g stroke=\"#bbb\">\n"
     );
     for edge in &edges {
         let _ = writeln!(text, "<line x1=\"{edge}\" y1=\"0\" x2=\"{edge}\" y2=\"{height}\"/>");
@@ -88,7 +95,7 @@ pub fn svg(matrix: &Matrix, title: &str, labels: &Labels) -> String {
 
 /// A page with a table.
 pub fn html(matrix: &Matrix, title: &str, labels: &Labels) -> String {
-    let (title, about) = (escaped(title), described(matrix));
+    let (title, about) = (escaped(title), about(matrix));
     let table = if matrix.rows() as usize * matrix.cols() as usize <= MAX_TABLE {
         cells(matrix, labels)
     } else {

@@ -132,6 +132,7 @@ fn command_text(command: Command) -> &'static str {
         Command::Copy => include_str!("help/copy.txt"),
         Command::Resize => include_str!("help/resize.txt"),
         Command::Convert => include_str!("help/convert.txt"),
+        Command::Revision => include_str!("help/revision.txt"),
         Command::Completions => include_str!("help/completions.txt"),
         Command::Man => include_str!("help/man.txt"),
         Command::Help => include_str!("help/overview.txt"),

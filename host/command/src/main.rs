@@ -19,6 +19,7 @@ mod completions;
 mod csv;
 mod drawing;
 mod failure;
+mod form;
 mod format;
 mod guard;
 mod help;

@@ -17,7 +17,7 @@ pub struct Sheet {
 /// Merges all sheets or none. With a mask only its cells are written. A line for each sheet, and one for the place.
 pub fn merge(store: &mut Store, slot: &Whole, mask: Option<&Whole>, sheets: &[Sheet]) -> Result<String, Refusal> {
     let of_place =
-        |error, slot: &Whole, store: &Store| Refusal::of_call(error, &Call::Show { slot: slot.clone() }, store);
+        |error, slot: &Whole, store: &Store| Refusal::of_call(error, &Call::Revision { slot: slot.clone() }, store);
     let taken = |slot: &Whole| store.matrix(slot.size()).map_err(|error| of_place(error, slot, store));
     let mut merged = taken(slot)?;
     let mask_matrix = mask.map(taken).transpose()?;

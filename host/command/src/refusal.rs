@@ -40,7 +40,8 @@ impl Refusal {
     }
 
     /// Of a file of so many bytes that holds no shelf.
-    pub fn of_file(error: Error, path: &Path, bytes: usize) -> Refusal {
+    pub fn of_file(path: &Path, bytes: usize) -> Refusal {
+        let error = Error::InvalidStore;
         let (name, size) = (shown_path(path), size(bytes, shelf_file::MAX_BYTES));
         Refusal::of(
             error,
@@ -64,6 +65,14 @@ impl Refusal {
         let sentence =
             format!("{name} is a shelf of version {version}, which this command does not know: take a later one.");
         Refusal::of(Error::InvalidStore, sentence)
+    }
+
+    /// Of a shelf of an earlier form whose sheets, as they are now, do not fit any shelf. `name` is a word of the shell.
+    pub fn of_full_shelf(error: Error, name: &str) -> Refusal {
+        let sentence =
+            format!("This shelf has an earlier form, and its sheets do not fit {MAX_STORE_WORDS} words in today's.");
+        let convert = format!("ostrubel convert {name} --places 0..3 --to OTHER");
+        Refusal::of(error, format!("{sentence} Convert some places at a time, each time into another file: {convert}"))
     }
 
     /// Of so many bytes that are no sheet's file.

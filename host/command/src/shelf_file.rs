@@ -1,16 +1,18 @@
 //! A store kept in a file: its words within a guard (`guard`), saved as `replacing` says, by one command at a time
 //! (`locked_file`).
 //!
-//! Files of before there was a guard have the words alone. They are read, but not written: `convert` gives them a guard.
+//! Files of before there was a guard have the words alone, and those of before sheets had revisions have words of an earlier
+//! version (`form`). They are read, but not written: `convert` gives them today's form.
 
 use crate::failure::Failure;
+use crate::form::{self, Sheets};
 use crate::guard::{self, Damage, Guarded};
 use crate::locked_file::{open_regular, LockedFile, Patience};
 use crate::names::{IndexList, Whole};
 use crate::refusal::Refusal;
 use crate::replacing::{self, folder, no_folder, read_at_most};
 use crate::text::quoted;
-use ostrubel::{Error, Matrix, Store, MAX_STORE_WORDS, SLOTS};
+use ostrubel::{Error, Store, MAX_STORE_WORDS};
 use std::fs::OpenOptions;
 use std::io::{self, ErrorKind};
 use std::path::Path;
@@ -20,16 +22,13 @@ const WORD_BYTES: usize = 4;
 /// The longest file.
 pub const MAX_BYTES: usize = guard::GUARD_BYTES + MAX_STORE_WORDS * WORD_BYTES;
 
-/// The version of the guard for words in the form that the library has.
-const VERSION: u32 = 1;
-
 /// What a file is.
 #[derive(Clone, Copy, Debug, PartialEq, Eq)]
 pub enum Form {
     /// As it is written now.
     Current,
-    /// The words alone.
-    Bare,
+    /// Of an earlier ostrubel: without a guard, or with words of an earlier version.
+    Earlier,
 }
 
 /// A new store in a new file, which is there whole or not at all. What is there already stays as it is.
@@ -67,9 +66,14 @@ pub fn read_current(path: &Path) -> Result<Store, Failure> {
 }
 
 fn read_form(path: &Path) -> Result<(Form, Store), Failure> {
+    let contents = read_contents(path)?;
+    Ok((contents.form, contents.store(path)?))
+}
+
+fn read_contents(path: &Path) -> Result<Contents, Failure> {
     let file = open_regular(path, OpenOptions::new().read(true));
     let bytes = file.and_then(|file| read_at_most(file, MAX_BYTES)).map_err(|error| not_opened(path, &error))?;
-    store_of(path, &bytes)
+    contents_of(path, &bytes)
 }
 
 /// Lends the store in a file to some work, and saves it where the work succeeds and has changed a word. Whether it did.
@@ -97,23 +101,23 @@ pub fn convert(path: &Path, patience: Patience) -> Result<Form, Failure> {
 /// Puts the sheets of a file, or those of some places, into a new file, with its guard; without one it only looks. The form
 /// that the file has, which stays as it is.
 pub fn convert_to(path: &Path, places: Option<&IndexList>, to: Option<&Path>) -> Result<Form, Failure> {
-    let (form, store) = read_form(path)?;
+    let contents = read_contents(path)?;
     let is_chosen = |slot: usize| match places {
         Some(IndexList::Listed(places)) => places.iter().any(|place| place.size() == slot),
         Some(IndexList::All) | None => true,
     };
-    let sheets: Sheets = std::array::from_fn(|slot| store.matrix(slot).ok().filter(|_| is_chosen(slot)));
-    let chosen = with_sheets(store.words().len(), &sheets).map_err(|error| Refusal::of(error, error.to_string()))?;
+    let sheets: Sheets = std::array::from_fn(|slot| contents.sheets[slot].clone().filter(|_| is_chosen(slot)));
+    let chosen = Contents { sheets, ..contents };
+    let store = chosen.store(path)?;
     if let Some(to) = to {
-        replacing::create(to, &bytes_of(&chosen))?;
+        replacing::create(to, &bytes_of(&store))?;
     }
-    Ok(form)
+    Ok(chosen.form)
 }
 
 /// A store of so many words with the sheets of another.
 pub fn resized(store: &Store, words: &Whole) -> Result<Store, Refusal> {
-    let sheets: Sheets = std::array::from_fn(|slot| store.matrix(slot).ok());
-    with_sheets(words.size(), &sheets).map_err(|error| match error {
+    form::store(words.size(), &form::sheets(store)).map_err(|error| match error {
         Error::InsufficientSpace => {
             let used = store.used_words();
             Refusal::of(
@@ -123,19 +127,6 @@ pub fn resized(store: &Store, words: &Whole) -> Result<Store, Refusal> {
         }
         _ => Refusal::of_length(error, words),
     })
-}
-
-/// The sheet of each place, where it has one.
-type Sheets = [Option<Matrix>; SLOTS];
-
-fn with_sheets(words: usize, sheets: &Sheets) -> Result<Store, Error> {
-    let mut store = Store::new(words)?;
-    for (slot, matrix) in sheets.iter().enumerate() {
-        if let Some(matrix) = matrix {
-            store.put(slot, matrix)?;
-        }
-    }
-    Ok(store)
 }
 
 fn rewrite(
@@ -165,18 +156,50 @@ fn check_current(path: &Path, form: Form) -> Result<(), Failure> {
 }
 
 fn bytes_of(store: &Store) -> Vec<u8> {
-    guard::enclose(VERSION, store.words())
+    guard::enclose(form::version(), store.words())
+}
+
+/// What is in a file.
+struct Contents {
+    form: Form,
+    /// The number of the shelf's words.
+    words: usize,
+    sheets: Sheets,
+}
+
+impl Contents {
+    /// A store with the sheets. Those of an earlier form can be longer now.
+    fn store(&self, path: &Path) -> Result<Store, Failure> {
+        let store = form::grown_store(self.words, &self.sheets);
+        Ok(store.map_err(|error| Refusal::of_full_shelf(error, &quoted(path)))?)
+    }
+}
+
+fn contents_of(path: &Path, bytes: &[u8]) -> Result<Contents, Failure> {
+    let (is_guarded, version, words) = match guard::open(bytes) {
+        Guarded::Sound { version, words } => (true, version, words),
+        Guarded::Bare { words } => (false, form::version(), words),
+        Guarded::Damaged(Damage::NoWords) => return Err(Refusal::of_file(path, bytes.len()).into()),
+        Guarded::Damaged(damage) => return Err(Refusal::of_damage(path, damage, bytes.len()).into()),
+    };
+    if version > form::version() {
+        return Err(Refusal::of_version(path, version).into());
+    }
+    let count = words.len();
+    // Bare words say their form by themselves.
+    let current = || (version == form::version()).then(|| Store::from_words(words.clone()).ok()).flatten();
+    let earlier =
+        || (!is_guarded || version == form::WITHOUT_REVISIONS).then(|| form::earlier_sheets(&words)).flatten();
+    let (is_current, sheets) = match current() {
+        Some(store) => (is_guarded, form::sheets(&store)),
+        None => (false, earlier().ok_or_else(|| Refusal::of_file(path, bytes.len()))?),
+    };
+    Ok(Contents { form: if is_current { Form::Current } else { Form::Earlier }, words: count, sheets })
 }
 
 fn store_of(path: &Path, bytes: &[u8]) -> Result<(Form, Store), Failure> {
-    let no_store = |error| Failure::from(Refusal::of_file(error, path, bytes.len()));
-    match guard::open(bytes) {
-        Guarded::Sound { version: VERSION, words } => Ok((Form::Current, Store::from_words(words).map_err(no_store)?)),
-        Guarded::Sound { version, .. } => Err(Refusal::of_version(path, version).into()),
-        Guarded::Bare { words } => Ok((Form::Bare, Store::from_words(words).map_err(no_store)?)),
-        Guarded::Damaged(Damage::NoWords) => Err(no_store(Error::InvalidStore)),
-        Guarded::Damaged(damage) => Err(Refusal::of_damage(path, damage, bytes.len()).into()),
-    }
+    let contents = contents_of(path, bytes)?;
+    Ok((contents.form, contents.store(path)?))
 }
 
 #[cfg(test)]

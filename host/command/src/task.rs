@@ -243,7 +243,7 @@ impl Shelf<'_> {
         };
         let dry = if self.settings.dry_run { "\na dry run: nothing was saved" } else { "" };
         output.print(&match (form, to) {
-            (Form::Current, None) => format!("{name}: has its guard already, and stays as it is"),
+            (Form::Current, None) => format!("{name}: has the form of today, and stays as it is"),
             (_, Some(to)) => format!("{name}: stays as it is; {} has its sheets{dry}", shown_path(to)),
             (_, None) => format!("{name}: converted, all sheets kept{dry}"),
         });
@@ -321,8 +321,11 @@ fn job(command: Command, arguments: &mut Arguments, settings: &Settings) -> Resu
         }
         Command::Merge => {
             let format = arguments.parsed("--format", Format::parse)?;
-            let mask = arguments.whole_option("--mask")?;
-            Job::Merge { slot: arguments.whole(0)?, sheets: arguments.words_from(1), mask, format }
+            let (mask, sheets) = (arguments.whole_option("--mask")?, arguments.words_from(1));
+            if sheets.iter().filter(|sheet| *sheet == "-").count() > 1 {
+                return Err(arguments.wrong("standard input, which is -, can be read only once"));
+            }
+            Job::Merge { slot: arguments.whole(0)?, sheets, mask, format }
         }
         Command::Copy => {
             Job::Copy { slot: arguments.whole(0)?, other: arguments.word(1)?.into(), other_slot: arguments.whole(2)? }
@@ -355,5 +358,5 @@ fn convert(arguments: &mut Arguments) -> Result<Job, Usage> {
 
 /// The refusal of a sheet that is put into a place, or taken from it.
 fn refused(error: Error, slot: &Whole, store: &Store) -> Refusal {
-    Refusal::of_call(error, &Call::Show { slot: slot.clone() }, store)
+    Refusal::of_call(error, &Call::Revision { slot: slot.clone() }, store)
 }

@@ -2,7 +2,7 @@
 
 mod common;
 
-use common::{error_text, text, Folder, OSTRUBEL};
+use common::{error_text, revision_text, revision_words, text, Folder, OSTRUBEL};
 
 #[test]
 fn a_new_shelf() {
@@ -51,7 +51,11 @@ fn set_clear_and_read() {
 fn the_words_in_the_file() {
     let folder = Folder::with_shelf();
     folder.script("s", "lay 1 1 4\nset 1 0 3 -5\nset 1 0 0 10\nset 1 0 1 20\n");
-    let words = [0, 14, 2, 1, 4, 2, 0, 3, 3, 0, 1, 3, 3, 10, 20, 4_294_967_291];
+    let mut front = revision_words();
+    // Three calls have written into the sheet.
+    front.last_mut().into_iter().for_each(|revision| *revision = 3);
+    let sheet = [2, 1, 4, 2, 0, 3, 3, 0, 1, 3, 3, 10, 20, 4_294_967_291];
+    let words = [&[0, (front.len() + sheet.len()) as u32], &front[..], &sheet].concat();
     let mut bytes: Vec<u8> = words.iter().flat_map(|word: &u32| word.to_le_bytes()).collect();
     bytes.resize(4000, 0);
     assert_eq!(folder.words("s"), bytes);
@@ -62,10 +66,16 @@ fn show_and_list() {
     let folder = Folder::with_shelf();
     folder.script("s", "lay 0 2 3\nset 0 0 0 7\nset 0 1 2 -40\nlay 6 1 1\nset 6 0 0 1\n");
     folder.prints("show s 0", "   0  1    2\n0  7  .    .\n1  .  .  -40\n");
-    let list = "place 0: 2 by 3, 2 entries, 13 words\nplace 1: empty\nplace 2: empty\nplace 3: empty\nplace 4: empty\n\
-                place 5: empty\nplace 6: 1 by 1, 1 entry, 10 words\nplace 7: empty\n\
-                words: 31 used, 969 free, 1000 in all\n";
-    folder.prints("list s", list);
+    let more = revision_words().len();
+    let first = format!("place 0: 2 by 3, 2 entries, {} words{}\n", 13 + more, revision_text(2));
+    let second = format!("place 6: 1 by 1, 1 entry, {} words{}\n", 10 + more, revision_text(1));
+    let empty = |places: [u32; 5]| places.map(|place| format!("place {place}: empty\n")).concat();
+    let words = format!("words: {} used, {} free, 1000 in all\n", 31 + 2 * more, 969 - 2 * more);
+    folder.prints("list s", &format!("{first}{}{second}place 7: empty\n{words}", empty([1, 2, 3, 4, 5])));
+    let revision = if more == 0 { 0 } else { 2 };
+    folder.prints("revision s 0", &format!("{revision}\n"));
+    folder.prints("show s 0 --revision", &format!("   0  1    2\n0  7  .    .\n1  .  .  -40\nrevision {revision}\n"));
+    folder.refuses("revision s 1", 13, "place 1");
 }
 
 #[test]
@@ -398,7 +408,7 @@ fn the_examples_of_all_pages() {
     let mut lines = vec!["ostrubel new keys.shelf 5000; ostrubel new other.shelf 1000".to_string()];
     folder.write("house.names", "row 2 medicine cupboard\n");
     let pages = "lay set clear read show list drop mxm vxm eWiseMult eWiseAdd apply extract select reduceRows reduce \
-                 doors run export import diff merge copy resize convert names man";
+                 revision doors run export import diff merge copy resize convert names man";
     let shapes = [
         ("mxm", "0 4 4, 1 4 4"),
         ("vxm", "1 1 5, 2 5 3, 3 1 3"),

@@ -69,6 +69,7 @@ fn all_sheets_are_merged_or_none() {
     folder.refuses_12("merge s 8 b.sheet", "There is no place 8: places are 0 to 7.");
     let message = folder.fails("merge s 0 b.sheet nowhere", 3);
     assert!(message.starts_with("ostrubel: nowhere: "), "{message}");
+    assert!(folder.fails("merge s 0 - -", 2).contains("standard input, which is -, can be read only once"));
     let message = folder.fails("merge s 0", 2);
     assert!(message.contains("SHEET.. is missing"), "{message}");
 }
