@@ -36,8 +36,7 @@ pub fn sheets(store: &Store) -> Sheets {
     std::array::from_fn(|slot| store.matrix(slot).ok())
 }
 
-/// The sheets in words of version 1, or `None` where the words are not of that form. A sheet file of the same form is read
-/// by the library, which gives the sheet revision 0.
+/// The sheets in words of version 1, or `None` where the words are not of that form. In a later version their revision is 0.
 pub fn earlier_sheets(words: &[u32]) -> Option<Sheets> {
     let mut sheets = Sheets::default();
     let mut rest = words;
@@ -46,8 +45,10 @@ pub fn earlier_sheets(words: &[u32]) -> Option<Sheets> {
         let (section, behind) = behind.split_at_checked(usize::try_from(*count).ok()?)?;
         rest = behind;
         if !section.is_empty() {
-            let bytes: Vec<u8> = section.iter().flat_map(|word| word.to_le_bytes()).collect();
-            *sheet = Some(Matrix::from_bytes(&bytes).ok().filter(|_| section[0] == 2)?);
+            let front: &[u32] = if version() == WITH_REVISIONS { &[1, 0] } else { &[] };
+            let words = [front, section].concat();
+            // The library checks the words, and may find a shorter sheet at their front.
+            *sheet = Some(Matrix::from_words(&words).ok().filter(|matrix| matrix.words() == words)?);
         }
     }
     (words.len() <= MAX_STORE_WORDS && rest.iter().all(|word| *word == 0)).then_some(sheets)

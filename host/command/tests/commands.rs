@@ -2,7 +2,7 @@
 
 mod common;
 
-use common::{error_text, revision_text, revision_words, text, Folder, OSTRUBEL};
+use common::{error_text, revision_text, revision_words, sheet_words, text, Folder, OSTRUBEL};
 
 #[test]
 fn a_new_shelf() {
@@ -51,11 +51,8 @@ fn set_clear_and_read() {
 fn the_words_in_the_file() {
     let folder = Folder::with_shelf();
     folder.script("s", "lay 1 1 4\nset 1 0 3 -5\nset 1 0 0 10\nset 1 0 1 20\n");
-    let mut front = revision_words();
-    // Three calls have written into the sheet.
-    front.last_mut().into_iter().for_each(|revision| *revision = 3);
-    let sheet = [2, 1, 4, 2, 0, 3, 3, 0, 1, 3, 3, 10, 20, 4_294_967_291];
-    let words = [&[0, (front.len() + sheet.len()) as u32], &front[..], &sheet].concat();
+    let sheet = sheet_words(3, &[2, 1, 4, 2, 0, 3, 3, 0, 1, 3, 3, 10, 20, 4_294_967_291]);
+    let words = [&[0, sheet.len() as u32], &sheet[..]].concat();
     let mut bytes: Vec<u8> = words.iter().flat_map(|word: &u32| word.to_le_bytes()).collect();
     bytes.resize(4000, 0);
     assert_eq!(folder.words("s"), bytes);

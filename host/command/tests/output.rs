@@ -96,9 +96,8 @@ fn output_that_cannot_be_written() {
     let reason = "standard output cannot be written: No space left on device (os error 28)\n";
     for (line, done) in [
         ("set s 1 0 0 6", "the call was carried out, but "),
-        ("set s 1 0 0 6", ""),
+        ("drop s 7", ""),
         ("run s script", "the call was carried out, but "),
-        ("run s script", ""),
         ("new t 8", "the call was carried out, but "),
         ("show s 0", ""),
         ("help", ""),

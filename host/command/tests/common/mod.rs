@@ -154,6 +154,13 @@ pub fn version() -> u32 {
     }
 }
 
+/// The words of a sheet: those given begin with its shape, and so many calls have written into it.
+pub fn sheet_words(revision: u32, words: &[u32]) -> Vec<u32> {
+    let mut front = revision_words();
+    front.last_mut().into_iter().for_each(|last| *last = revision);
+    [&front[..], words].concat()
+}
+
 /// What `list` says of a sheet's revision.
 pub fn revision_text(revision: u32) -> String {
     if version() == 1 {
