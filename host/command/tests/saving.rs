@@ -166,7 +166,7 @@ fn concurrent_sets_are_all_there() {
                 let folder = &folder;
                 let name = if row % 2 == 0 { "s" } else { "link" };
                 scope.spawn(move || {
-                    (0..CELLS).for_each(|col| drop(folder.accept(&format!("set {name} 0 {row} {col} 1"))))
+                    (0..CELLS).for_each(|col| set_patiently(folder, &format!("set {name} 0 {row} {col} 1")))
                 })
             })
             .collect();
@@ -182,6 +182,14 @@ fn concurrent_sets_are_all_there() {
     });
     folder.prints("list s", &list_with(WRITERS * CELLS));
     assert_eq!(folder.names(), ["link", "s"]);
+}
+
+/// Runs a command that has to be accepted. On a busy machine it may say that it waits.
+fn set_patiently(folder: &Folder, line: &str) {
+    let output = folder.run(line);
+    let message = error_text(&output);
+    assert!(output.status.success(), "{line}: {message}");
+    assert!(message.lines().all(|line| line.contains(": waiting for another command that has it")), "{message}");
 }
 
 fn list_with(entries: usize) -> String {
