@@ -145,7 +145,7 @@ mod tests {
                 Guarded::Sound { .. } => panic!("bit {bit}"),
                 // Its first word is no count of words.
                 Guarded::Bare { words } => {
-                    assert!(bit < 64 && words[0] > 1 << 24 || bit >= 32 && bit < 64, "bit {bit}")
+                    assert!(bit < 64 && words[0] > 1 << 24, "bit {bit}")
                 }
                 Guarded::Damaged(_) => {}
             }

@@ -3,8 +3,8 @@
 use crate::commands::Command;
 use crate::{guard, labels, script};
 use ostrubel::{
-    Error, MAX_ALLOWANCE, MAX_COLS, MAX_ENTRIES, MAX_FILE_BYTES, MAX_INDEXES, MAX_ROWS, MAX_STORE_WORDS,
-    MIN_STORE_WORDS, SLOTS,
+    Error, MAX_ALLOWANCE, MAX_COLS, MAX_ENTRIES, MAX_FILE_BYTES, MAX_INDEXES, MAX_MATRIX_WORDS, MAX_ROWS,
+    MAX_STORE_WORDS, MIN_STORE_WORDS, SLOTS,
 };
 
 const PAGE_WIDTH: usize = 98;
@@ -16,6 +16,9 @@ const NAMES_OPTION: &str = include_str!("help/names_option.txt");
 
 /// The pages that are about no command.
 pub const TOPICS: [&str; 6] = ["options", "operators", "refusals", "shared", "names", "example"];
+
+/// The words of a sheet beside its rows and twice its values.
+const FIXED_WORDS: usize = MAX_MATRIX_WORDS - MAX_ROWS as usize - 2 * MAX_ENTRIES;
 
 /// The text with its limits: no page has one of its own.
 fn filled(text: &str) -> String {
@@ -29,6 +32,8 @@ fn filled(text: &str) -> String {
         ("{MIN_WORDS}", MIN_STORE_WORDS),
         ("{MAX_WORDS}", MAX_STORE_WORDS),
         ("{GUARD_BYTES}", guard::GUARD_BYTES),
+        ("{FIXED_WORDS}", FIXED_WORDS),
+        ("{EXAMPLE_WORDS}", MIN_STORE_WORDS + 2 * (50 + 400 + FIXED_WORDS)),
         ("{MAX_NAMES_BYTES}", labels::MAX_BYTES),
         ("{MAX_SHEET_BYTES}", MAX_FILE_BYTES),
         ("{MAX_SCRIPT_BYTES}", script::MAX_BYTES),

@@ -202,8 +202,10 @@ mod tests {
         bytes
     }
 
+    type Attributes = Vec<(CString, Vec<u8>)>;
+
     /// Replaces a file that has an attribute, where the file system has such ones. Its attributes before and after.
-    fn replaced_with(name: &str, value: &[u8]) -> Option<[Vec<(CString, Vec<u8>)>; 2]> {
+    fn replaced_with(name: &str, value: &[u8]) -> Option<[Attributes; 2]> {
         let folder = TestFolder::new(name);
         let path = folder.path("s");
         fs::write(&path, "old").unwrap();

@@ -66,7 +66,7 @@ static OUTPUT_IS_CLOSED: AtomicBool = AtomicBool::new(false);
 
 /// Called before the standard library opens what is closed.
 #[used]
-#[link_section = ".init_array"]
+#[unsafe(link_section = ".init_array")]
 static LOOK_AT_OUTPUT: extern "C" fn() = look_at_output;
 
 extern "C" fn look_at_output() {
@@ -79,7 +79,7 @@ extern "C" fn look_at_output() {
 const ASK_FLAGS: c_int = 1;
 const NOT_SUPPORTED: i32 = 95;
 
-extern "C" {
+unsafe extern "C" {
     fn fcntl(file: c_int, command: c_int, ...) -> c_int;
     fn flistxattr(file: c_int, list: *mut c_char, size: usize) -> isize;
     fn fgetxattr(file: c_int, name: *const c_char, value: *mut c_void, size: usize) -> isize;
