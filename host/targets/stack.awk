@@ -28,7 +28,7 @@ function measure(name, list, count, k, most, far) {
         if (bytes[list[k]] > most) most = bytes[list[k]]
         if (depth[list[k]] > far) far = depth[list[k]]
     }
-    bytes[name] = (name in times ? times[name] : 1) * (frame[name] + pushed) + most
+    bytes[name] = (name in times ? times[name] : 1) * (frame[name] + extra[name] + pushed) + most
     depth[name] = (name in times ? times[name] : 1) + far
     state[name] = 2
 }
@@ -46,8 +46,19 @@ FILENAME ~ /\.su$/ {
     if (name in frame) {
         at = name
         labels++
+        starts = 1
     }
     next
+}
+# On x86-64 a frame has the registers pushed where the function starts, and not the parameters pushed for a call.
+$1 == "pushq" || ($1 == "subq" && $2 == "$8," && $3 == "%rsp" && !starts) {
+    if (!starts) parameters += 8
+    next
+}
+/^\t[a-z]/ { starts = 0 }
+$1 == "callq" {
+    if (parameters > extra[at]) extra[at] = parameters
+    parameters = 0
 }
 $1 ~ /^(callq|call|bl|b|jmp)$/ {
     if ($1 == "callq") pushed = 8 # the return address
