@@ -1,7 +1,7 @@
 // What is different between two sheets, and what their values mean.
 
 /** How a cell changed: it has a value that it had not, a larger or a smaller one, or none any more. */
-export const KINDS = ['new', 'newer', 'older', 'lost'];
+export const KINDS = ['new', 'newer', 'older', 'gone'];
 
 /** The cells of a sheet's contents, by `row,column`. */
 export function cellsOf({ entries }) {
@@ -21,7 +21,7 @@ export function changesBetween(before, after) {
 
 function kindOf(was, is) {
   if (was === undefined) return 'new';
-  if (is === undefined) return 'lost';
+  if (is === undefined) return 'gone';
   return is > was ? 'newer' : 'older';
 }
 

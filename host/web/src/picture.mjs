@@ -59,7 +59,7 @@ function table(rows, cols, cells, marks, view) {
 
 function entryList(contents, marks, view) {
   const heads = ['row', 'column', 'value'].map((head) => element('th', { scope: 'col' }, head));
-  const gone = [...marks.values()].filter(({ kind }) => kind === 'lost').map(({ row, col }) => [row, col, undefined]);
+  const gone = [...marks.values()].filter(({ kind }) => kind === 'gone').map(({ row, col }) => [row, col, undefined]);
   const lines = [...contents.entries, ...gone].sort(([i, j], [k, l]) => i - k || j - l);
   const body = lines.map(([row, col, value]) =>
     element(
@@ -78,6 +78,7 @@ function cell(value, change, view) {
   if (value === undefined) text.setAttribute('aria-label', 'empty');
   if (value === undefined) text.setAttribute('role', 'img');
   if (!change) return element('td', {}, text);
-  const was = change.before === undefined ? '' : ` was ${shown(change.before, view.asReports)}`;
-  return element('td', { class: change.kind }, text, element('small', {}, `${change.kind}${was}`));
+  const marks = [change.kind];
+  if (change.before !== undefined) marks.push(`was ${shown(change.before, view.asReports)}`);
+  return element('td', { class: change.kind }, text, ...marks.map((mark) => element('small', {}, mark)));
 }

@@ -40,7 +40,7 @@ test('the merge keeps the later report, and an overwrite does not', () => {
   assert.deepEqual(everywhere.map(({ row, kind }) => [row, kind]), [[0, 'newer'], [3, 'new']]);
   const over = changesBetween(before, library.contents(library.overwrite(office, phone)));
   const kinds = over.map(({ row, kind }) => [row, kind]);
-  assert.deepEqual(kinds, [[0, 'newer'], [1, 'lost'], [2, 'older'], [3, 'new'], [4, 'lost']]);
+  assert.deepEqual(kinds, [[0, 'newer'], [1, 'gone'], [2, 'older'], [3, 'new'], [4, 'gone']]);
   assert.deepEqual(library.merge(library.merge(office, phone), phone), library.merge(office, phone));
 });
 
