@@ -33,6 +33,7 @@ for target; do
         exit 2
     }
 done
+for target; do rm -rf "${out:?}/$target"; done # where the crates are not proved, nothing is left
 sh host/targets/bitcode.sh
 tools=$(dirname "$(dirname "$(rt doc)")")/on/$(uname -m)/toolchain/bin
 
@@ -47,7 +48,6 @@ words=$(awk '
 for target; do
     triple=$(triple_of "$target")
     folder=$out/$target
-    rm -rf "$folder"
     mkdir -p "$folder/include" "$folder/made"
     (
         cd "$folder/made"
