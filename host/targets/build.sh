@@ -1,9 +1,9 @@
 #!/bin/sh
 # usage: build.sh TARGET..
 # Compiles the proved library for other processors: for each target, target/targets/TARGET/libostrubel.a and
-# target/targets/TARGET/include/ostrubel.h, and in target/targets/TARGET/stack the most bytes of stack that a call takes.
-# The module is that of the library for x86-64 (bitcode.sh, which takes proved crates only); its processor is left out, and
-# the kit's clang compiles it with the words of the kit's own library.
+# target/targets/TARGET/include/ostrubel.h, and in target/targets/TARGET/stack the most bytes of stack that a call
+# takes. The module is that of the library for x86-64 (bitcode.sh, which takes proved crates only); its processor is
+# left out, and the kit's clang compiles it with the words of the kit's own library.
 #   x86_64         Linux
 #   aarch64        Linux
 #   wasm32         WebAssembly with bulk memory, for browsers and for WASI; it needs no C library
@@ -54,7 +54,8 @@ for target; do
         clang() { "$tools/clang" --no-default-config --target="$triple" "$@"; }
         # the module, with the layout that clang has for the target
         clang -S -emit-llvm -x c /dev/null -o empty.ll
-        "$tools/clang" --no-default-config -S -emit-llvm -O0 -Xclang -disable-llvm-passes -x ir ../../exports.bc -o plain.ll
+        "$tools/clang" --no-default-config -S -emit-llvm -O0 -Xclang -disable-llvm-passes -x ir ../../exports.bc \
+            -o plain.ll
         {
             grep '^target ' empty.ll
             sed -e '/^target /d' -e '/^attributes /s/ "target-cpu"="[^"]*"//' plain.ll
@@ -77,5 +78,6 @@ for target; do
     rm -rf "$folder/made"
     cp include/ostrubel.h "$folder/include/"
     read -r bytes deep < "$folder/stack"
-    echo "$folder/libostrubel.a: $(wc -c < "$folder/libostrubel.a") bytes; a call takes at most $bytes bytes of stack, $deep calls deep"
+    echo "$folder/libostrubel.a: $(wc -c < "$folder/libostrubel.a") bytes;" \
+        "a call takes at most $bytes bytes of stack, $deep calls deep"
 done

@@ -51,7 +51,8 @@ function declare(text, name, list, n, k, type, par, last) {
     if (program == "record") {
         printf "uint64_t plain_%s(%s);\n", name, heads
         printf "uint64_t %s(%s) {\n    put_number(%d);\n%s", name, heads, count, before
-        printf "    const uint64_t answer = plain_%s(%s);\n    put_number(answer);\n%s    return answer;\n}\n", name, args, after
+        printf "    const uint64_t answer = plain_%s(%s);\n", name, args
+        printf "    put_number(answer);\n%s    return answer;\n}\n", after
     } else {
         table = table sprintf("    {\"%s\", replay_%s},\n", name, name)
         printf "static uint64_t replay_%s(void) {\n%s", name, makes
@@ -59,16 +60,19 @@ function declare(text, name, list, n, k, type, par, last) {
     }
 }
 function buffer(par, size, written) {
-    before = before sprintf(par == "work" ? "    put_work(%s, %s_len);\n" : "    put_buffer(%s, %s_len, %d);\n", par, par, size)
+    put = par == "work" ? "    put_work(%s, %s_len);\n" : "    put_buffer(%s, %s_len, %d);\n"
+    take = par == "work" ? "take_work(&%s_len);\n" : "take_buffer(&%s_len, %d, %d);\n"
+    before = before sprintf(put, par, par, size)
     if (written) after = after sprintf("    put_hash(%s, %s_len, %d);\n", par, par, size)
     makes = makes sprintf("    ostrubel_size %s_len;\n    %svoid *%s = ", par, written ? "" : "const ", par)
-    makes = makes sprintf(par == "work" ? "take_work(&%s_len);\n" : "take_buffer(&%s_len, %d, %d);\n", par, size, written)
+    makes = makes sprintf(take, par, size, written)
 }
 END {
     if (failed) exit 1
     if (count == 0 || open) fail("no declarations, or one without an end")
     if (program == "replay") {
-        printf "static const struct {\n    const char *name;\n    uint64_t (*replay)(void);\n} functions[] = {\n%s};\n", table
+        printf "static const struct {\n    const char *name;\n    uint64_t (*replay)(void);\n} functions[] = {\n"
+        printf "%s};\n", table
         printf "enum { FUNCTIONS = %d };\n", count
     }
 }

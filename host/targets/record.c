@@ -1,6 +1,7 @@
 /*
- * Stands in front of the library, whose functions have here the names plain_ostrubel_..: writes each call, its answer and a
- * hash of what it left in its buffers to the file that OSTRUBEL_TRACE names. For programs with one thread at a time.
+ * Stands in front of the library, whose functions have here the names plain_ostrubel_..: writes each call, its answer
+ * and a hash of what it left in its buffers to the file that OSTRUBEL_TRACE names. For programs with one thread at a
+ * time.
  */
 #include <stdio.h>
 #include <stdlib.h>

@@ -1,7 +1,7 @@
 /*
- * Makes the calls that record.c wrote, given on standard input, and compares each answer and what is left in each buffer.
- * Prints how many calls of each function were the same, the hash of all answers and buffers, and the most bytes of stack
- * that were seen to be written. Ends with 1 at the first difference.
+ * Makes the calls that record.c wrote, given on standard input, and compares each answer and what is left in each
+ * buffer. Prints how many calls of each function were the same, the hash of all answers and buffers, and the most
+ * bytes of stack that were seen to be written. Ends with 1 at the first difference.
  */
 #include <stdio.h>
 #include <stdlib.h>

@@ -1,9 +1,9 @@
 # usage: awk -f stack.awk FILE.su FILE.s
 # The most bytes of stack that a call of any exported function takes, and how many calls deep the deepest goes: the
-# compiler's frame of each function (FILE.su) added up along the calls in its assembly (FILE.s). One function calls itself,
-# and how often is known. Any other calls in a circle, calls by address and frames whose size is not fixed have no bound, and
-# are refused. What memcpy, memmove, memset and bzero of the C library take is not in it. WebAssembly keeps return addresses
-# and numbers elsewhere: there it is memory alone.
+# compiler's frame of each function (FILE.su) added up along the calls in its assembly (FILE.s). One function calls
+# itself, and how often is known. Any other calls in a circle, calls by address and frames whose size is not fixed
+# have no bound, and are refused. What memcpy, memmove, memset and bzero of the C library take is not in it.
+# WebAssembly keeps return addresses and numbers elsewhere: there it is memory alone.
 BEGIN { times["decimals::put_decimal"] = 10 } # one call for each digit of a word
 function fail(text) {
     print "stack.awk: " text > "/dev/stderr"

@@ -1,11 +1,11 @@
 #!/bin/sh
 # usage: test.sh
 # Tests the library on other processors. For x86-64, arm64 (under qemu) and wasm32 (in node) it runs the C test of the
-# header, and then calls of the second program: they are written down on x86-64, made again on each target, and each answer
-# and what is left in every buffer is compared. Android's library is linked with Linux's C library and run like arm64's; the
-# libraries for iOS are built, and looked at for each function of the header, and cannot be run here.
-# What it needs beside the README's tools comes from Debian's packages and is installed where this is root's shell; where it
-# cannot be had, that is said and the exit status is 3. It is no part of .ci/run.
+# header, and then calls of the second program: they are written down on x86-64, made again on each target, and each
+# answer and what is left in every buffer is compared. Android's library is linked with Linux's C library and run like
+# arm64's; the libraries for iOS are built, and looked at for each function of the header, and cannot be run here.
+# What it needs beside the README's tools comes from Debian's packages and is installed where this is root's shell;
+# where it cannot be had, that is said and the exit status is 3. It is no part of .ci/run.
 set -e
 cd "$(dirname "$0")/../.."
 PATH=$PATH:${CARGO_HOME:-$HOME/.cargo}/bin
@@ -97,7 +97,7 @@ for target in x86_64 aarch64 android wasm32; do
     wanted=${wanted:-${seen%, stack *}}
     judge "$target, the calls" "$wanted" "${seen%, stack *}"
     judge "$target, functions that were not called" 0 "$(echo "$seen" | grep -c '^not called' || true)"
-    read -r bytes deep < "$out/$target/stack"
+    read -r bytes _ < "$out/$target/stack"
     # beside what a call takes there are the caller's parameters and the C library's memset
     judge "$target, the stack seen is what was worked out" yes "$([ "$stack" -le $((bytes + 256)) ] && echo yes)"
     judge "$target, the stack worked out is within the header's" yes "$([ "$bytes" -le "$limit" ] && echo yes)"
@@ -106,7 +106,7 @@ sed 's/ .*//' "$made/names" | sort > "$made/functions"
 for target in ios ios_simulator; do
     llvm-nm-14 "$out/$target/libostrubel.a" | awk '$2 == "T" { print substr($3, 2) }' | sort > "$made/$target.functions"
     judge "$target, its functions" "$(cat "$made/functions")" "$(cat "$made/$target.functions")"
-    read -r bytes deep < "$out/$target/stack"
+    read -r bytes _ < "$out/$target/stack"
     judge "$target, the stack worked out is within the header's" yes "$([ "$bytes" -le "$limit" ] && echo yes)"
 done
 echo "$passed passed, $failed failed"

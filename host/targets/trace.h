@@ -1,10 +1,10 @@
 /*
- * The file between record.c and replay.c. A number is seven bits to a byte, the lowest first, and all bytes but its last
- * have the highest bit. A call is the number of its function, from 1 on in the header's order; its parameters in their
- * order; its answer; and for each buffer that is not const a hash of what it has after the call. A parameter that is a
- * buffer is the number of its elements and then runs: how often an element comes, and the element; or SAME_BUFFER alone
- * where it is the buffer that was written last. Of a workspace, in which any words may be, it is the number of words
- * alone: both programs fill it.
+ * The file between record.c and replay.c. A number is seven bits to a byte, the lowest first, and all bytes but its
+ * last have the highest bit. A call is the number of its function, from 1 on in the header's order; its parameters in
+ * their order; its answer; and for each buffer that is not const a hash of what it has after the call. A parameter
+ * that is a buffer is the number of its elements and then runs: how often an element comes, and the element; or
+ * SAME_BUFFER alone where it is the buffer that was written last. Of a workspace, in which any words may be, it is
+ * the number of words alone: both programs fill it.
  */
 #include <stdint.h>
 

@@ -1,6 +1,6 @@
 // usage: node build.mjs LIBRARY.wasm OUT.html
-// Puts the page together as one file: its modules in one script, its style, the library, the limits of ostrubel.h, and the
-// refusals' sentences of host/ostrubel/src/error.rs, so that both stand once.
+// Puts the page together as one file: its modules in one script, its style, the library, the limits of ostrubel.h,
+// and the refusals' sentences of host/ostrubel/src/error.rs, so that both stand once.
 import { readFileSync, writeFileSync } from 'node:fs';
 import { dirname, join } from 'node:path';
 import { fileURLToPath } from 'node:url';
@@ -40,7 +40,8 @@ const MODULES = ['library', 'shelf_file', 'names', 'changes', 'opened', 'picture
 function script() {
   return MODULES.map((name) => {
     const source = read(join(web, 'src', `${name}.mjs`));
-    const exported = [...source.matchAll(/^export (?:async function|function|class|const) (\w+)/gmu)].map(([, found]) => found);
+    const exports = [...source.matchAll(/^export (?:async function|function|class|const) (\w+)/gmu)];
+    const exported = exports.map(([, found]) => found);
     const body = source
       .replace(/^import (\{[^}]*\}) from '\.\/(\w+)\.mjs';$/gmu, 'const $1 = $2Module;')
       .replace(/^export /gmu, '');

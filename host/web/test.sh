@@ -1,7 +1,7 @@
 #!/bin/sh
 # Builds the page and tests it: its modules in node, and the page itself in a headless Chromium, with a picture in
-# target/web/page.png. Debian's packages for it are installed where this is root's shell; where they cannot be had, that is
-# said and the exit status is 3. It is no part of .ci/run.
+# target/web/page.png. Debian's packages for it are installed where this is root's shell; where they cannot be had,
+# that is said and the exit status is 3. It is no part of .ci/run.
 set -e
 cd "$(dirname "$0")/../.."
 packages=

@@ -1,5 +1,5 @@
-// The proved library in WebAssembly: its calls on sheets and shelves, with words in and out. A sheet is a Uint32Array into
-// which only the library looks: what a sheet has is told by the library's text of it.
+// The proved library in WebAssembly: its calls on sheets and shelves, with words in and out. A sheet is a Uint32Array
+// into which only the library looks: what a sheet has is told by the library's text of it.
 
 const MAX = 7;
 const UNARY = 0;
@@ -65,7 +65,7 @@ class Library {
     return this.#contents(this.#lend(this.#first, sheet));
   }
 
-  /** Old with newer merged into it: in each cell the larger value stays. A mask, if any, says which cells may change. */
+  /** Old with newer merged into it: the larger value of a cell stays. A mask, if any, says which cells may change. */
   merge(old, newer, mask) {
     return this.#written(old, newer, MAX, mask);
   }
@@ -112,8 +112,8 @@ class Library {
     return this.#outputSheet();
   }
 
-  // The sheet at the front of the output's room. The number of its words is that of the largest sheet, less the rows and
-  // entries that it does not have.
+  // The sheet at the front of the output's room. The number of its words is that of the largest sheet, less the rows
+  // and entries that it does not have.
   #outputSheet() {
     const { rows, entries } = this.#contents(this.#room());
     const { MAX_MATRIX_WORDS, MAX_ROWS, MAX_ENTRIES } = this.#limits;

@@ -1,5 +1,5 @@
-// Names files: a line `row 2 medicine cupboard`, `column 1 Anna` or `place 0 reports` for each name, from 0 on; blank lines
-// and lines that begin with # are skipped.
+// Names files: a line `row 2 medicine cupboard`, `column 1 Anna` or `place 0 reports` for each name, from 0 on; blank
+// lines and lines that begin with # are skipped.
 
 import { FileProblem } from './shelf_file.mjs';
 

@@ -4,8 +4,8 @@ import { CODES, Refusal } from './library.mjs';
 import { FileProblem, isGuarded, readGuarded, sheetsOf, wordsOf } from './shelf_file.mjs';
 
 /**
- * What a file has: { sheets, shelfWords }. A sheet file has one sheet, and no shelf words; a shelf file has eight places, a
- * place without a sheet being undefined. `sentences` has the refusals' sentences by number.
+ * What a file has: { sheets, shelfWords }. A sheet file has one sheet, and no shelf words; a shelf file has eight
+ * places, a place without a sheet being undefined. `sentences` has the refusals' sentences by number.
  */
 export function openFile(library, limits, sentences, bytes) {
   if (isGuarded(bytes)) return openShelf(library, limits, sentences, readGuarded(bytes));

@@ -6,7 +6,8 @@ import { changesBetween, reportOf, shown } from '../src/changes.mjs';
 import { Refusal } from '../src/library.mjs';
 import { readNames } from '../src/names.mjs';
 import { openFile } from '../src/opened.mjs';
-import { checksum, FileProblem, isGuarded, readGuarded, sheetsOf, shelfOf, VERSION, writeGuarded } from '../src/shelf_file.mjs';
+import { checksum, FileProblem, isGuarded, readGuarded, sheetsOf, shelfOf, VERSION } from '../src/shelf_file.mjs';
+import { writeGuarded } from '../src/shelf_file.mjs';
 import { bare, library, limits, MASK, OFFICE, officeShelf, PHONE, sentences, sheet } from './files.mjs';
 
 const open = (bytes) => openFile(library, limits, sentences, bytes);
@@ -55,7 +56,8 @@ test('shelf files, guarded and bare', () => {
   for (const file of [writeGuarded(shelf), bare(shelf)]) {
     const { sheets, shelfWords } = open(file);
     assert.equal(shelfWords, 256);
-    assert.deepEqual(sheets.map((words) => words !== undefined), [true, false, true, false, false, false, false, false]);
+    assert.deepEqual(sheets.flatMap((words, place) => (words ? [place] : [])), [0, 2]);
+    assert.equal(sheets.length, 8);
     assert.deepEqual(sheets[0], sheet(5, 4, OFFICE));
   }
   assert.deepEqual(shelfOf(sheetsOf(shelf, limits.SLOTS), 256), shelf);
@@ -98,8 +100,9 @@ test('a later version, and an older one, say so', () => {
 test('damaged sheet files and other bytes get the refusal’s sentence', () => {
   const file = library.writeSheet(sheet(5, 4, OFFICE));
   const cut = file.subarray(0, file.length - 4);
+  const refused = (error) => error instanceof FileProblem && error.message.startsWith(sentences[15]);
   for (const bytes of [cut, file.subarray(1), new Uint8Array(0), new Uint8Array(100000), new Uint8Array(30).fill(7)]) {
-    assert.throws(() => open(bytes), (error) => error instanceof FileProblem && error.message.startsWith(sentences[15]));
+    assert.throws(() => open(bytes), refused);
   }
 });
 

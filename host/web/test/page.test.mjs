@@ -22,9 +22,11 @@ function file(name, bytes) {
   return path;
 }
 
-const text = (id) => browser.value(`document.getElementById('${id}').innerText.trim()`);
-const shows = (id, words) => browser.until(`document.getElementById('${id}')?.innerText.includes(${JSON.stringify(words)})`);
-const cells = (id, kind) => browser.value(`[...document.querySelectorAll('#${id} td.${kind}')].map((td) => td.innerText)`);
+const element = (id) => `document.getElementById('${id}')`;
+const text = (id) => browser.value(`${element(id)}.innerText.trim()`);
+const shows = (id, words) => browser.until(`${element(id)}?.innerText.includes(${JSON.stringify(words)})`);
+const cells = (id, kind) =>
+  browser.value(`Array.from(${element(id)}.querySelectorAll('td.${kind}'), (cell) => cell.innerText)`);
 
 /** Waits until a file has been saved under a name. */
 async function savedFile(name) {
@@ -101,7 +103,8 @@ test('the example, with keys alone', async () => {
   await tabTo('example');
   await browser.press('Enter');
   await shows('after-count', '1 cell changed: 1 new.');
-  assert.ok((await text('overwrite')).includes('medicine cupboard, Boris: was 14:05 lost, would have been 08:30 in use.'));
+  const change = 'medicine cupboard, Boris: was 14:05 lost, would have been 08:30 in use.';
+  assert.ok((await text('overwrite')).includes(change));
   await browser.picture(join(dirname(page), 'page.png'));
   await tabTo('save-sheet');
   await browser.press(' ');
@@ -177,7 +180,7 @@ test('the largest sheets are shown without their empty rows, or as a list', asyn
 });
 
 test('nothing was asked of a network, and nothing went wrong unseen', () => {
-  const foreign = requests.filter((url) => !url.startsWith('file:') && !url.startsWith('data:') && !url.startsWith('blob:'));
+  const foreign = requests.filter((url) => !/^(file|data|blob):/u.test(url));
   assert.deepEqual(foreign, []);
   assert.deepEqual(errors, []);
 });
