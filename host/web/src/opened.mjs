@@ -1,7 +1,7 @@
 // Files as a person chose them: a sheet file, or a shelf file with a guard or bare.
 
 import { CODES, Refusal } from './library.mjs';
-import { FileProblem, isGuarded, readGuarded, sheetsOf, wordsOf } from './shelf_file.mjs';
+import { CONVERT, FileProblem, isGuarded, readGuarded, sheetsOf, wordsOf } from './shelf_file.mjs';
 
 /**
  * What a file has: { sheets, shelfWords }. A sheet file has one sheet, and no shelf words; a shelf file has eight
@@ -20,7 +20,8 @@ export function openFile(library, limits, sentences, bytes) {
     return openShelf(library, limits, sentences, shelf);
   } catch (error) {
     if (!(error instanceof FileProblem)) throw error;
-    throw new FileProblem(`${sentences[CODES.invalidFile]} Nor is it a shelf file. ${sentences[CODES.invalidStore]}`);
+    const neither = `${sentences[CODES.invalidFile]} Nor is it a shelf file: ${sentences[CODES.invalidStore]}`;
+    throw new FileProblem(`${neither} ${CONVERT}`);
   }
 }
 

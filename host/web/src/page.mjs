@@ -5,9 +5,11 @@ import { CODES, openLibrary, Refusal } from './library.mjs';
 import { label, NO_NAMES, readNames } from './names.mjs';
 import { openFile } from './opened.mjs';
 import { count, element, picture } from './picture.mjs';
-import { FileProblem, sheetsOf, shelfOf, writeGuarded } from './shelf_file.mjs';
+import { FileProblem, longestFile, sheetsOf, shelfOf, writeGuarded } from './shelf_file.mjs';
 
 const byId = (id) => document.getElementById(id);
+
+const MAX_NAMES_BYTES = 262144;
 
 const state = {
   library: undefined,
@@ -39,7 +41,8 @@ async function choose(event, role) {
   const [file] = event.target.files;
   if (!file) return;
   await guarded(role, file.name, async () => {
-    const bytes = new Uint8Array(await file.arrayBuffer());
+    // no file is longer than that of the longest shelf, and no more of it is read
+    const bytes = new Uint8Array(await file.slice(0, longestFile(state.limits) + 1).arrayBuffer());
     opened(role, file.name, openFile(state.library, state.limits, state.sentences, bytes));
   });
 }
@@ -56,6 +59,7 @@ async function chooseNames(event) {
   const [file] = event.target.files;
   if (!file) return;
   await guarded('names', file.name, async () => {
+    if (file.size > MAX_NAMES_BYTES) throw new FileProblem(`A names file has at most ${MAX_NAMES_BYTES} bytes.`);
     let text;
     try {
       text = new TextDecoder('utf-8', { fatal: true }).decode(await file.arrayBuffer());

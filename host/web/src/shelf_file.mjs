@@ -10,6 +10,10 @@ const SUM_BYTES = 4;
 /** The version of files whose sheets have the form that this library has. */
 export const VERSION = 1;
 
+/** What to do with a shelf of an earlier form. */
+export const CONVERT =
+  'A shelf of an earlier form is converted by the command ostrubel convert, and nothing of it is lost.';
+
 /** A file that is not opened, and why. */
 export class FileProblem extends Error {}
 
@@ -30,10 +34,15 @@ export function readGuarded(bytes) {
     throw new FileProblem('This shelf file was written by a later version: open it with that.');
   }
   if (version < VERSION) {
-    throw new FileProblem('This shelf file has an older form: convert it with the command ostrubel first.');
+    throw new FileProblem(`This shelf file has an earlier form. ${CONVERT}`);
   }
   if (view.getUint32(COUNT_AT, true) * 4 !== end - WORDS_AT) throw new FileProblem(damaged);
   return wordsOf(bytes.subarray(WORDS_AT, end));
+}
+
+/** The most bytes that a file has. */
+export function longestFile(limits) {
+  return WORDS_AT + 4 * limits.MAX_STORE_WORDS + SUM_BYTES;
 }
 
 /** The file of a shelf, with a guard. */

@@ -1,5 +1,6 @@
 // The page's modules in node, on the library for wasm32.
 import assert from 'node:assert/strict';
+import { readFileSync } from 'node:fs';
 import test from 'node:test';
 import { crc32 } from 'node:zlib';
 import { changesBetween, reportOf, shown } from '../src/changes.mjs';
@@ -74,6 +75,13 @@ test('the guard is the one of the command', () => {
   if (crc32) assert.equal(checksum(file), crc32(file));
 });
 
+test('the version is the one that the command writes', (context) => {
+  const source = readFileSync(new URL('../../command/src/shelf_file.rs', import.meta.url), 'utf8');
+  const found = /const VERSION: u32 = (\d+);/u.exec(source);
+  if (!found) context.skip('the command writes no guard');
+  else assert.equal(VERSION, Number(found[1]));
+});
+
 test('every changed bit and every cut of a guarded file is refused', () => {
   const file = writeGuarded(officeShelf(96));
   for (let bit = 0; bit < 8 * file.length; bit++) {
@@ -87,7 +95,7 @@ test('every changed bit and every cut of a guarded file is refused', () => {
 });
 
 test('a later version, and an older one, say so', () => {
-  for (const [version, text] of [[VERSION + 1, /later version/u], [VERSION - 1, /older form/u]]) {
+  for (const [version, text] of [[VERSION + 1, /later version/u], [VERSION - 1, /earlier form/u]]) {
     const file = writeGuarded(new Uint32Array(8));
     const view = new DataView(file.buffer);
     view.setUint32(8, version, true);

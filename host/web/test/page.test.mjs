@@ -154,6 +154,13 @@ test('damaged and foreign files get their sentences, and show nothing of the fil
   assert.ok(spoken.some(([, name]) => name.includes('Line 2 of the names file')));
 });
 
+test('a file that is far too long is refused, and not read', async () => {
+  await browser.chooseFile('#office', file('long.shelf', new Uint8Array(50000000)));
+  await shows('office-problem', `long.shelf was not opened. ${sentences[15]}`);
+  await browser.chooseFile('#names', file('long.names', '#'.repeat(262145)));
+  await shows('names-problem', 'A names file has at most 262144 bytes.');
+});
+
 test('sheets of other shapes are not merged, and an empty shelf has nothing to show', async () => {
   await browser.chooseFile('#office', file('a.sheet', library.writeSheet(sheet(2, 2, []))));
   await browser.chooseFile('#phone', file('b.sheet', library.writeSheet(sheet(3, 2, []))));
