@@ -109,5 +109,6 @@ for target in ios ios_simulator; do
     read -r bytes _ < "$out/$target/stack"
     judge "$target, the stack worked out is within the header's" yes "$([ "$bytes" -le "$limit" ] && echo yes)"
 done
+rm -f "$made/trace"
 echo "$passed passed, $failed failed"
 [ "$failed" -eq 0 ]
