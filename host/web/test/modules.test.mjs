@@ -43,7 +43,8 @@ test('the merge keeps the later report, and an overwrite does not', () => {
   const over = changesBetween(before, library.contents(library.overwrite(office, phone)));
   const kinds = over.map(({ row, kind }) => [row, kind]);
   assert.deepEqual(kinds, [[0, 'newer'], [1, 'gone'], [2, 'older'], [3, 'new'], [4, 'gone']]);
-  assert.deepEqual(library.merge(library.merge(office, phone), phone), library.merge(office, phone));
+  const once = library.merge(office, phone);
+  assert.deepEqual(library.contents(library.merge(once, phone)), library.contents(once));
 });
 
 test('sheets of other shapes are refused', () => {
