@@ -4,6 +4,7 @@ use crate::{answer, calls, layout, picture, workspace};
 use crate::{Entries, Error, Monoid, MAX_ENTRIES, MAX_MATRIX_WORDS, MAX_ROWS};
 use std::collections::BTreeMap;
 use std::fmt;
+use std::hash::{Hash, Hasher};
 
 /// What a row view shows of a row.
 #[derive(Clone, Copy, Debug, PartialEq, Eq, Hash)]
@@ -34,7 +35,7 @@ pub enum Found {
 /// A sparse matrix of whole numbers: each cell has a value or none, and a value of 0 is a value.
 ///
 /// It has 1 to [`MAX_ROWS`] rows, 1 to [`MAX_COLS`](crate::MAX_COLS) columns and at most [`MAX_ENTRIES`] entries. Two
-/// matrices are equal where their shapes and all their cells are.
+/// matrices are equal where their shapes and all their cells are, whatever their revisions ([`Matrix::revision`]).
 ///
 /// `Display` draws the cells, or lists the entries of a matrix that is too wide or too long for a page.
 ///
@@ -47,7 +48,7 @@ pub enum Found {
 /// assert_eq!(matrix.to_string(), "    0   1  2   3\n0  10  20  .   .\n1   .   .  .  -5");
 /// # Ok::<(), Error>(())
 /// ```
-#[derive(Clone, Debug, PartialEq, Eq, Hash)]
+#[derive(Clone, Debug, Eq)]
 pub struct Matrix {
     /// Exactly the words of one valid matrix.
     words: Vec<u32>,
@@ -109,7 +110,7 @@ impl Matrix {
     /// ```
     /// use ostrubel::{Error, Matrix};
     ///
-    /// let vector = Matrix::from_words(&[2, 1, 4, 2, 0, 3, 3, 0, 1, 3, 3, 10, 20, 40])?;
+    /// let vector = Matrix::from_words(&[1, 0, 2, 1, 4, 2, 0, 3, 3, 0, 1, 3, 3, 10, 20, 40])?;
     /// assert_eq!(vector.to_triples(), [(0, 0, 10), (0, 1, 20), (0, 3, 40)]);
     /// # Ok::<(), Error>(())
     /// ```
@@ -130,6 +131,25 @@ impl Matrix {
     /// The words of the matrix.
     pub fn into_words(self) -> Vec<u32> {
         self.words
+    }
+
+    /// The revision: 0 of a matrix that was made, and one more after each accepted call that wrote into it, also where no
+    /// cell changed. After `u32::MAX` comes 0. A file has it too.
+    ///
+    /// ```
+    /// use ostrubel::{Error, Matrix};
+    ///
+    /// let mut keys = Matrix::new(2, 3)?;
+    /// keys.set(1, 2, 40)?;
+    /// keys.clear(0, 0)?; // there was nothing
+    /// assert_eq!(keys.revision(), 2);
+    /// assert_eq!(keys.set(2, 0, 7), Err(Error::IndexOutOfBounds));
+    /// assert_eq!(keys.revision(), 2);
+    /// assert_eq!(keys, Matrix::from_triples(2, 3, [(1, 2, 40)])?); // of revision 0
+    /// # Ok::<(), Error>(())
+    /// ```
+    pub fn revision(&self) -> u32 {
+        layout::revision(&self.words)
     }
 
     /// The number of rows.
@@ -240,6 +260,20 @@ impl Matrix {
         let answer = workspace::lend(|work| call(&mut self.words, work));
         self.words.truncate(layout::size(&self.words));
         answer::entries(answer)
+    }
+}
+
+/// Of shapes and cells, and not of revisions.
+impl PartialEq for Matrix {
+    fn eq(&self, other: &Matrix) -> bool {
+        layout::grid(&self.words) == layout::grid(&other.words)
+    }
+}
+
+/// Of the shape and the cells.
+impl Hash for Matrix {
+    fn hash<H: Hasher>(&self, state: &mut H) {
+        layout::grid(&self.words).hash(state);
     }
 }
 

@@ -5,7 +5,7 @@ use crate::{Error, Found, Matrix, Monoid, MAX_STORE_WORDS};
 
 /// A store of eight slots, 0 to 7, each empty or with a matrix, in a fixed number of words.
 ///
-/// A matrix of R rows and N entries takes R + 2N + 7 words. What one matrix frees serves the others: a write is
+/// A matrix of R rows and N entries takes R + 2N + 9 words. What one matrix frees serves the others: a write is
 /// accepted where 8 words and all matrices, as they are after it, fit the store.
 ///
 /// Every call that names a slot above 7 is refused by `InvalidStore`.
@@ -166,14 +166,36 @@ impl Store {
         Matrix::from_words(self.section(slot))
     }
 
-    /// Puts a copy of a matrix into a slot, whatever was there. The words are those that `new_empty` and a `set` for
-    /// each entry would give, but where it does not fit, nothing is written.
+    /// The revision of a slot's matrix: [`Matrix::revision`].
+    ///
+    /// ```
+    /// use ostrubel::{Error, Store};
+    ///
+    /// let mut store = Store::new(40)?;
+    /// store.new_empty(0, 2, 4)?;
+    /// let before = store.revision(0)?;
+    /// store.set(0, 0, 3, 5)?;
+    /// assert_eq!((before, store.revision(0)?), (0, 1));
+    /// assert_eq!(store.revision(1), Err(Error::EmptySlot));
+    /// # Ok::<(), Error>(())
+    /// ```
+    ///
+    /// # Errors
+    ///
+    /// `InvalidStore` for a slot above 7; `EmptySlot`.
+    pub fn revision(&self, slot: usize) -> Result<u32, Error> {
+        self.get(slot, 0, 0)?;
+        Ok(layout::revision(self.section(slot)))
+    }
+
+    /// Puts a copy of a matrix with its revision into a slot, whatever was there. Its cells are those that `new_empty` and
+    /// a `set` for each entry would give, but where it does not fit, nothing is written.
     ///
     /// ```
     /// use ostrubel::{Error, Matrix, Store};
     ///
     /// let matrix = Matrix::from_triples(3, 3, [(0, 2, 7), (2, 0, 0)])?;
-    /// let mut store = Store::new(22)?;
+    /// let mut store = Store::new(24)?;
     /// store.put(5, &matrix)?;
     /// assert_eq!(store.matrix(5)?, matrix);
     /// assert_eq!(store.put(6, &matrix), Err(Error::InsufficientSpace));

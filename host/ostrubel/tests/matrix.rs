@@ -3,13 +3,13 @@
 use ostrubel::{Error, Found, Matrix, Section};
 
 /// Document 01's strip: 10, 20, 40 at columns 0, 1, 3.
-const STRIP: [u32; 14] = [2, 1, 4, 2, 0, 3, 3, 0, 1, 3, 3, 10, 20, 40];
+const STRIP: [u32; 16] = [1, 0, 2, 1, 4, 2, 0, 3, 3, 0, 1, 3, 3, 10, 20, 40];
 
 #[test]
 fn a_new_matrix_is_empty() -> Result<(), Error> {
     let matrix = Matrix::new(3, 5)?;
     assert_eq!((matrix.rows(), matrix.cols(), matrix.entries()), (3, 5, 0));
-    assert_eq!(matrix.words(), [2, 3, 5, 4, 0, 0, 0, 0, 0, 0]);
+    assert_eq!(matrix.words(), [1, 0, 2, 3, 5, 4, 0, 0, 0, 0, 0, 0]);
     assert_eq!(matrix.get(2, 4)?, None);
     assert_eq!(matrix.iter().next(), None);
     Ok(())
@@ -112,6 +112,38 @@ fn matrices_are_equal_where_their_cells_are() -> Result<(), Error> {
     assert_eq!(stored_zero, Matrix::from_triples(2, 2, stored_zero.to_triples())?);
     assert_ne!(stored_zero, Matrix::new(2, 2)?);
     assert_ne!(Matrix::new(2, 2)?, Matrix::new(2, 3)?);
+    Ok(())
+}
+
+#[test]
+fn revisions() -> Result<(), Error> {
+    let a = Matrix::from_triples(2, 2, [(0, 1, 7)])?;
+    let mut c = Matrix::new(2, 2)?;
+    let copy = ApplyOp::Unary(UnaryOp::Identity);
+    for revision in 1..4 {
+        c.apply(copy, &a, &Options::new())?;
+        assert_eq!((c.revision(), a.revision()), (revision, 0));
+    }
+    assert!(c.apply(copy, &Matrix::new(3, 3)?, &Options::new()).is_err());
+    assert_eq!((c.revision(), c.clone().revision(), c == a), (3, 3, true));
+    assert_eq!(Matrix::from_bytes(&c.to_bytes())?.revision(), 3);
+    assert_eq!(Matrix::open_doors(&a, &a, &Matrix::new(1, 2)?, 1)?.revision(), 0);
+
+    let mut words = c.into_words();
+    words[1] = u32::MAX;
+    let mut last = Matrix::from_words(&words)?;
+    assert_eq!(last.revision(), u32::MAX);
+    last.clear(0, 0)?;
+    assert_eq!(last.revision(), 0);
+    Ok(())
+}
+
+/// A file of the form before revisions: without the first section.
+#[test]
+fn files_of_the_form_before_revisions() -> Result<(), Error> {
+    let bytes: Vec<u8> = STRIP[2..].iter().flat_map(|word| word.to_le_bytes()).collect();
+    assert_eq!(Matrix::from_bytes(&bytes)?.into_words(), STRIP);
+    assert_eq!(Matrix::from_words(&STRIP[2..]), Err(Error::InvalidFirst));
     Ok(())
 }
 

@@ -100,7 +100,7 @@ fn a_smaller_result_leaves_no_spare_words() -> Result<(), Error> {
     let mut c = Matrix::from_triples(4, 4, (0..16).map(|k| (k / 4, k % 4, 1)))?;
     let empty = Matrix::new(4, 4)?;
     assert_eq!(c.apply(ApplyOp::Unary(UnaryOp::One), &empty, &Options::new())?, 0);
-    assert_eq!(c.words(), empty.words());
+    assert_eq!((&c, c.words().len(), c.revision()), (&empty, empty.words().len(), 1));
     Ok(())
 }
 

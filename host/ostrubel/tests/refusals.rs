@@ -14,12 +14,13 @@ const PLUS_TIMES: Semiring = Semiring::new(Monoid::Plus, BinaryOp::Times);
 /// The call is refused by the error and leaves its object as it was.
 fn refused<T, R>(object: &mut T, error: Error, call: impl FnOnce(&mut T) -> Result<R, Error>)
 where
-    T: Clone + Debug + PartialEq,
+    T: Debug,
     R: Debug + PartialEq,
 {
-    let before = object.clone();
+    // Every word, that of the revision too.
+    let before = format!("{object:?}");
     assert_eq!(call(object), Err(error));
-    assert_eq!(*object, before);
+    assert_eq!(format!("{object:?}"), before);
 }
 
 /// Three rows and two columns, with entries.
@@ -29,7 +30,7 @@ fn matrix() -> Result<Matrix, Error> {
 
 /// Slots 0 and 1 have the matrix, slot 2 has one of another shape; there is room for one more entry.
 fn store() -> Result<Store, Error> {
-    let mut store = Store::new(8 + 16 + 16 + 11 + 2)?;
+    let mut store = Store::new(8 + 18 + 18 + 13 + 2)?;
     store.put(0, &matrix()?)?;
     store.put(1, &matrix()?)?;
     store.put(2, &Matrix::from_triples(2, 2, [(1, 0, 4)])?)?;
@@ -46,8 +47,8 @@ fn r3_words_that_are_no_matrix() -> Result<(), Error> {
     assert_eq!(Matrix::from_words(&[]), Err(Error::InvalidFirst));
     assert_eq!(Matrix::from_words(&words[..words.len() - 1]), Err(Error::InvalidFirst));
     assert_eq!(Matrix::from_words(&[u32::MAX; 50]), Err(Error::InvalidFirst));
-    // Damage in each word but the values.
-    for at in 0..words.len() - 3 {
+    // Damage in each word but the revision and the values.
+    for at in (0..words.len() - 3).filter(|&at| at != 1) {
         let mut damaged = words.clone();
         damaged[at] ^= 1 << 16;
         assert_eq!(Matrix::from_words(&damaged), Err(Error::InvalidFirst), "word {at}");
@@ -226,9 +227,9 @@ fn sentences_have_the_limits() {
     for (error, part) in [
         (Error::IndexOutOfBounds, "does not have 1 to 1000 numbers, each once: "),
         (Error::InvalidShape, "a sheet has 1 to 1000 rows and 1 to 1000 columns, "),
-        (Error::WorkspaceTooShort, "at least 15309 words."),
+        (Error::WorkspaceTooShort, "at least 15315 words."),
         (Error::TooManyEntries, "more than 2048 entries: "),
-        (Error::InvalidFile, "at most 20412; "),
+        (Error::InvalidFile, "at most 20420; "),
         (Error::InvalidStore, "not one of 0 to 7, or the shelf is damaged or not 8 to 16384 words long: "),
     ] {
         assert!(error.to_string().contains(part), "{error}");

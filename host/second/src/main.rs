@@ -7,7 +7,7 @@ use second::compare::{judge_lent, judge_list, see_lent, see_list, Seen};
 use second::fault::{self, Fault};
 use second::model::{Model, SOUND};
 use second::rng::Rng;
-use second::{describe, doors, files, full_rows, generate_lent, generate_store, merges, program, shrink};
+use second::{describe, doors, files, full_rows, generate_lent, generate_store, merges, program, revisions, shrink};
 use std::collections::{BTreeMap, BTreeSet};
 use std::process::ExitCode;
 use std::time::Instant;
@@ -183,6 +183,7 @@ fn compare_all(arguments: &Arguments) -> ExitCode {
         compare_merges(arguments)?;
         compare_files(arguments)?;
         compare_doors(arguments)?;
+        compare_revisions(arguments)?;
         compare_random(arguments)
     };
     match all() {
@@ -246,6 +247,23 @@ fn compare_doors(arguments: &Arguments) -> Result<(), Disagreement> {
         }
     }
     println!("seed {seed}: {lists} calls of keys behind doors, by codes {codes:?}: no disagreement");
+    Ok(())
+}
+
+/// Looks at revisions; as many as lists of calls on a store.
+fn compare_revisions(arguments: &Arguments) -> Result<(), Disagreement> {
+    let &Arguments { seed, lists, .. } = arguments;
+    let mut codes: BTreeMap<u32, u64> = BTreeMap::new();
+    for number in 0..lists {
+        match revisions::judge(&mut Rng::of_case(seed, 6, number)) {
+            Ok(answer) => *codes.entry(code_of(answer)).or_default() += 1,
+            Err(text) => {
+                println!("seed {seed}, revision {number}: {text}");
+                return Err(Disagreement);
+            }
+        }
+    }
+    println!("seed {seed}: {lists} looks at a revision, by codes {codes:?}: no disagreement");
     Ok(())
 }
 
