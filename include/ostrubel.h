@@ -6,9 +6,12 @@
  * to that many words also where a call does not look at them; with a count of 0 it is any aligned address but not null.
  * A buffer that a call writes (not const) may not overlap another buffer of the same call; those that are only read may.
  *
- * A matrix of R rows, C columns and N entries takes R + 2N + 7 words: 2, R, C; R+1 and the row starts; N and the column
- * numbers; N and the values, in two's complement (-5 is 4294967291). R and C are 1 to 1,000, N is 0 to 2,048. Words
- * after it are spare, and an accepted call leaves those that it does not need as they were.
+ * A matrix of R rows, C columns and N entries takes R + 2N + 9 words: 1 and the revision; 2, R, C; R+1 and the row starts;
+ * N and the column numbers; N and the values, in two's complement (-5 is 4294967291). R and C are 1 to 1,000, N is 0 to
+ * 2,048. Words after it are spare, and an accepted call leaves those that it does not need as they were.
+ *
+ * The revision tells whether a matrix was written: a new matrix has 0, and each accepted call that writes into a matrix
+ * adds one, even where no cell changes; after 4294967295 comes 0. A matrix that is read from a file has the file's.
  *
  * A store has eight slots, 0 to 7, each empty or with a matrix, in one buffer of 8 to 16,384 words: slot by slot a
  * count of words and the matrix, then zeros. All zeros is a store with eight empty slots. A write needs room for 8 words
@@ -34,12 +37,12 @@
 extern "C" {
 #endif
 
-/* A number of words or bytes, or a slot: 64 bits on every target, also where size_t has 32 (wasm32). */
+/* A number of words or bytes, or a slot: 64 bits on every target, also where ostrubel_size has 32 (wasm32). */
 typedef uint64_t ostrubel_size;
 
 /* Sizes, in words of 32 bits. */
-#define OSTRUBEL_MAX_MATRIX_WORDS 5103 /* the largest matrix: 1,000 rows, 2,048 entries */
-#define OSTRUBEL_MIN_WORKSPACE_WORDS 15309
+#define OSTRUBEL_MAX_MATRIX_WORDS 5105 /* the largest matrix: 1,000 rows, 2,048 entries */
+#define OSTRUBEL_MIN_WORKSPACE_WORDS 15315
 #define OSTRUBEL_MIN_STORE_WORDS 8
 #define OSTRUBEL_MAX_STORE_WORDS 16384
 
@@ -47,7 +50,7 @@ typedef uint64_t ostrubel_size;
 #define OSTRUBEL_STACK_BYTES 49152
 
 /* Sizes, in bytes: the largest file, four for each word of the largest matrix, and the largest text. */
-#define OSTRUBEL_MAX_FILE_BYTES 20412
+#define OSTRUBEL_MAX_FILE_BYTES 20420
 #define OSTRUBEL_MAX_TEXT_BYTES 40975
 
 /* Limits. An index list has 1 to 1,000 indexes. */
@@ -72,7 +75,7 @@ enum {
                                           an allowance above 1,000 */
     OSTRUBEL_INVALID_SHAPE = 8,        /* rows or columns outside 1 to 1,000; shapes of inputs, mask, C and result
                                           disagree; no vector (one row) where one is due */
-    OSTRUBEL_WORKSPACE_TOO_SHORT = 9,  /* a workspace under 15,309 words */
+    OSTRUBEL_WORKSPACE_TOO_SHORT = 9,  /* a workspace under 15,315 words */
     OSTRUBEL_TOO_MANY_ENTRIES = 10,    /* the final C, or the matrix a cell is set in, would have over 2,048 entries */
     OSTRUBEL_INSUFFICIENT_SPACE = 11,  /* the final C, a new matrix or the store does not fit its buffer */
     OSTRUBEL_INVALID_STORE = 12,       /* the length or the words are no store's, or a slot above 7 */
@@ -159,6 +162,9 @@ static inline uint32_t ostrubel_position(uint64_t answer) { return (uint32_t)((a
 /* Of a reduction to a number: its word; 0 where it was refused. */
 static inline uint32_t ostrubel_number(uint64_t answer) { return (uint32_t)(answer >> 32); }
 
+/* Of a look at the revision: the revision; 0 where it was refused. */
+static inline uint32_t ostrubel_revision_number(uint64_t answer) { return (uint32_t)(answer >> 32); }
+
 /* Of a row view: 1 where the part lies in the second matrix, 0 where it lies in the first. */
 static inline int ostrubel_in_second(uint64_t answer) { return (int)(answer & 1); }
 
@@ -171,11 +177,14 @@ static inline uint32_t ostrubel_part_count(uint64_t answer) { return (uint32_t)(
 /* Whether the words begin with a valid matrix. Refused by 3. */
 uint64_t ostrubel_check(const uint32_t *words, ostrubel_size words_len);
 
-/* An empty matrix at the front of the buffer, whatever was there: rows + 7 words. Refused by 8, 11. */
+/* An empty matrix at the front of the buffer, whatever was there: rows + 9 words, revision 0. Refused by 8, 11. */
 uint64_t ostrubel_new_empty(uint32_t rows, uint32_t cols, uint32_t *buffer, ostrubel_size buffer_len);
 
 /* The cell at row i and column j, and its position. Refused by 3, 7. */
 uint64_t ostrubel_read_cell(uint32_t i, uint32_t j, const uint32_t *words, ostrubel_size words_len);
+
+/* The revision of the matrix. Take the answer apart by ostrubel_code and ostrubel_revision_number. Refused by 3. */
+uint64_t ostrubel_revision(const uint32_t *words, ostrubel_size words_len);
 
 /*
  * All values of the matrix added up with a monoid. Of a matrix with no entries it is the monoid's identity: 0 for PLUS, 1
@@ -201,8 +210,8 @@ uint64_t ostrubel_row_view(uint32_t i, uint32_t values, const uint32_t *first, o
  *   has_mask         0: no mask, and its words are not looked at; else there is one
  *   has_accumulator  0: no accumulator, and its number is not looked at; else there is one
  *   accumulator      a binary operator
- *   c                a valid matrix in a buffer that may be longer; at most 5,103 words are needed
- *   work             at least 15,309 words, any words; all zeros after the call
+ *   c                a valid matrix in a buffer that may be longer; at most 5,105 words are needed
+ *   work             at least 15,315 words, any words; all zeros after the call
  * The answer's entries are those of the final C. Refused by 1 to 11: 4 only with a second input, 5 only with a mask, 7
  * only by extract.
  */
@@ -365,7 +374,7 @@ uint64_t ostrubel_write_text(const uint32_t *words, ostrubel_size words_len, uin
  *   cabinets   doors by keys: the key is behind the door
  *   hand       1 by keys: the keys in hand
  *   out        2 times the doors that open and 8 words are needed
- *   work       at least 15,309 words, any words; all zeros after the call
+ *   work       at least 15,315 words, any words; all zeros after the call
  * In round 0 the keys in hand open doors; in each later round those, and the keys behind doors that were open in the
  * round before. The answer's entries are the doors. Refused by 3 (locks), 4 (cabinets), 5 (hand), 7 (an allowance above
  * 1,000), 8, 9, 11.

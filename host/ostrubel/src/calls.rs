@@ -10,6 +10,7 @@ mod c {
         pub fn ostrubel_new_empty(rows: u32, cols: u32, buffer: *mut u32, n: usize) -> u64;
         pub fn ostrubel_read_cell(i: u32, j: u32, words: *const u32, n: usize) -> u64;
         pub fn ostrubel_reduce(monoid: u32, words: *const u32, n: usize) -> u64;
+        pub fn ostrubel_revision(words: *const u32, n: usize) -> u64;
         pub fn ostrubel_row_view(
             i: u32,
             values: u32,
@@ -61,6 +62,11 @@ pub fn read_cell(i: u32, j: u32, words: &[u32]) -> u64 {
 /// All values of the matrix added up with a monoid.
 pub fn reduce(monoid: u32, words: &[u32]) -> u64 {
     unsafe { c::ostrubel_reduce(monoid, words.as_ptr(), words.len()) }
+}
+
+/// The revision of the matrix.
+pub fn revision(words: &[u32]) -> u64 {
+    unsafe { c::ostrubel_revision(words.as_ptr(), words.len()) }
 }
 
 /// Where row i over two matrices lies: its column numbers where `values` is 0, else its values. The answer has no code:

@@ -28,6 +28,7 @@ pub mod merges;
 pub mod model;
 mod operators;
 pub mod program;
+pub mod revisions;
 pub mod rng;
 pub mod shrink;
 pub mod store_grids;

@@ -9,7 +9,7 @@ use second::fault::{self, Fault};
 use second::model::{Model, SOUND};
 use second::rng::Rng;
 use second::shrink::shrink;
-use second::{describe, doors, files, full_rows, generate_lent, generate_store, merges, program};
+use second::{describe, doors, files, full_rows, generate_lent, generate_store, merges, program, revisions};
 use std::collections::{BTreeMap, BTreeSet};
 use std::process::ExitCode;
 use std::time::Instant;
@@ -182,6 +182,7 @@ fn compare_all(run: &Run) -> ExitCode {
         compare_merges(run)?;
         compare_files(run)?;
         compare_doors(run)?;
+        compare_revisions(run)?;
         compare_random(run)
     };
     match all() {
@@ -260,6 +261,23 @@ fn compare_doors(run: &Run) -> Result<(), Disagreement> {
         }
     }
     println!("seed {seed}: {lists} calls of keys behind doors, by codes {codes:?}: no disagreement");
+    Ok(())
+}
+
+/// Looks at revisions; as many as lists of calls on a store.
+fn compare_revisions(run: &Run) -> Result<(), Disagreement> {
+    let &Run { seed, lists, .. } = run;
+    let mut codes: BTreeMap<u32, u64> = BTreeMap::new();
+    for number in 0..lists {
+        match revisions::judge(&mut Rng::of_case(seed, 6, number)) {
+            Ok(answer) => *codes.entry(code_of(answer)).or_default() += 1,
+            Err(text) => {
+                println!("seed {seed}, revision {number}: {text}");
+                return Err(Disagreement);
+            }
+        }
+    }
+    println!("seed {seed}: {lists} looks at a revision, by codes {codes:?}: no disagreement");
     Ok(())
 }
 
