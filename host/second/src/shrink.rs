@@ -137,6 +137,7 @@ fn smaller_numbers(operation: &Operation) -> Vec<Operation> {
         }
         Operation::EwiseMult { op } => (0..(*op).min(8)).map(|op| Operation::EwiseMult { op }).collect(),
         Operation::EwiseAdd { op } => (0..(*op).min(8)).map(|op| Operation::EwiseAdd { op }).collect(),
+        Operation::Kronecker { op } => (0..(*op).min(8)).map(|op| Operation::Kronecker { op }).collect(),
         Operation::Apply { kind, op, scalar } => {
             let (kind, op, scalar) = (*kind, *op, *scalar);
             let mut all: Vec<Operation> = (0..op.min(8)).map(|op| Operation::Apply { kind, op, scalar }).collect();
@@ -156,13 +157,16 @@ fn smaller_numbers(operation: &Operation) -> Vec<Operation> {
         Operation::ReduceRows { monoid } => {
             (0..(*monoid).min(8)).map(|monoid| Operation::ReduceRows { monoid }).collect()
         }
-        Operation::Extract { rows, cols } => {
+        Operation::Extract { .. } | Operation::Assign { .. } => {
             let mut all = Vec::new();
-            if rows.iter().any(|&index| index != 0) {
-                all.push(Operation::Extract { rows: vec![0; rows.len()], cols: cols.clone() });
-            }
-            if cols.iter().any(|&index| index != 0) {
-                all.push(Operation::Extract { rows: rows.clone(), cols: vec![0; cols.len()] });
+            for which in 0..2 {
+                let mut zeros = operation.clone();
+                if let Some(lists) = zeros.lists_mut() {
+                    lists[which].fill(0);
+                }
+                if zeros.lists() != operation.lists() {
+                    all.push(zeros);
+                }
             }
             all
         }
@@ -181,8 +185,8 @@ fn smaller_operations(call: &LentOperation) -> Vec<LentOperation> {
     }
     let sheets: Vec<&Vec<u32>> = call.inputs.iter().chain([&call.c]).collect();
     let mut sides = sides_of(sheets.iter().filter_map(|words| Grid::read(words, Fault::None)));
-    if let Operation::Extract { rows, cols } = &call.operation {
-        sides.extend([rows.len() as u32, cols.len() as u32]);
+    if let Some(lists) = call.operation.lists() {
+        sides.extend(lists.map(|list| list.len() as u32));
     }
     for crop in crops(&sides) {
         let mut cropped = call.clone();
@@ -276,8 +280,8 @@ fn crop_sheet(words: &mut Vec<u32>, crop: Crop) {
 }
 
 fn crop_lists(operation: &mut Operation, crop: Crop) {
-    if let Operation::Extract { rows, cols } = operation {
-        for list in [rows, cols] {
+    if let Some(lists) = operation.lists_mut() {
+        for list in lists {
             if list.len() == crop.side as usize {
                 list.drain(..crop.from as usize);
                 list.truncate(crop.length as usize);
@@ -377,8 +381,8 @@ fn smaller_lists(list: &StoreList) -> Vec<StoreList> {
     for call in &list.calls {
         match call {
             StoreCall::NewEmpty { rows, cols, .. } => sides.extend([*rows, *cols]),
-            StoreCall::Operation(StoreOperation { operation: Operation::Extract { rows, cols }, .. }) => {
-                sides.extend([rows.len() as u32, cols.len() as u32])
+            StoreCall::Operation(call) => {
+                sides.extend(call.operation.lists().into_iter().flatten().map(|list| list.len() as u32))
             }
             _ => {}
         }
