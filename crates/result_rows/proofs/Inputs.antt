@@ -58,7 +58,7 @@ pub wider-row : {n m : ℕ} {cs vs : List ℕ} → n ≤ m → Row n cs vs → R
 wider-row h r = record { even = r .even; rises = r .rises; small = λ a l. let s = r .small a l in omega arith }
 
 -- an index of a valid list does not stand before
-list-once : (n : ℕ) (l : List ℕ) → listValid n l ≡ true → (a b : ℕ) → a < b → b < length l → at l a ≡ at l b → ⊥
+pub list-once : (n : ℕ) (l : List ℕ) → listValid n l ≡ true → (a b : ℕ) → a < b → b < length l → at l a ≡ at l b → ⊥
 unfolding listValid
 list-once n l h a b m k e =
     let fits = all-at (indexFits n l) (length l) b k (and-right _ _ (and-right _ _ h)) in

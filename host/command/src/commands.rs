@@ -22,13 +22,15 @@ pub enum Command {
     Doors,
     Select,
     ReduceRows,
+    Assign,
+    Kronecker,
     Reduce,
     Run,
     Help,
 }
 
 impl Command {
-    pub const ALL: [Command; 23] = [
+    pub const ALL: [Command; 25] = [
         Command::New,
         Command::Lay,
         Command::Drop,
@@ -49,6 +51,8 @@ impl Command {
         Command::Doors,
         Command::Select,
         Command::ReduceRows,
+        Command::Assign,
+        Command::Kronecker,
         Command::Reduce,
         Command::Run,
         Command::Help,
@@ -76,6 +80,8 @@ impl Command {
             Command::Doors => "doors",
             Command::Select => "select",
             Command::ReduceRows => "reduceRows",
+            Command::Assign => "assign",
+            Command::Kronecker => "kronecker",
             Command::Reduce => "reduce",
             Command::Run => "run",
             Command::Help => "help",
@@ -92,9 +98,9 @@ impl Command {
             Command::Clear | Command::Read => &["PLACE", "ROW", "COL"],
             Command::List | Command::Print | Command::Help => &[],
             Command::Import | Command::Export => &["PLACE", "SHEET"],
-            Command::Mxm | Command::EwiseMult | Command::EwiseAdd => &["C", "A", "B"],
+            Command::Mxm | Command::EwiseMult | Command::EwiseAdd | Command::Kronecker => &["C", "A", "B"],
             Command::Vxm => &["C", "U", "A"],
-            Command::Apply | Command::Extract | Command::Select | Command::ReduceRows => &["C", "A"],
+            Command::Apply | Command::Extract | Command::Select | Command::ReduceRows | Command::Assign => &["C", "A"],
             Command::Doors => &["LOCKS", "CABINETS", "HAND", "ALLOWANCE"],
             Command::Run => &["SCRIPT"],
         }
@@ -102,8 +108,11 @@ impl Command {
 
     /// Whether it is one of the operations that write a sheet.
     pub fn is_operation(self) -> bool {
-        use Command::{Apply, EwiseAdd, EwiseMult, Extract, Mxm, ReduceRows, Select, Vxm};
-        matches!(self, Mxm | Vxm | EwiseMult | EwiseAdd | Apply | Extract | Select | ReduceRows)
+        use Command::{Apply, Assign, EwiseAdd, EwiseMult, Extract, Kronecker, Mxm, ReduceRows, Select, Vxm};
+        matches!(
+            self,
+            Mxm | Vxm | EwiseMult | EwiseAdd | Apply | Extract | Select | ReduceRows | Assign | Kronecker
+        )
     }
 
     /// The command of a name, in any case and with hyphens or underscores anywhere but in front.

@@ -1,8 +1,14 @@
--- `compute` puts the inverse of the second list in the place of a second input, where there are lists.
+-- `compute` puts the inverses of the lists in the place of a second input, where there are lists.
 use mathlib.Core.Path.{_≡_, refl, sym, _∙_}
 use mathlib.Core.Bool.{true}
 use Rattle.operations.specs.Calls.{hasLists}
-use Rattle.compute.proofs.Prepared.{prepared-lent, listed-indices, prepared-listed, computed-listed}
+use Rattle.compute.proofs.Prepared.{
+  prepared-lent,
+  row-indices,
+  column-indices,
+  prepared-listed,
+  computed-listed,
+}
 use borrow.Author.Needs.{needs}
 use Rattle.compute.proofs.compute.Statement.{statement}
 use Rattle.compute.proofs.compute.Tie as tie
