@@ -283,16 +283,16 @@ uint64_t ostrubel_reduce_rows(uint32_t flags, uint32_t has_mask, uint32_t has_ac
    the union of C's and A's. The other cells of C stay, as far as the mask lets them, which has C's shape. A (as transposed)
    has as many rows and columns as the lists have indexes; these are held against C, and none may occur twice in one list. */
 uint64_t ostrubel_assign(uint32_t flags, uint32_t has_mask, uint32_t has_accumulator, uint32_t accumulator,
-                         const uint32_t *a, size_t a_len, const uint32_t *is, size_t is_len, const uint32_t *js,
-                         size_t js_len, const uint32_t *mask, size_t mask_len, uint32_t *c, size_t c_len,
-                         uint32_t *work, size_t work_len);
+                         const uint32_t *a, ostrubel_size a_len, const uint32_t *is, ostrubel_size is_len,
+                         const uint32_t *js, ostrubel_size js_len, const uint32_t *mask, ostrubel_size mask_len,
+                         uint32_t *c, ostrubel_size c_len, uint32_t *work, ostrubel_size work_len);
 
 /* The Kronecker product: at (i p + k, j q + l) op of A's value at (i, j) and B's at (k, l), where B (as transposed) has p
    rows and q columns. Refused by 8 where it would have more than 1,000 rows or columns. */
 uint64_t ostrubel_kronecker(uint32_t flags, uint32_t has_mask, uint32_t has_accumulator, uint32_t accumulator,
-                            uint32_t op, const uint32_t *a, size_t a_len, const uint32_t *b, size_t b_len,
-                            const uint32_t *mask, size_t mask_len, uint32_t *c, size_t c_len, uint32_t *work,
-                            size_t work_len);
+                            uint32_t op, const uint32_t *a, ostrubel_size a_len, const uint32_t *b, ostrubel_size b_len,
+                            const uint32_t *mask, ostrubel_size mask_len, uint32_t *c, ostrubel_size c_len,
+                            uint32_t *work, ostrubel_size work_len);
 
 /* ---- Matrices in the slots of a store ---- */
 
@@ -361,13 +361,13 @@ uint64_t ostrubel_store_reduce_rows(uint32_t flags, uint32_t has_mask, uint32_t 
                                     uint32_t *store, ostrubel_size store_len, uint32_t *work, ostrubel_size work_len);
 
 uint64_t ostrubel_store_assign(uint32_t flags, uint32_t has_mask, uint32_t has_accumulator, uint32_t accumulator,
-                               size_t a, size_t mask, size_t c, uint32_t *store, size_t store_len,
-                               const uint32_t *is, size_t is_len, const uint32_t *js, size_t js_len, uint32_t *work,
-                               size_t work_len);
+                               ostrubel_size a, ostrubel_size mask, ostrubel_size c, uint32_t *store,
+                               ostrubel_size store_len, const uint32_t *is, ostrubel_size is_len, const uint32_t *js,
+                               ostrubel_size js_len, uint32_t *work, ostrubel_size work_len);
 
 uint64_t ostrubel_store_kronecker(uint32_t flags, uint32_t has_mask, uint32_t has_accumulator, uint32_t accumulator,
-                                  uint32_t op, size_t a, size_t b, size_t mask, size_t c, uint32_t *store,
-                                  size_t store_len, uint32_t *work, size_t work_len);
+                                  uint32_t op, ostrubel_size a, ostrubel_size b, ostrubel_size mask, ostrubel_size c,
+                                  uint32_t *store, ostrubel_size store_len, uint32_t *work, ostrubel_size work_len);
 
 /* ---- Files and texts: bytes that the caller owns, passed as a pointer and their number ---- */
 

@@ -15,22 +15,26 @@ export function limitsOf(header) {
   return Object.fromEntries(lines.map(([, name, number]) => [name, Number(number)]));
 }
 
-/** The refusals' sentences by number, from the source of the Rust crate. */
+/**
+ * The refusals' sentences by number, from the source of the Rust crate. That of an unknown operator is put together from
+ * the operators' names there, and left out: no call of the page has an operator that a person chose.
+ */
 export function sentencesOf(source, limits) {
   const constants = { ...limits, WORKSPACE_WORDS: limits.MIN_WORKSPACE_WORDS, last: limits.SLOTS - 1 };
   const numbers = new Map([...source.matchAll(/^ {4}(\w+) = (\d+),$/gmu)].map(([, name, number]) => [name, number]));
   const body = source.slice(source.indexOf('fn sentence('));
   const found = [...body.matchAll(/Error::(\w+) => [^"]*"((?:[^"\\]|\\[^])*)"/gu)];
-  const sentences = found.map(([, name, text]) => {
-    const whole = text.replace(/\\\n\s*/gu, '').replace(/\{(\w+)\}/gu, (_, constant) => {
-      if (!(constant in constants)) throw new Error(`error.rs: ${constant} is not known`);
+  if (found.length !== numbers.size || numbers.size === 0) {
+    throw new Error(`error.rs: ${numbers.size} refusals and ${found.length} sentences were found`);
+  }
+  const sentences = found.flatMap(([, name, text]) => {
+    if (name === 'UnknownOperator') return [];
+    const whole = text.replace(/\\\n\s*/gu, '').replace(/\{(\w*)\}/gu, (_, constant) => {
+      if (!(constant in constants)) throw new Error(`error.rs: {${constant}} is not known`);
       return String(constants[constant]);
     });
-    return [numbers.get(name), whole];
+    return [[numbers.get(name), whole]];
   });
-  if (sentences.length !== numbers.size || numbers.size === 0) {
-    throw new Error(`error.rs: ${numbers.size} refusals and ${sentences.length} sentences were found`);
-  }
   return Object.fromEntries(sentences);
 }
 

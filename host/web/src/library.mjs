@@ -65,6 +65,11 @@ class Library {
     return this.#contents(this.#lend(this.#first, sheet));
   }
 
+  /** How often a sheet was written into. */
+  revision(sheet) {
+    return accepted(this.#calls.ostrubel_revision(...this.#lend(this.#first, sheet)));
+  }
+
   /** Old with newer merged into it: the larger value of a cell stays. A mask, if any, says which cells may change. */
   merge(old, newer, mask) {
     return this.#written(old, newer, MAX, mask);

@@ -137,8 +137,12 @@ function show() {
   const view = { names: state.names, asReports: byId('as-reports').checked };
   const [office, phone] = [chosen('office'), chosen('phone')];
   const { library } = state;
-  if (office) byId('before').append(picture('The office’s sheet before', library.contents(office), [], view));
-  if (phone) byId('phone-sheet').append(picture('The late phone’s sheet', library.contents(phone), [], view));
+  const draw = (id, text, sheet) => {
+    const title = `${text}, revision ${library.revision(sheet)}`;
+    byId(id).append(picture(title, library.contents(sheet), [], view));
+  };
+  if (office) draw('before', 'The office’s sheet before', office);
+  if (phone) draw('phone-sheet', 'The late phone’s sheet', phone);
   byId('shown').hidden = !office && !phone;
   if (office && phone) showMerge(office, phone, view);
   else if (office) say(`${state.office.name} is shown. Choose the late phone’s file to see the merge.`);
@@ -167,7 +171,7 @@ function showMerge(office, phone, view) {
   const losses = changesBetween(before, instead);
   byId('after').append(
     element('p', { id: 'after-count' }, `${count(changes.length, 'cell')} changed${kinds(changes)}.`),
-    picture('The office’s sheet after the merge', after, changes, view),
+    picture(`The office’s sheet after the merge, revision ${library.revision(merged)}`, after, changes, view),
     changeList(changes, view, 'is now'),
   );
   byId('overwrite').append(

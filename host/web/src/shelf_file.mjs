@@ -7,12 +7,9 @@ const COUNT_AT = 12;
 const WORDS_AT = 16;
 const SUM_BYTES = 4;
 
-/** The version of files whose sheets have the form that this library has. */
-export const VERSION = 1;
-
-/** What to do with a shelf of an earlier form. */
-export const CONVERT =
-  'A shelf of an earlier form is converted by the command ostrubel convert, and nothing of it is lost.';
+/** The version of files whose sheets have the form that this library has, and of those whose sheets have no revision. */
+export const VERSION = 2;
+const WITHOUT_REVISIONS = 1;
 
 /** A file that is not opened, and why. */
 export class FileProblem extends Error {}
@@ -22,7 +19,7 @@ export function isGuarded(bytes) {
   return MAGIC.every((letter, at) => bytes[at] === letter);
 }
 
-/** The words of a file with a guard. */
+/** The version and the words of a file with a guard. */
 export function readGuarded(bytes) {
   const view = new DataView(bytes.buffer, bytes.byteOffset, bytes.byteLength);
   const damaged = 'This shelf file is damaged or cut short: take a sound copy of it.';
@@ -33,11 +30,9 @@ export function readGuarded(bytes) {
   if (version > VERSION) {
     throw new FileProblem('This shelf file was written by a later version: open it with that.');
   }
-  if (version < VERSION) {
-    throw new FileProblem(`This shelf file has an earlier form. ${CONVERT}`);
-  }
+  if (version < WITHOUT_REVISIONS) throw new FileProblem(damaged);
   if (view.getUint32(COUNT_AT, true) * 4 !== end - WORDS_AT) throw new FileProblem(damaged);
-  return wordsOf(bytes.subarray(WORDS_AT, end));
+  return { version, shelf: wordsOf(bytes.subarray(WORDS_AT, end)) };
 }
 
 /** The most bytes that a file has. */
@@ -52,7 +47,7 @@ export function writeGuarded(shelf) {
   bytes.set(MAGIC);
   view.setUint32(VERSION_AT, VERSION, true);
   view.setUint32(COUNT_AT, shelf.length, true);
-  shelf.forEach((word, at) => view.setUint32(WORDS_AT + 4 * at, word, true));
+  bytes.set(bytesOf(shelf), WORDS_AT);
   const end = bytes.length - SUM_BYTES;
   view.setUint32(end, checksum(bytes.subarray(0, end)), true);
   return bytes;
@@ -64,20 +59,38 @@ export function wordsOf(bytes) {
   return Uint32Array.from({ length: Math.floor(bytes.length / 4) }, (_, at) => view.getUint32(4 * at, true));
 }
 
-/** The sheets of a shelf that the library has accepted, place by place; an empty place has no words. */
+/** The bytes of words. */
+export function bytesOf(words) {
+  const bytes = new Uint8Array(4 * words.length);
+  const view = new DataView(bytes.buffer);
+  words.forEach((word, at) => view.setUint32(4 * at, word, true));
+  return bytes;
+}
+
+/**
+ * The sheets of a shelf, place by place; an empty place has no words. Undefined where the counts do not fit the words,
+ * which is not so of a shelf that the library has accepted.
+ */
 export function sheetsOf(shelf, places) {
   const sheets = [];
-  for (let place = 0, at = 0; place < places; place++) {
+  let at = 0;
+  for (let place = 0; place < places; place++) {
     const count = shelf[at];
+    if (count === undefined || at + 1 + count > shelf.length) return undefined;
     sheets.push(shelf.slice(at + 1, at + 1 + count));
     at += 1 + count;
   }
-  return sheets;
+  return shelf.subarray(at).every((word) => word === 0) ? sheets : undefined;
+}
+
+/** The words that a shelf with these sheets needs. */
+export function wordsNeeded(sheets) {
+  return sheets.reduce((sum, sheet) => sum + 1 + sheet.length, 0);
 }
 
 /** The shelf with these sheets, of as many words as are given; undefined where they do not fit. */
 export function shelfOf(sheets, length) {
-  if (sheets.reduce((sum, sheet) => sum + 1 + sheet.length, 0) > length) return undefined;
+  if (wordsNeeded(sheets) > length) return undefined;
   const shelf = new Uint32Array(length);
   let at = 0;
   for (const sheet of sheets) {

@@ -4,7 +4,7 @@ import { mkdtempSync, rmSync, writeFileSync } from 'node:fs';
 import { tmpdir } from 'node:os';
 import { join } from 'node:path';
 
-const LONGEST_WAIT = 15000; // milliseconds
+const LONGEST_WAIT = 60000; // milliseconds
 
 /** A started browser with one page. */
 export class Browser {

@@ -19,13 +19,6 @@ export function sheet(rows, cols, entries) {
   return sheetsOf(shelf, limits.SLOTS)[0];
 }
 
-/** The bytes of words without a guard. */
-export function bare(words) {
-  const bytes = new Uint8Array(4 * words.length);
-  words.forEach((word, at) => new DataView(bytes.buffer).setUint32(4 * at, word, true));
-  return bytes;
-}
-
 /** The story: the office's reports, the cells that the phone has business with, the late phone's reports. */
 export const OFFICE = [[0, 0, 9101], [1, 3, 12402], [2, 1, 14053], [4, 2, 10151]];
 export const MASK = [[2, 1, 1], [3, 0, 1], [4, 2, 1]];

@@ -7,9 +7,9 @@ import { changesBetween, reportOf, shown } from '../src/changes.mjs';
 import { Refusal } from '../src/library.mjs';
 import { readNames } from '../src/names.mjs';
 import { openFile } from '../src/opened.mjs';
-import { checksum, FileProblem, isGuarded, readGuarded, sheetsOf, shelfOf, VERSION } from '../src/shelf_file.mjs';
-import { writeGuarded } from '../src/shelf_file.mjs';
-import { bare, library, limits, MASK, OFFICE, officeShelf, PHONE, sentences, sheet } from './files.mjs';
+import { bytesOf, checksum, FileProblem, isGuarded, readGuarded, sheetsOf } from '../src/shelf_file.mjs';
+import { shelfOf, VERSION, wordsNeeded, writeGuarded } from '../src/shelf_file.mjs';
+import { library, limits, MASK, OFFICE, officeShelf, PHONE, sentences, sheet } from './files.mjs';
 
 const open = (bytes) => openFile(library, limits, sentences, bytes);
 
@@ -55,7 +55,7 @@ test('sheets of other shapes are refused', () => {
 
 test('shelf files, guarded and bare', () => {
   const shelf = officeShelf();
-  for (const file of [writeGuarded(shelf), bare(shelf)]) {
+  for (const file of [writeGuarded(shelf), bytesOf(shelf)]) {
     const { sheets, shelfWords } = open(file);
     assert.equal(shelfWords, 256);
     assert.deepEqual(sheets.flatMap((words, place) => (words ? [place] : [])), [0, 2]);
@@ -64,7 +64,7 @@ test('shelf files, guarded and bare', () => {
   }
   assert.deepEqual(shelfOf(sheetsOf(shelf, limits.SLOTS), 256), shelf);
   assert.equal(shelfOf(sheetsOf(shelf, limits.SLOTS), 40), undefined);
-  assert.deepEqual(open(bare(new Uint32Array(8))).sheets, Array(8).fill(undefined));
+  assert.deepEqual(open(bytesOf(new Uint32Array(8))).sheets, Array(8).fill(undefined));
 });
 
 test('the guard is the one of the command', () => {
@@ -76,11 +76,44 @@ test('the guard is the one of the command', () => {
   if (crc32) assert.equal(checksum(file), crc32(file));
 });
 
-test('the version is the one that the command writes', (context) => {
-  const source = readFileSync(new URL('../../command/src/shelf_file.rs', import.meta.url), 'utf8');
-  const found = /const VERSION: u32 = (\d+);/u.exec(source);
-  if (!found) context.skip('the command writes no guard');
-  else assert.equal(VERSION, Number(found[1]));
+test('the version is the one that the command writes', () => {
+  const source = readFileSync(new URL('../../command/src/form.rs', import.meta.url), 'utf8');
+  const versions = [...source.matchAll(/^pub const WITH\w+: u32 = (\d+);$/gmu)].map(([, number]) => Number(number));
+  assert.deepEqual(versions, [VERSION - 1, VERSION]);
+});
+
+/** A shelf as it was before sheets had a revision, the two words in front. */
+function earlierShelf(shelf, length) {
+  const sheets = sheetsOf(shelf, limits.SLOTS).map((words) => words.subarray(words.length > 0 ? 2 : 0));
+  return shelfOf(sheets, length);
+}
+
+test('shelves and sheets of before there were revisions', () => {
+  const wanted = sheet(5, 4, OFFICE);
+  const earlier = earlierShelf(officeShelf(), 100);
+  const guarded = writeGuarded(earlier);
+  guarded[8] = VERSION - 1;
+  const { length } = guarded;
+  new DataView(guarded.buffer).setUint32(length - 4, checksum(guarded.subarray(0, length - 4)), true);
+  for (const file of [bytesOf(earlier), guarded]) {
+    const { sheets, shelfWords } = open(file);
+    assert.equal(shelfWords, 100);
+    assert.deepEqual(library.contents(sheets[0]), library.contents(wanted));
+    assert.equal(library.revision(sheets[0]), 0);
+    assert.equal(sheets.filter(Boolean).length, 2);
+  }
+  assert.deepEqual(library.contents(open(bytesOf(wanted.subarray(2))).sheets[0]), library.contents(wanted));
+  // one that was full has the words that it needs now
+  const full = earlier.subarray(0, wordsNeeded(sheetsOf(earlier, limits.SLOTS)));
+  assert.equal(open(bytesOf(full)).shelfWords, full.length + 4);
+  full[1] = 9;
+  assert.throws(() => open(bytesOf(full)), FileProblem);
+});
+
+test('revisions', () => {
+  const [office, phone] = [OFFICE, PHONE].map((entries) => sheet(5, 4, entries));
+  assert.deepEqual([office, phone].map((words) => library.revision(words)), [4, 3]);
+  assert.equal(library.revision(library.merge(office, phone)), 5);
 });
 
 test('every changed bit and every cut of a guarded file is refused', () => {
@@ -95,8 +128,8 @@ test('every changed bit and every cut of a guarded file is refused', () => {
   }
 });
 
-test('a later version, and an older one, say so', () => {
-  for (const [version, text] of [[VERSION + 1, /later version/u], [VERSION - 1, /earlier form/u]]) {
+test('a later version, and none, say so', () => {
+  for (const [version, text] of [[VERSION + 1, /later version/u], [0, /damaged/u]]) {
     const file = writeGuarded(new Uint32Array(8));
     const view = new DataView(file.buffer);
     view.setUint32(8, version, true);
@@ -149,7 +182,7 @@ test('reports', () => {
 });
 
 test('each refusal has its sentence', () => {
-  assert.deepEqual(Object.keys(sentences).map(Number), [1, 2, 3, 4, 5, 6, 7, 8, 9, 10, 11, 12, 13, 15]);
+  assert.deepEqual(Object.keys(sentences).map(Number), [1, 3, 4, 5, 6, 7, 8, 9, 10, 11, 12, 13, 15]);
   assert.equal(sentences[13], 'The place holds no sheet: lay one there first.');
   assert.match(sentences[8], /1 to 1000 rows/u);
   for (const text of Object.values(sentences)) assert.doesNotMatch(text, /[{}\\]/u);

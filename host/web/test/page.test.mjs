@@ -6,9 +6,9 @@ import { tmpdir } from 'node:os';
 import { dirname, join } from 'node:path';
 import test, { after, before, beforeEach } from 'node:test';
 import { pathToFileURL } from 'node:url';
-import { readGuarded, sheetsOf, writeGuarded } from '../src/shelf_file.mjs';
+import { bytesOf, readGuarded, sheetsOf, writeGuarded } from '../src/shelf_file.mjs';
 import { Browser } from './browser.mjs';
-import { bare, library, limits, MASK, NAMES, OFFICE, officeShelf, page, PHONE, sentences, sheet } from './files.mjs';
+import { library, limits, MASK, NAMES, OFFICE, officeShelf, page, PHONE, sentences, sheet } from './files.mjs';
 
 const folder = mkdtempSync(join(tmpdir(), 'ostrubel-files-'));
 const saved = mkdtempSync(join(tmpdir(), 'ostrubel-saved-'));
@@ -66,7 +66,7 @@ beforeEach(async () => {
 
 test('a shelf with a guard and a late phone’s sheet', async () => {
   await browser.chooseFile('#office', file('office.shelf', writeGuarded(officeShelf())));
-  await shows('before', 'before. 5 rows, 4 columns, 4 entries.');
+  await shows('before', 'before, revision 4. 5 rows, 4 columns, 4 entries.');
   await browser.chooseFile('#names', file('keys.names', NAMES));
   await browser.chooseFile('#phone', file('phone.sheet', library.writeSheet(sheet(5, 4, PHONE))));
   await shows('after-count', '2 cells changed: 1 new, 1 newer.');
@@ -85,7 +85,7 @@ test('a shelf with a guard and a late phone’s sheet', async () => {
   const expected = library.merge(sheet(5, 4, OFFICE), sheet(5, 4, PHONE), sheet(5, 4, MASK));
   assert.deepEqual(merged, expected);
   await browser.value("document.getElementById('save-shelf').click()");
-  const shelf = readGuarded(await savedFile('office-merged.shelf'));
+  const { shelf } = readGuarded(await savedFile('office-merged.shelf'));
   assert.equal(shelf.length, 256);
   const sheets = sheetsOf(shelf, limits.SLOTS);
   assert.deepEqual([sheets[0], sheets[2]], [expected, sheet(5, 4, MASK)]);
@@ -93,8 +93,8 @@ test('a shelf with a guard and a late phone’s sheet', async () => {
 
 test('bare shelf files of both', async () => {
   const phone = library.lay(new Uint32Array(64), 3, 5, 4, PHONE);
-  await browser.chooseFile('#office', file('bare.shelf', bare(officeShelf())));
-  await browser.chooseFile('#phone', file('phone.shelf', bare(phone)));
+  await browser.chooseFile('#office', file('bare.shelf', bytesOf(officeShelf())));
+  await browser.chooseFile('#phone', file('phone.shelf', bytesOf(phone)));
   await shows('after-count', '2 cells changed');
   assert.equal(await browser.value("document.getElementById('phone-place').value"), '3');
 });
