@@ -7,7 +7,7 @@ use second::compare::{judge_lent, judge_list, see_lent, see_list, Seen};
 use second::fault::{self, Fault};
 use second::model::{Model, SOUND};
 use second::rng::Rng;
-use second::{describe, doors, files, full_rows, generate_lent, generate_store, merges, program, shrink};
+use second::{days, describe, doors, files, full_rows, generate_lent, generate_store, merges, program, shrink};
 use std::collections::{BTreeMap, BTreeSet};
 use std::process::ExitCode;
 use std::time::Instant;
@@ -183,6 +183,7 @@ fn compare_all(arguments: &Arguments) -> ExitCode {
         compare_merges(arguments)?;
         compare_files(arguments)?;
         compare_doors(arguments)?;
+        compare_days(arguments)?;
         compare_random(arguments)
     };
     match all() {
@@ -246,6 +247,28 @@ fn compare_doors(arguments: &Arguments) -> Result<(), Disagreement> {
         }
     }
     println!("seed {seed}: {lists} calls of keys behind doors, by codes {codes:?}: no disagreement");
+    Ok(())
+}
+
+/// A day sheet over a base sheet: calls, and lists of rewrites held against a plain grid; as many as calls of keys.
+fn compare_days(arguments: &Arguments) -> Result<(), Disagreement> {
+    let &Arguments { seed, lists, .. } = arguments;
+    let mut codes: BTreeMap<&'static str, BTreeMap<u32, u64>> = BTreeMap::new();
+    for number in 0..lists {
+        let judged = days::day_call(&mut Rng::of_case(seed, 5, number)).judge();
+        let listed = days::list(&mut Rng::of_case(seed, 6, number));
+        match judged.and_then(|judged| listed.map(|()| judged)) {
+            Ok((name, answer)) => {
+                let code = if name == "show" { 0 } else { code_of(answer) };
+                *codes.entry(name).or_default().entry(code).or_default() += 1;
+            }
+            Err(text) => {
+                println!("seed {seed}, day {number}: {text}");
+                return Err(Disagreement);
+            }
+        }
+    }
+    println!("seed {seed}: {lists} calls and {lists} lists on a day sheet, by codes {codes:?}: no disagreement");
     Ok(())
 }
 
