@@ -15,19 +15,29 @@ use Rattle.answers.specs.Refusals.{accepted, refused, tooManyEntries, insuffici
 use Rattle.words.specs.Words.{overwrite}
 use Rattle.grid.specs.Grid.{Grid}
 use Rattle.grid.specs.Entries.{entryCount}
-use Rattle.matrix.specs.Layout.{rows, sizeOf}
-use Rattle.encoding.specs.Encode.{encode, gridSize, writtenOver}
-use Rattle.encoding.proofs.Canonical.{encode-length}
+use Rattle.grid.specs.Revision.{updating, revisionAfter}
+use Rattle.matrix.specs.Layout.{revision, rows, sizeOf}
+use Rattle.matrix.specs.HeaderWords.{withRevision}
+use Rattle.encoding.specs.Encode.{encode, gridSize}
+use Rattle.encoding.proofs.Canonical.{encode-length, encode-revised}
 use Rattle.operations.specs.declared.Call.{Call}
 use Rattle.requests.specs.Refusal.{inputRefusal, lentRefusal, lentFinal}
 use Rattle.compute.proofs.Progress.{final-rows}
-use Rattle.calls.specs.Completion.{Attempted, Committed}
+use Rattle.calls.specs.Completion.{updatedTo, Attempted, Committed}
 
--- the writing of a grid over the front of words
-over-front : (g : Grid) (c : List ℕ) → overwrite 0 (encode g) c ≡ writtenOver g c
+-- the writing of a grid over the front of words, with the revision after theirs
+over-front : (g : Grid) (c : List ℕ)
+    → withRevision (revisionAfter updating (revision c)) (overwrite 0 (encode g) c) ≡ updatedTo g c
 unfolding overwrite
 over-front g c =
-    ap (λ (k : ℕ). encode g ++ drop k c) (zero-add (length (encode g)) ∙ encode-length g)
+    let v = revisionAfter updating (revision c) in
+    ap (λ (k : ℕ). withRevision v (encode g ++ drop k c)) (zero-add (length (encode g)) ∙ encode-length 0 g)
+    ∙ encode-revised 0 v g (drop (gridSize g) c)
+
+-- the words that `commit` leaves, from what its calls did
+pub copied-revised : {v u k l : ℕ} {x c′ : List ℕ} (w c : List ℕ) → c′ ≡ withRevision v x → v ≡ u → x ≡ overwrite 0 (take k w) c
+    → k ≡ l → c′ ≡ withRevision u (overwrite 0 (take l w) c)
+copied-revised w c p q r s = p ∙ rw (q, r, s)
 
 module _ (call : Call) (a b m c is js : List ℕ) (n : ℕ) (e : n ≡ entryCount (lentFinal call a b m c is js)) where
   -- the rows of the final C are those of old C, so its size is known from its entries
@@ -40,7 +50,7 @@ module _ (call : Call) (a b m c is js : List ℕ) (n : ℕ) (e : n ≡ entryCoun
   pub size-fits : (w : List ℕ) → take (gridSize (lentFinal call a b m c is js)) w ≡ encode (lentFinal call a b m c is js)
       → sizeOf (rows c) n ≤ length w
   size-fits w t =
-      let l = encode-length (lentFinal call a b m c is js) in
+      let l = encode-length 0 (lentFinal call a b m c is js) in
       let k = sym (length-take (gridSize (lentFinal call a b m c is js)) w) ∙ ap length t in
       let s = size-of in omega arith
 
@@ -67,6 +77,10 @@ module _ (call : Call) (a b m c is js : List ℕ) (work : ℕ) where
     unfolding lentRefusal
     attempted-done n w answer c′ e l t k = go (decLe (gridSize g) (length c))
       where
+        -- words copied over the front of C
+        copied : List ℕ → List ℕ
+        copied x = withRevision (revisionAfter updating (revision c)) (overwrite 0 x c)
+
         size : sizeOf (rows c) n ≡ gridSize g
         size = size-of call a b m c is js n e
 
@@ -79,7 +93,7 @@ module _ (call : Call) (a b m c is js : List ℕ) (work : ℕ) where
             record {
               answer-is = q ∙ rw (z, le-ltb _ _ few, le-ltb _ _ f, e);
               words-are = k .words-are ∙ ap (λ (x : List ℕ). cond (eqb (answer .code) 0) x c)
-                  (ap (λ (x : ℕ). overwrite 0 (take x w) c) size ∙ ap (λ (x : List ℕ). overwrite 0 x c) t ∙ over-front g c);
+                  (ap (λ (x : ℕ). copied (take x w)) size ∙ ap copied t ∙ over-front g c);
             }
         go (no f) =
             let o : length c < gridSize g = omega arith in

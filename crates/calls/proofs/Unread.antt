@@ -10,7 +10,6 @@ use Rattle.answers.specs.Refusals.{unlessRefused}
 use Rattle.conditions.specs.Tests.{_and_}
 use Rattle.grid.specs.Grid.{Grid}
 use Rattle.matrix.specs.Layout.{gridOf}
-use Rattle.encoding.specs.Encode.{writtenOver}
 use Rattle.operations.specs.declared.Call.{Call}
 use Rattle.operations.specs.declared.Needs.{Needs}
 use Rattle.operations.specs.declared.Shapes.{Shapes}
@@ -31,7 +30,7 @@ use Rattle.operations.specs.Calls.{
 use Rattle.operations.proofs.Results.{shapes-unread, second-unread, needs-unread, lists-unread}
 use Rattle.refusals.specs.Cases.{firstOf, answerFor}
 use Rattle.requests.specs.Refusal.{inputRefusal, outputRefusal, lentRefusal, lentFinal}
-use Rattle.calls.specs.Completion.{Completed}
+use Rattle.calls.specs.Completion.{updatedTo, Completed}
 
 -- the answer and the words, by the refusal of the inputs and the final C
 made-same : (call : Call) (a b b′ m c is is′ js js′ w : List ℕ)
@@ -48,7 +47,7 @@ made-same call a b b′ m c is is′ js js′ w e f answer c′ w′ h = record 
         (lentFinal call a b m c is js)) e
         ∙ ap (λ (g : Grid). answerFor (firstOf (inputRefusal call a b′ m c is′ js′ (length w))
         (outputRefusal g (length c))) g) f;
-    words-are = h .attempted .words-are ∙ ap (λ (g : Grid). unlessRefused answer c (writtenOver g c)) f;
+    words-are = h .attempted .words-are ∙ ap (λ (g : Grid). unlessRefused answer c (updatedTo g c)) f;
   };
   cleared = h .cleared;
 }

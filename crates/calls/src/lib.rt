@@ -103,7 +103,7 @@ fn attempt<'a>(
     }
 }
 
-// The matrix of n entries at the front of the workspace is copied over C, if it fits.
+// The matrix of n entries at the front of the workspace is copied over C, if it fits, with the revision after that of C.
 fn commit(c: &mut [u32], work: &[u32], n: usize) -> Answer
     requires { ⌜ Header (now c) ⌝ ∗ ⌜ n ≤ maxEntries ⌝ ∗ ⌜ sizeOf (rows (now c)) n ≤ length (now work) ⌝ }
     ensures { λ r. ⌜ Committed (now (c .entry)) (now (work .entry)) n r (now (c .exit)) ⌝ }
@@ -115,7 +115,9 @@ fn commit(c: &mut [u32], work: &[u32], n: usize) -> Answer
             entries: 0,
         };
     }
+    let revision = matrix::next_revision(matrix::revision(&c[..]));
     words::copy_into(c, 0, &work[..size]);
+    matrix::set_revision(c, revision);
     Answer {
         code: 0,
         entries: n as u32,

@@ -49,5 +49,5 @@ write-plain w m c t p =
 -- what is computed of one grid is computed of another with the same cells
 pub computed-same : (r : Outcome) (g h : Grid) (w : List ℕ) → Same g h → Computed r g w → Computed r h w
 computed-same (Done n) g h w s (e, few, words) =
-    (e ∙ same-count g h s, few, ap (λ (k : ℕ). take k w) (sym (same-size g h s)) ∙ words ∙ encode-ext g h s)
+    (e ∙ same-count g h s, few, ap (λ (k : ℕ). take k w) (sym (same-size g h s)) ∙ words ∙ encode-ext 0 g h s)
 computed-same Full g h w s f = omega (arith, same-count g h s)

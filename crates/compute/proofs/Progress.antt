@@ -207,7 +207,7 @@ module _ (call : Call) (a b m c is js : List ℕ) where
           e ∙ ap (λ (x : ℕ). finished x (layout.cols c) n (take maxMatrixWords w)) q
           ∙ ap (λ (x : ℕ). finished (g .rows) x n (take maxMatrixWords w)) (sym final-cols) in
           let r : region ≡ writtenOver g region = rw y (finished-written g n (take maxMatrixWords w) o s) in
-          let v = encode-length g in
+          let v = encode-length 0 g in
           let d = ap length r ∙ length-append (encode g) (drop (gridSize g) region) in (
             s .count,
             p .few,

@@ -56,5 +56,5 @@ answer-written hand allowance {locks} {cabinets} {doors = doors} h x =
     let g = doorVector locks cabinets hand allowance in
     record {
       count = x .count ∙ same-count (vectorOf doors) g s;
-      words = rw (encode-ext (vectorOf doors) g s, same-size (vectorOf doors) g s) at (x .words);
+      words = rw (encode-ext 0 (vectorOf doors) g s, same-size (vectorOf doors) g s) at (x .words);
     }

@@ -15,12 +15,14 @@ use Rattle.grid.specs.Position.{entryPosition}
 use Rattle.grid.specs.Update.{withCell}
 use Rattle.grid.proofs.Gather.{gather-length, flatten-length, flatten-same}
 use Rattle.matrix.specs.Layout.{
+  revisionAt,
   startsAt,
   countAt,
   columnsAt,
   countAgainAt,
   valuesAt,
   sizeOf,
+  revision,
   rows,
   cols,
   start,
@@ -29,12 +31,13 @@ use Rattle.matrix.specs.Layout.{
   cellOf,
   gridOf,
 }
+use Rattle.matrix.specs.HeaderWords.{touched}
 use Rattle.matrix.proofs.HeaderWords.{header-own, header-recounted}
-use Rattle.encoding.specs.Encode.{entriesBefore, gridSize, encode, writtenOver}
+use Rattle.encoding.specs.Encode.{entriesBefore, gridSize, encodeRevised, writtenRevised}
 use Rattle.encoding.proofs.Decoded.{valid-columns, valid-values}
-use Rattle.encoding.proofs.Canonical.{valid-before, valid-entries}
+use Rattle.encoding.proofs.Canonical.{encode-touched, valid-before, valid-entries}
 use Rattle.encoding.proofs.Assembled.{Assembled, assembled}
-use Rattle.edits.specs.Changes.{InMatrix}
+use Rattle.edits.specs.Changes.{InMatrix, updated}
 use Rattle.edits.proofs.Around.{
   cellCount,
   one-length,
@@ -235,6 +238,13 @@ module _ {s : List ℕ} {i j p : ℕ} {c : Cell} (m : InMatrix s i j) (e : cellO
         ext-getD 0 (drop a t) (drop a s) (omega (arith, length-drop a t, length-drop a s, h .same))
         (λ k l. getD-drop a t k 0 ∙ h .spare (a + k) (omega (arith, count-is)) ∙ sym (getD-drop a s k 0))
 
-    -- so the words are that writing, and then the spare words
-    pub changed-written : t ≡ writtenOver g′ s
-    changed-written = assembled g′ t changed-assembled ∙ ap (λ (l : List ℕ). encode g′ ++ l) spare-kept
+    -- so the words are that writing, with the revision as it was, and then the spare words; and with the next revision
+    -- they are what the edits leave
+    pub changed-written : touched t ≡ updated s i j x
+    changed-written =
+        let v = revision s in
+        let kept : t ≡ writtenRevised v g′ s =
+        assembled g′ t changed-assembled
+        ∙ ap (λ (u : ℕ). writtenRevised u g′ t) (h .head revisionAt (omega arith))
+        ∙ ap (λ (l : List ℕ). encodeRevised v g′ ++ l) spare-kept in
+        ap touched kept ∙ encode-touched v g′ (drop (gridSize g′) s)

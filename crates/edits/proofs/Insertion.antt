@@ -9,10 +9,9 @@ use Rattle.words.specs.Words.{at}
 use Rattle.grid.specs.declared.Cell.the-variants.{Absent, Present}
 use Rattle.grid.specs.Entries.{one}
 use Rattle.grid.specs.Position.{AbsentAt}
-use Rattle.grid.specs.Update.{withCell}
 use Rattle.matrix.specs.Layout.{startsAt, countAt, columnsAt, countAgainAt, valuesAt, sizeOf, rows, entries, gridOf}
-use Rattle.encoding.specs.Encode.{writtenOver}
-use Rattle.edits.specs.Changes.{InMatrix, HasSpace, PutBounds, moved, spread, entryPut, raised, Mapped}
+use Rattle.matrix.specs.HeaderWords.{touched}
+use Rattle.edits.specs.Changes.{InMatrix, updated, HasSpace, PutBounds, moved, spread, entryPut, raised, Mapped}
 use Rattle.edits.proofs.Place.{absent-within}
 use Rattle.edits.proofs.Moves.{moved-length, moved-here, moved-before, moved-after}
 use Rattle.edits.proofs.Located.{located-one}
@@ -176,5 +175,5 @@ module _ {s w : List ℕ} {i j p : ℕ} (m : InMatrix s i j) (place : AbsentAt (
 
   -- so they are the writing of the grid with the entry
   pub inserted-written : (v : ℕ)
-      → entryPut (rows s) (entries s) p j v w ≡ writtenOver (withCell (gridOf s) i j (Present v)) s
+      → touched (entryPut (rows s) (entries s) p j v w) ≡ updated s i j (Present v)
   inserted-written v = changed-written m (place .cell) (place .position) (inserted v)

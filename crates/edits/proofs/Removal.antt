@@ -9,10 +9,9 @@ use Rattle.words.specs.Words.{at}
 use Rattle.grid.specs.declared.Cell.the-variants.{Absent, Present}
 use Rattle.grid.specs.Entries.{one}
 use Rattle.grid.specs.Position.{PresentAt}
-use Rattle.grid.specs.Update.{withCell}
 use Rattle.matrix.specs.Layout.{startsAt, countAt, columnsAt, countAgainAt, valuesAt, sizeOf, rows, entries, gridOf}
-use Rattle.encoding.specs.Encode.{writtenOver}
-use Rattle.edits.specs.Changes.{InMatrix, TakeBounds, moved, closed, entryTaken, lowered, Mapped}
+use Rattle.matrix.specs.HeaderWords.{touched}
+use Rattle.edits.specs.Changes.{InMatrix, updated, TakeBounds, moved, closed, entryTaken, lowered, Mapped}
 use Rattle.edits.proofs.Place.{present-below, later-starts}
 use Rattle.edits.proofs.Moves.{moved-length, moved-here, moved-before, moved-after}
 use Rattle.edits.proofs.Located.{located-none}
@@ -154,5 +153,5 @@ module _ {s w : List ℕ} {i j p : ℕ} (m : InMatrix s i j) (place : PresentAt 
       }
 
   -- so they are the writing of the grid without the entry
-  pub removed-written : entryTaken (rows s) (entries s) p w ≡ writtenOver (withCell (gridOf s) i j Absent) s
+  pub removed-written : touched (entryTaken (rows s) (entries s) p w) ≡ updated s i j Absent
   removed-written = changed-written m (place .cell) (place .position) removed

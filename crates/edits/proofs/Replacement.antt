@@ -9,10 +9,9 @@ use Rattle.words.specs.Words.{at}
 use Rattle.grid.specs.declared.Cell.the-variants.{Present}
 use Rattle.grid.specs.Entries.{one}
 use Rattle.grid.specs.Position.{PresentAt}
-use Rattle.grid.specs.Update.{withCell}
 use Rattle.matrix.specs.Layout.{startsAt, columnsAt, valuesAt, rows, entries, gridOf}
-use Rattle.encoding.specs.Encode.{writtenOver}
-use Rattle.edits.specs.Changes.{InMatrix}
+use Rattle.matrix.specs.HeaderWords.{touched}
+use Rattle.edits.specs.Changes.{InMatrix, updated}
 use Rattle.edits.proofs.Place.{present-below}
 use Rattle.edits.proofs.Located.{located-one, located-moved}
 use Rattle.edits.proofs.Change.{Changed, own-column, changed-written}
@@ -53,5 +52,5 @@ module _ {s : List ℕ} {i j p : ℕ} (m : InMatrix s i j) (place : PresentAt (g
       }
 
   -- so they are the writing of the grid with the value
-  pub replaced-written : (v : ℕ) → set s valueAt v ≡ writtenOver (withCell (gridOf s) i j (Present v)) s
+  pub replaced-written : (v : ℕ) → touched (set s valueAt v) ≡ updated s i j (Present v)
   replaced-written v = changed-written m (place .cell) (place .position) (replaced v)

@@ -5,8 +5,24 @@ use mathlib.Core.List.{List}
 use lib.ListN.{length, set}
 use Rattle.limits.specs.Limits.{maxRows, maxEntries}
 use Rattle.words.specs.Words.{at, part, overwrite}
-use Rattle.matrix.specs.Layout.{countAt, columnsAt, countAgainAt, valuesAt, sizeOf, rows, cols, entries, size}
+use Rattle.grid.specs.declared.Cell.{Cell}
+use Rattle.grid.specs.Update.{withCell}
+use Rattle.grid.specs.Revision.{updating, revisionAfter}
+use Rattle.matrix.specs.Layout.{
+  countAt,
+  columnsAt,
+  countAgainAt,
+  valuesAt,
+  sizeOf,
+  revision,
+  rows,
+  cols,
+  entries,
+  size,
+  gridOf,
+}
 use Rattle.matrix.specs.Facts.{Matrix}
+use Rattle.encoding.specs.Encode.{writtenRevised}
 
 -- a row and a column of a valid matrix
 pub record InMatrix (s : List ℕ) (i j : ℕ) : Type 0 where
@@ -18,6 +34,11 @@ pub record InMatrix (s : List ℕ) (i j : ℕ) : Type 0 where
 pub record HasSpace (s : List ℕ) : Type 0 where
   pub few : entries s < maxEntries
   pub space : size s + 2 ≤ length s
+
+-- the words with the cell at row i and column j changed to x, and the next revision: "Each accepted call that writes into a
+-- sheet adds one to that sheet's revision"
+abbrev pub updated : List ℕ → ℕ → ℕ → Cell → List ℕ
+updated s i j x = writtenRevised (revisionAfter updating (revision s)) (withCell (gridOf s) i j x) s
 
 abbrev pub raised : ℕ → ℕ
 raised x = x + 1

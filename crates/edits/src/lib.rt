@@ -1,4 +1,4 @@
-// One entry of a valid matrix, changed in place.
+// One entry of a valid matrix, changed in place, and the revision with it.
 use matrix::layout::COLUMNS_PAST;
 use matrix::layout::COUNT_AGAIN_PAST;
 use matrix::layout::COUNT_PAST;
@@ -9,46 +9,44 @@ ghost use mathlib.Core.Path.{_≡_};
 ghost use Rattle.limits.specs.Limits.{maxEntries};
 ghost use Rattle.grid.specs.declared.Cell.the-variants.{Absent, Present};
 ghost use Rattle.grid.specs.Position.{AbsentAt, PresentAt};
-ghost use Rattle.grid.specs.Update.{withCell};
 ghost use Rattle.matrix.specs.Layout.{gridOf};
-ghost use Rattle.encoding.specs.Encode.{writtenOver};
 ghost use Rattle.edits.specs.Changes.{InMatrix, HasSpace, PutBounds, entryPut, TakeBounds, entryTaken};
-ghost use Rattle.edits.specs.Changes.{raised, lowered, Mapped, Bounded};
+ghost use Rattle.edits.specs.Changes.{updated, raised, lowered, Mapped, Bounded};
 
 // The entry of row i and column j, at position p, takes the value v.
 pub fn replace_value(words: &mut [u32], i: usize, j: u32, p: usize, v: u32)
     requires { ⌜ InMatrix (now words) i j ⌝ ∗ ⌜ PresentAt (gridOf (now words)) i j p ⌝ }
-    ensures { λ _. ⌜ now (words .exit) ≡ writtenOver (withCell (gridOf (now (words .entry))) i j (Present v))
-        (now (words .entry)) ⌝ }
+    ensures { λ _. ⌜ now (words .exit) ≡ updated (now (words .entry)) i j (Present v) ⌝ }
 {
     let r = words[ROWS_AT] as usize;
     let n = words[r + COUNT_PAST] as usize;
     words[r + n + VALUES_PAST + p] = v;
+    matrix::touch(words);
 }
 
 // Row i and column j, which has no entry, gets one with the value v, at position p. Each word is moved at most once.
 pub fn insert_entry(words: &mut [u32], i: usize, j: u32, p: usize, v: u32)
     requires { ⌜ InMatrix (now words) i j ⌝ ∗ ⌜ AbsentAt (gridOf (now words)) i j p ⌝
         ∗ ⌜ HasSpace (now words) ⌝ }
-    ensures { λ _. ⌜ now (words .exit) ≡ writtenOver (withCell (gridOf (now (words .entry))) i j (Present v))
-        (now (words .entry)) ⌝ }
+    ensures { λ _. ⌜ now (words .exit) ≡ updated (now (words .entry)) i j (Present v) ⌝ }
 {
     let r = words[ROWS_AT] as usize;
     let n = words[r + COUNT_PAST] as usize;
     raise_words(words, i + 1 + STARTS_AT, r + 1 + STARTS_AT);
     put_entry(words, r, n, p, j, v);
+    matrix::touch(words);
 }
 
 // Row i and column j loses its entry, at position p. Each word is moved at most once.
 pub fn remove_entry(words: &mut [u32], i: usize, j: u32, p: usize)
     requires { ⌜ InMatrix (now words) i j ⌝ ∗ ⌜ PresentAt (gridOf (now words)) i j p ⌝ }
-    ensures { λ _. ⌜ now (words .exit) ≡ writtenOver (withCell (gridOf (now (words .entry))) i j Absent)
-        (now (words .entry)) ⌝ }
+    ensures { λ _. ⌜ now (words .exit) ≡ updated (now (words .entry)) i j Absent ⌝ }
 {
     let r = words[ROWS_AT] as usize;
     let n = words[r + COUNT_PAST] as usize;
     lower_words(words, i + 1 + STARTS_AT, r + 1 + STARTS_AT);
     take_entry(words, r, n, p);
+    matrix::touch(words);
 }
 
 // In a matrix of r rows and n entries, room is made at position p, and the entry and the two counts are written. The

@@ -11,6 +11,9 @@ use Rattle.words.proofs.Parts.{length-part, part-cons, part-at}
 use Rattle.grid.specs.Grid.{Grid}
 use Rattle.grid.specs.Entries.{gridColumns, gridValues, entryCount}
 use Rattle.matrix.specs.Layout.{
+  revisionCountAt,
+  revisionAt,
+  shapeCountAt,
   rowsAt,
   colsAt,
   startCountAt,
@@ -19,6 +22,7 @@ use Rattle.matrix.specs.Layout.{
   columnsAt,
   countAgainAt,
   valuesAt,
+  revision,
   rows,
   cols,
   start,
@@ -30,9 +34,10 @@ use Rattle.matrix.proofs.HeaderWords.{
   headed-columns,
   headed-values,
   headed-spare,
+  headed-revision,
   headed-words,
 }
-use Rattle.encoding.specs.Encode.{entriesBefore, gridStarts, encode, gridSize, writtenOver}
+use Rattle.encoding.specs.Encode.{entriesBefore, gridStarts, encode, gridSize, writtenRevised, writtenOver}
 use Rattle.encoding.proofs.Sections.{section-made}
 use Rattle.encoding.proofs.GridSections.{starts-are}
 use Rattle.encoding.proofs.Encoded.{encode-sections}
@@ -50,6 +55,10 @@ pub record Assembled (g : Grid) (s : List ℕ) : Type 0 where
   pub header : HeaderOf (g .rows) (g .cols) (entryCount g) s
 
 module _ (g : Grid) (s : List ℕ) (h : Assembled g s) where
+  -- the revision's section
+  revised : part revisionAt shapeCountAt s ≡ revision s ∷ []
+  revised = part-cons revisionAt shapeCountAt s (omega arith) (omega arith)
+
   -- the shape's section
   shape : part rowsAt startCountAt s ≡ g .rows ∷ g .cols ∷ []
   shape =
@@ -66,21 +75,23 @@ module _ (g : Grid) (s : List ℕ) (h : Assembled g s) where
       (λ i l. part-at startsAt e i s (omega arith) ∙ rw (add-comm startsAt i) (h .sections .starts i l))
 
   -- the sections one after the other are the writing
-  pub assembled : s ≡ writtenOver g s
+  pub assembled : s ≡ writtenRevised (revision s) g s
   assembled =
       let r = g .rows in
       let n = entryCount g in
-      section-made 0 rowsAt startCountAt s refl (omega arith) (omega arith) .here
+      section-made revisionCountAt revisionAt shapeCountAt s refl (omega arith) (omega arith) .here
       ∙ rw (
+        section-made shapeCountAt rowsAt startCountAt s refl (omega arith) (omega arith) .here,
         section-made startCountAt startsAt (countAt r) s refl (omega arith) (omega arith) .here,
         section-made (countAt r) (columnsAt r) (countAgainAt r n) s (omega arith) (omega arith) (omega arith) .here,
         section-made (countAgainAt r n) (valuesAt r n) (gridSize g) s (omega arith) (omega arith) (omega arith) .here,
+        revised,
         shape,
         starts-section,
         h .sections .columns,
         h .sections .values,
       )
-      (sym (encode-sections g (drop (gridSize g) s)))
+      (sym (encode-sections (revision s) g (drop (gridSize g) s)))
 
 -- sections in their places, with the header written
 module _ {g : Grid} {w : List ℕ} (h : InPlace g w) where
@@ -103,8 +114,14 @@ module _ {g : Grid} {w : List ℕ} (h : InPlace g w) where
         header = headed-words r c n w (h .fits);
       }
 
-  -- are the writing of the grid, and then what lay behind them
+  -- are the writing of the grid, made anew
+  pub headed-anew : whole ≡ writtenOver g whole
+  headed-anew =
+      assembled g whole headed-assembled
+      ∙ ap (λ (v : ℕ). writtenRevised v g whole) (headed-revision (g .rows) (g .cols) (entryCount g) w (h .fits))
+
+  -- and then what lay behind them
   pub headed-written : whole ≡ writtenOver g w
   headed-written =
-      assembled g whole headed-assembled
+      headed-anew
       ∙ ap (λ (l : List ℕ). encode g ++ l) (headed-spare (g .rows) (g .cols) (entryCount g) w (h .fits))

@@ -15,14 +15,15 @@ use Rattle.grid.specs.Grid.{Grid, Same}
 use Rattle.grid.specs.Entries.{column, value, one, gather, flatten, gridColumns, gridValues}
 use Rattle.grid.proofs.Gather.{flatten-grows}
 use Rattle.rows.specs.Row.{lookup}
-use Rattle.matrix.specs.Layout.{size, rowColumns, rowValues, valuesFrom, cellOf, gridOf}
+use Rattle.matrix.specs.Layout.{revision, size, rowColumns, rowValues, valuesFrom, cellOf, gridOf}
 use Rattle.matrix.specs.Valid.{valid}
-use Rattle.encoding.specs.Encode.{entriesBefore, counted, tabulate, gridStarts, encode, Within}
+use Rattle.encoding.specs.Encode.{entriesBefore, counted, tabulate, gridStarts, encodeRevised, Within}
 use Rattle.encoding.specs.OneWriting.{AreWords, ValuesAreWords, matrixWords, OneWriting}
 use Rattle.encoding.proofs.GridSections.{starts-length, values-length}
 use Rattle.encoding.proofs.Canonical.{
   encode-valid,
   encode-length,
+  encode-revision,
   encode-same,
   encode-ext,
   valid-within,
@@ -31,16 +32,16 @@ use Rattle.encoding.proofs.Canonical.{
 }
 
 -- the words of a valid matrix are the writing of its grid
-words-encoded : (s : List ℕ) → valid s ≡ true → matrixWords s ≡ encode (gridOf s)
+words-encoded : (s : List ℕ) → valid s ≡ true → matrixWords s ≡ encodeRevised (revision s) (gridOf s)
 words-encoded s v =
     ap (take (size s)) (valid-encoded s v)
-    ∙ take-at (encode (gridOf s)) (drop (size s) s) (size s) (valid-size s v)
+    ∙ take-at (encodeRevised (revision s) (gridOf s)) (drop (size s) s) (size s) (valid-size (revision s) s v)
 
 -- grids whose writings begin the same words agree: both are the grid that the words hold
-same-from-words : (g h : Grid) (t u : List ℕ) → encode g ++ t ≡ encode h ++ u → Same g h
-same-from-words g h t u e =
-    let p = encode-same g t in
-    let q = encode-same h u in
+same-from-words : (v w : ℕ) (g h : Grid) (t u : List ℕ) → encodeRevised v g ++ t ≡ encodeRevised w h ++ u → Same g h
+same-from-words v w g h t u e =
+    let p = encode-same v g t in
+    let q = encode-same w h u in
     let rows : g .rows ≡ h .rows = sym (p .rows) ∙ ap (λ (l : List ℕ). gridOf l .rows) e ∙ q .rows in
     let cols : g .cols ≡ h .cols = sym (p .cols) ∙ ap (λ (l : List ℕ). gridOf l .cols) e ∙ q .cols in
     record {
@@ -49,6 +50,10 @@ same-from-words g h t u e =
       cell = λ i j l m.
           sym (p .cell i j (omega arith) (omega arith)) ∙ ap (λ (w : List ℕ). cellOf w i j) e ∙ q .cell i j l m;
     }
+
+-- and so do their revisions
+revision-from-words : (v w : ℕ) (g h : Grid) (t u : List ℕ) → encodeRevised v g ++ t ≡ encodeRevised w h ++ u → v ≡ w
+revision-from-words v w g h t u e = sym (encode-revision v g t) ∙ ap revision e ∙ encode-revision w h u
 
 -- lists of 32-bit words: none, one more, one after the other, a part
 words-none : AreWords []
@@ -113,9 +118,9 @@ words-flatten emit n cell (suc r) h =
     (words-gather emit n (cell r) (λ j v. h r j v (omega arith)))
 
 -- the writing of a grid of words is words: every count, start and column number is below the limits
-encode-words : (g : Grid) → Within g → ValuesAreWords g → AreWords (encode g)
-unfolding encode
-encode-words g w h =
+encode-words : (v : ℕ) (g : Grid) → v < 2 ^ 32 → Within g → ValuesAreWords g → AreWords (encodeRevised v g)
+unfolding encodeRevised
+encode-words v g b w h =
     let r = w .row-range .most in
     let c = w .col-range .most in
     let n = w .few in
@@ -123,7 +128,9 @@ encode-words g w h =
     let starts = gridStarts g in
     let columns = gridColumns g in
     let values = gridValues g in
-    words-append (counted shape) (counted starts ++ (counted columns ++ counted values))
+    words-append (counted (v ∷ [])) (counted shape ++ (counted starts ++ (counted columns ++ counted values)))
+    (words-counted (v ∷ []) (omega arith) (words-cons v [] b words-none))
+    (words-append (counted shape) (counted starts ++ (counted columns ++ counted values))
     (words-counted shape (omega arith)
     (words-cons (g .rows) (g .cols ∷ []) (omega arith) (words-cons (g .cols) [] (omega arith) words-none)))
     (words-append (counted starts) (counted columns ++ counted values)
@@ -133,7 +140,7 @@ encode-words g w h =
     (words-append (counted columns) (counted values)
     (words-counted columns (omega arith)
     (words-flatten column (g .cols) (g .cell) (g .rows) (λ i j v l m e. omega arith)))
-    (words-counted values (omega (arith, values-length g)) (words-flatten value (g .cols) (g .cell) (g .rows) h))))
+    (words-counted values (omega (arith, values-length g)) (words-flatten value (g .cols) (g .cell) (g .rows) h)))))
 
 -- a value that is looked up is one of the words
 lookup-word : (cs vs : List ℕ) (j v : ℕ) → AreWords vs → lookup cs vs j ≡ Present v → v < 2 ^ 32
@@ -159,11 +166,15 @@ one-writing = record {
   written = encode-valid;
   sized = encode-length;
   read-back = encode-same;
+  revision-back = encode-revision;
   one = words-encoded;
   within = valid-within;
-  unique = λ s t v w e. words-encoded s v ∙ encode-ext (gridOf s) (gridOf t) e ∙ sym (words-encoded t w);
+  unique = λ s t v w e r.
+      words-encoded s v ∙ encode-ext (revision s) (gridOf s) (gridOf t) e ∙ ap (λ (k : ℕ). encodeRevised k (gridOf t)) r
+      ∙ sym (words-encoded t w);
   same-writing = encode-ext;
   same-grid = same-from-words;
+  same-revision = revision-from-words;
   words-fit = encode-words;
   values-fit = read-words;
 }

@@ -1,5 +1,5 @@
--- The one writing of a grid (document 01, "How a sheet is written" and "The shelf": "its sheet: that shape, with those
--- values as entries, row by row and from left to right").
+-- The one writing of a grid with a revision (document 01, "How a sheet is written" and "The shelf": "its sheet: that shape,
+-- with those values as entries, row by row and from left to right"; document 02, A12).
 use Prim.Native.Nat.{ℕ, zero, suc, _+_}
 use mathlib.Core.List.{List, [], _∷_, _++_}
 use lib.ListN.{length, drop}
@@ -24,12 +24,21 @@ entriesBefore g k = length (flatten column (g .cols) (g .cell) k)
 abbrev pub gridStarts : Grid → List ℕ
 gridStarts g = tabulate (entriesBefore g) (g .rows + 1)
 
--- "sections in fixed order, each after its count": shape, row starts, column numbers, values
-unfoldable pub encode : Grid → List ℕ
-encode g =
-    counted (g .rows ∷ g .cols ∷ [])
-    ++ (counted (gridStarts g) ++ (counted (gridColumns g) ++ counted (gridValues g)))
+-- "sections in fixed order, each after its count": shape, row starts, column numbers, values; and before them A12's "new
+-- first section .. : 1, then a revision number", which is v
+unfoldable pub encodeRevised : ℕ → Grid → List ℕ
+encodeRevised v g =
+    counted (v ∷ [])
+    ++ (counted (g .rows ∷ g .cols ∷ [])
+    ++ (counted (gridStarts g) ++ (counted (gridColumns g) ++ counted (gridValues g))))
+
+-- the writing of a grid that is made anew: its revision "starts at 0"
+abbrev pub encode : Grid → List ℕ
+encode g = encodeRevised 0 g
 
 -- a grid written at the front of words: "Spare words behind an accepted sheet keep what they held before the call."
+abbrev pub writtenRevised : ℕ → Grid → List ℕ → List ℕ
+writtenRevised v g w = encodeRevised v g ++ drop (gridSize g) w
+
 abbrev pub writtenOver : Grid → List ℕ → List ℕ
-writtenOver g w = encode g ++ drop (gridSize g) w
+writtenOver g w = writtenRevised 0 g w

@@ -11,7 +11,7 @@ use Rattle.answers.specs.Refusals.{codeLimit, accepted, refused, invalidFirst, 
 use Rattle.matrix.specs.Layout.{size, entries, gridOf}
 use Rattle.matrix.specs.Valid.{valid}
 use Rattle.word_bytes.specs.Bytes.{wordsOf}
-use Rattle.files.specs.File.{fileOf, takenAnswer, writtenAnswer}
+use Rattle.files.specs.File.{formWords, formBytes, fileOf, takenAnswer, writtenAnswer}
 use Rattle.text.specs.declared.TextAnswer.{TextAnswer}
 use Rattle.text.specs.Text.{textOf, maxTextBytes, textAnswer}
 use Rattle.exports.specs.Packing.{packed}
@@ -39,8 +39,8 @@ unpacked r a e h = record { code = omega arith; entries = omega arith }
 pub read-file-unpacked : (b w : List ℕ) (r : ℕ) (w′ : List ℕ) (h : LentFileRead b w r w′) → Unpacked r (h .answer)
 unfolding takenAnswer
 read-file-unpacked b w r w′ h =
-    let s = wordsOf b in
-    let k = ways (fileOf (length b) s) (leb (size s) (length w)) (entries s) insufficientSpace invalidFile
+    let s = formWords (wordsOf b) in
+    let k = ways (fileOf (formBytes (length b) (wordsOf b)) s) (leb (size s) (length w)) (entries s) insufficientSpace invalidFile
     (omega arith) (omega arith) in
     let p = ap (λ (x : Answer). x .code) (h .done .answer-is) in
     unpacked r (h .answer) (h .packed-is) (omega arith)

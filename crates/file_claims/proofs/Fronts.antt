@@ -8,7 +8,7 @@ use mathlib.Core.List.{List, [], _++_, append-nil}
 use lib.ListN.{length, take, drop, take-append-drop, List·getD-append, List·getD-eq-default}
 use lib.Seq.{length-take-le, take-at, take-all}
 use Rattle.words.specs.Words.{at}
-use Rattle.matrix.specs.Layout.{rows, entries, size, countAt, rowsAt, gridOf}
+use Rattle.matrix.specs.Layout.{revision, rows, entries, size, countAt, rowsAt, gridOf}
 use Rattle.matrix.specs.Valid.{valid}
 use Rattle.matrix.proofs.Facts.{matrix-facts}
 use Rattle.encoding.specs.OneWriting.{AreWords, matrixWords}
@@ -34,7 +34,7 @@ module _ (h t : List ℕ) (v : valid h ≡ true) (n : length h ≡ size h) where
   pub valid-front : valid (h ++ t) ≡ true
   valid-front =
       let e = sym whole ∙ one-writing .one h v in
-      rw e (one-writing .written (gridOf h) t (one-writing .within h v))
+      rw e (one-writing .written (revision h) (gridOf h) t (one-writing .within h v))
 
   pub words-front : matrixWords (h ++ t) ≡ h
   words-front = take-at h t (size (h ++ t)) (n ∙ sym (size-front h t (omega arith)))
@@ -50,7 +50,7 @@ module _ (s : List ℕ) (v : valid s ≡ true) where
   pub matrix-valid : valid (matrixWords s) ≡ true
   matrix-valid =
       let e = one-writing .one s v in
-      rw e (rw (append-nil _) at (one-writing .written (gridOf s) [] (one-writing .within s v)))
+      rw e (rw (append-nil _) at (one-writing .written (revision s) (gridOf s) [] (one-writing .within s v)))
 
   rows-of : rows (matrixWords s) ≡ rows s
   rows-of =

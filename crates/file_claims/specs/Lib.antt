@@ -1,1 +1,2 @@
+pub mod OldRule
 pub mod Claim

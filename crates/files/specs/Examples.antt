@@ -3,22 +3,22 @@ use Prim.Native.Nat.{ℕ}
 use mathlib.Core.Path.{_≡_, refl}
 use mathlib.Core.List.{List, [], _∷_, _++_}
 use mathlib.Core.Bool.{true, false}
-use lib.ListN.{take, replicate}
+use lib.ListN.{take, drop, replicate}
 use Rattle.conditions.specs.Tests.{_and_, all}
 use Rattle.limits.specs.Ranges.{inRange}
 use Rattle.answers.specs.Refusals.{accepted, refused}
 use Rattle.matrix.specs.Valid.{headerValid, startsValid, rowsValid, valid}
 use Rattle.word_bytes.specs.Bytes.{bytesOf, wordsOf}
-use Rattle.files.specs.File.{fileOf, fileValid, takenAnswer, takenWords, writtenAnswer, writtenBytes}
+use Rattle.files.specs.File.{formWords, formBytes, fileOf, fileValid, takenAnswer, takenWords, writtenAnswer, writtenBytes}
 
--- 1 by 4 with 10, 20 and 40 at columns 0, 1 and 3
+-- 1 by 4 with 10, 20 and 40 at columns 0, 1 and 3; A12: "Document 01's whole strip gains "1, 0" at its front"
 abbrev strip : List ℕ
-strip = 2 ∷ 1 ∷ 4 ∷ 2 ∷ 0 ∷ 3 ∷ 3 ∷ 0 ∷ 1 ∷ 3 ∷ 3 ∷ 10 ∷ 20 ∷ 40 ∷ []
+strip = 1 ∷ 0 ∷ 2 ∷ 1 ∷ 4 ∷ 2 ∷ 0 ∷ 3 ∷ 3 ∷ 0 ∷ 1 ∷ 3 ∷ 3 ∷ 10 ∷ 20 ∷ 40 ∷ []
 
 abbrev file : List ℕ
 file = bytesOf strip
 
--- 56 bytes that are a file; a word more, a byte more and a byte less are not
+-- 64 bytes that are a file; a word more, a byte more and a byte less are not
 strip-file : fileValid file ≡ true
 unfolding fileOf valid headerValid startsValid rowsValid _and_ all inRange bytesOf wordsOf
 strip-file = refl
@@ -31,9 +31,34 @@ byte-more : fileValid (file ++ (0 ∷ [])) ≡ false
 unfolding fileOf valid headerValid startsValid rowsValid _and_ all inRange bytesOf wordsOf
 byte-more = refl
 
-byte-less : fileValid (take 55 file) ≡ false
+byte-less : fileValid (take 63 file) ≡ false
 unfolding fileOf valid headerValid startsValid rowsValid _and_ all inRange bytesOf wordsOf
 byte-less = refl
+
+-- the same strip as it was written before A12: 56 bytes, which are read as the strip with revision 0, and need its room
+abbrev old : List ℕ
+old = bytesOf (drop 2 strip)
+
+old-file : fileValid old ≡ true
+unfolding fileOf valid headerValid startsValid rowsValid _and_ all inRange bytesOf wordsOf
+old-file = refl
+
+old-words : formWords (wordsOf old) ≡ strip
+unfolding bytesOf wordsOf
+old-words = refl
+
+old-short : takenAnswer (formBytes 56 (wordsOf old)) (formWords (wordsOf old)) 15 ≡ refused 11
+unfolding takenAnswer fileOf valid headerValid startsValid rowsValid _and_ all inRange bytesOf wordsOf
+old-short = refl
+
+old-byte-more : fileValid (old ++ (0 ∷ [])) ≡ false
+unfolding fileOf valid headerValid startsValid rowsValid _and_ all inRange bytesOf wordsOf
+old-byte-more = refl
+
+-- a file that starts with another number has neither form
+other-form : fileValid (bytesOf (3 ∷ drop 1 strip)) ≡ false
+unfolding fileOf valid headerValid startsValid rowsValid _and_ all inRange bytesOf wordsOf
+other-form = refl
 
 -- nothing at all
 no-bytes : fileValid [] ≡ false
@@ -46,11 +71,11 @@ unfolding takenAnswer fileOf valid headerValid startsValid rowsValid _and_ all i
 no-file-first = refl
 
 -- a word too few; exactly enough, with the word behind kept
-words-short : takenAnswer 56 (wordsOf file) 13 ≡ refused 11
+words-short : takenAnswer 64 (wordsOf file) 15 ≡ refused 11
 unfolding takenAnswer fileOf valid headerValid startsValid rowsValid _and_ all inRange bytesOf wordsOf
 words-short = refl
 
-read-over : takenWords 56 (wordsOf file) (replicate 15 9) ≡ strip ++ (9 ∷ [])
+read-over : takenWords 64 (wordsOf file) (replicate 17 9) ≡ strip ++ (9 ∷ [])
 unfolding takenWords takenAnswer fileOf valid headerValid startsValid rowsValid _and_ all inRange bytesOf wordsOf
 read-over = refl
 
@@ -59,14 +84,14 @@ no-matrix-first : writtenAnswer (1 ∷ []) 0 ≡ refused 3
 unfolding writtenAnswer valid headerValid startsValid rowsValid _and_ all inRange
 no-matrix-first = refl
 
-bytes-short : writtenAnswer strip 55 ≡ refused 11
+bytes-short : writtenAnswer strip 63 ≡ refused 11
 unfolding writtenAnswer valid headerValid startsValid rowsValid _and_ all inRange
 bytes-short = refl
 
-written : writtenAnswer strip 56 ≡ accepted 3
+written : writtenAnswer strip 64 ≡ accepted 3
 unfolding writtenAnswer valid headerValid startsValid rowsValid _and_ all inRange
 written = refl
 
-write-over : writtenBytes (strip ++ (7 ∷ 7 ∷ [])) (replicate 57 9) ≡ file ++ (9 ∷ [])
+write-over : writtenBytes (strip ++ (7 ∷ 7 ∷ [])) (replicate 65 9) ≡ file ++ (9 ∷ [])
 unfolding writtenBytes writtenAnswer valid headerValid startsValid rowsValid _and_ all inRange bytesOf
 write-over = refl

@@ -3,3 +3,4 @@ pub mod Entries
 pub mod Update
 pub mod Size
 pub mod Position
+pub mod Revision

@@ -13,6 +13,9 @@ use Rattle.model.specs.Model.{Model, fresh}
 use Rattle.model.specs.Effects.{Reply, codeOf, refusedAs, replyOf, nextOf}
 use Rattle.model.specs.Calls.{StoreCall, effect}
 use Rattle.model.specs.Histories.{reply, next, replies, modelAfter}
+use Rattle.grid.proofs.Same.{same-sym, same-trans}
+use Rattle.refusals.specs.Cases.{Case}
+use Rattle.model.proofs.Alike.{Alike, grid-same, revision-same, no-grid}
 use Rattle.model.proofs.Fitting.{Fitting}
 use Rattle.model.proofs.Effects.{
   reply-same,
@@ -33,6 +36,7 @@ use Rattle.histories.specs.Lists.{
   Follows,
   Claim,
   Resumed,
+  EqualWords,
   HostRuns,
   end as host-end,
   call as host-call,
@@ -145,6 +149,32 @@ host-claim n a b cs rs s r = host-follows (begun-fresh n a b) r
 
 pub host-resumed : HostResumed
 host-resumed s v cs rs s′ r = host-follows (begun-stored s v) r
+
+-- ---- equal words
+
+-- the words after a list are the writing of a model that fits
+ended : {n : ℕ} {m : Model} {cs : List StoreCall} {rs : List Reply} {s s′ : List ℕ} → Begun n m s → Runs s cs rs s′
+    → Begun n (modelAfter n m cs) s′
+ended b end = b
+ended {n} {m} b (call {c = c} t ts) = ended (onward b (begun-once {n = n} {m = m} {c = c} b (told t))) ts
+
+-- so they hold that model
+holds : {n : ℕ} {m : Model} {s : List ℕ} → Begun n m s → Alike (modelOf s) m
+holds {n} {m} b = (rw (← (b .words)) at (written-model n m (b .least) (b .most) (b .fits))) .alike
+
+pub equal-words : EqualWords
+equal-words n a b cs ds rs qs s r q =
+    let x = holds (ended (begun-fresh n a b) r) in
+    let y = holds (ended (begun-fresh n a b) q) in
+    let m = modelAfter n fresh cs in
+    let o = modelAfter n fresh ds in
+    record {
+      vacancy = λ k.
+          sym (ap (λ (c : Case). c .applies) (no-grid n (modelOf s) m x k))
+          ∙ ap (λ (c : Case). c .applies) (no-grid n (modelOf s) o y k);
+      revisions = λ k. sym (revision-same n (modelOf s) m x k) ∙ revision-same n (modelOf s) o y k;
+      grids = λ k. same-trans (same-sym (grid-same n (modelOf s) m x k)) (grid-same n (modelOf s) o y k);
+    }
 
 -- a run of every list, on any words
 pub every-run : Lfts 1 → Lfts 4 → (s : List ℕ) (cs : List StoreCall) → PossibleRun s cs

@@ -3,7 +3,7 @@ use Rattle.histories.specs.Hosts.{host-functions}
 use Rattle.histories.specs.Promise.{Promise}
 use Rattle.histories.proofs.Functions.{met, known, free, cleared, told, possible}
 use Rattle.histories.proofs.Hosts.{host-told}
-use Rattle.histories.proofs.Claim.{kept, claim, resumed, host-claim, host-resumed, every-run}
+use Rattle.histories.proofs.Claim.{kept, claim, resumed, equal-words, host-claim, host-resumed, every-run}
 
 pub promise : Promise
 promise = record {
@@ -17,6 +17,7 @@ promise = record {
   every-run = every-run;
   every = claim;
   resumed = resumed;
+  equal-words = equal-words;
   hosts = host-functions;
   host-told = host-told;
   host-kept = λ {s} {s′} {c} {r} t n. kept c (host-told t .performed) n;

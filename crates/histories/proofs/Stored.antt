@@ -14,8 +14,16 @@ use Rattle.grid.specs.Entries.{entryCount}
 use Rattle.matrix.specs.Layout.{gridOf, entries, size, sizeOf}
 use Rattle.matrix.specs.Valid.{valid}
 use Rattle.matrix.proofs.Facts.{matrix-facts, matrix-made}
-use Rattle.encoding.specs.Encode.{encode, Within}
-use Rattle.encoding.proofs.Canonical.{encode-length, encode-entries, encode-valid, encode-same, encode-ext, valid-within}
+use Rattle.encoding.specs.Encode.{encodeRevised, Within}
+use Rattle.encoding.proofs.Canonical.{
+  encode-length,
+  encode-revision,
+  encode-entries,
+  encode-valid,
+  encode-same,
+  encode-ext,
+  valid-within,
+}
 use Rattle.encoding.proofs.Encoded.{encode-rows}
 use Rattle.slots.specs.Sections.{Slots, total, written, writing, slotsOf}
 use Rattle.slots.specs.Valid.{contentsValid, storeValid}
@@ -33,28 +41,30 @@ use Rattle.store_encoding.specs.Stores.{slotHeld, modelOf}
 use Rattle.store_encoding.proofs.Held.{sizes-total, model-contents}
 
 -- the size of a writing, as its words say it
-encode-size : (g : Grid) → size (encode g) ≡ length (encode g)
-encode-size g =
-    ap size (sym (append-nil (encode g)))
-    ∙ ap (λ (r : ℕ). sizeOf r (entries (encode g ++ []))) (encode-rows g []) ∙ ap (sizeOf (g .rows)) (encode-entries g [])
-    ∙ sym (encode-length g)
+encode-size : (v : ℕ) (g : Grid) → size (encodeRevised v g) ≡ length (encodeRevised v g)
+encode-size v g =
+    ap size (sym (append-nil (encodeRevised v g)))
+    ∙ ap (λ (r : ℕ). sizeOf r (entries (encodeRevised v g ++ []))) (encode-rows v g [])
+    ∙ ap (sizeOf (g .rows)) (encode-entries v g []) ∙ sym (encode-length v g)
 
 -- contents of a slot
 slot-valid : (x : Slot) → WithinSlot x → contentsValid (contents x) ≡ true
 slot-valid vacant w = empty-valid [] refl
-slot-valid (holding g) w =
-    held-made (encode g) (record {
-      matrix = matrix-facts (encode g) (ap valid (sym (append-nil (encode g))) ∙ encode-valid g [] w);
-      whole = encode-size g;
+slot-valid (holding v g) w =
+    let x = encodeRevised v g in
+    held-made x (record {
+      matrix = matrix-facts x (ap valid (sym (append-nil x)) ∙ encode-valid v g [] w);
+      whole = encode-size v g;
     })
 
 -- what they hold agrees with the slot
 slot-alike : (x : Slot) → AlikeSlots (slotHeld (contents x)) x
 slot-alike vacant = tt
-slot-alike (holding g) =
-    let l = encode-length g in
-    let e = ne-eqb (length (encode g)) 0 (λ z. omega arith) in
-    rw e (rw (append-nil (encode g)) at (encode-same g []))
+slot-alike (holding v g) =
+    let l = encode-length v g in
+    let e = ne-eqb (length (encodeRevised v g)) 0 (λ z. omega arith) in
+    let n = append-nil (encodeRevised v g) in
+    rw e (rw n at (encode-revision v g []), rw n at (encode-same v g []))
 
 all-alike : (m : Model) → Alike (map slotHeld (allContents m)) m
 all-alike [] = tt
@@ -147,9 +157,9 @@ alike-contents (x ∷ m) (y ∷ m′) a =
   where
     one : (x y : Slot) → AlikeSlots x y → contents x ≡ contents y
     one vacant vacant s = refl
-    one vacant (holding h) s = absurd s
-    one (holding g) vacant s = absurd s
-    one (holding g) (holding h) s = encode-ext g h s
+    one vacant (holding u h) s = absurd s
+    one (holding v g) vacant s = absurd s
+    one (holding v g) (holding u h) s = ap (λ (n : ℕ). encodeRevised n g) (s .0) ∙ encode-ext u g h (s .1)
 
 pub alike-written : (n : ℕ) (m m′ : Model) → Alike m m′ → modelWriting n m ≡ modelWriting n m′
 unfolding modelWriting

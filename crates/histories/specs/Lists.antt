@@ -8,7 +8,8 @@ use mathlib.Core.List.{List, [], _∷_}
 use lib.ListN.{length, replicate}
 use Rattle.limits.specs.Limits.{slotCount, maxStoreWords}
 use Rattle.slots.specs.Valid.{storeValid}
-use Rattle.model.specs.Model.{Model, fresh}
+use Rattle.grid.specs.Grid.{Same}
+use Rattle.model.specs.Model.{Model, fresh, slotOf, isVacant, gridAt, revisionAt}
 use Rattle.model.specs.Effects.{Reply, wrote, found, totalled}
 use Rattle.model.specs.Calls.{StoreCall}
 use Rattle.model.specs.Histories.{replies, modelAfter}
@@ -45,6 +46,19 @@ Claim = (n : ℕ) → slotCount ≤ n → n ≤ maxStoreWords
 abbrev pub Resumed : Type 0
 Resumed = (s : List ℕ) → storeValid s ≡ true
     → (cs : List StoreCall) (rs : List Reply) (s′ : List ℕ) → Runs s cs rs s′ → Follows (length s) (modelOf s) cs rs s′
+
+-- two models with the same in every slot: both empty, or the same grid with the same revision
+pub record SameSlots (m m′ : Model) : Type 0 where
+  pub vacancy : (k : ℕ) → isVacant (slotOf m k) ≡ isVacant (slotOf m′ k)
+  pub revisions : (k : ℕ) → revisionAt m k ≡ revisionAt m′ k
+  pub grids : (k : ℕ) → Same (gridAt m k) (gridAt m′ k)
+
+-- document 02, A12: "equal shelf words mean equal grids and equal revisions", after any two lists of calls
+abbrev pub EqualWords : Type 0
+EqualWords = (n : ℕ) → slotCount ≤ n → n ≤ maxStoreWords
+    → (cs ds : List StoreCall) (rs qs : List Reply) (s : List ℕ)
+    → Runs (replicate n 0) cs rs s → Runs (replicate n 0) ds qs s
+    → SameSlots (modelAfter n fresh cs) (modelAfter n fresh ds)
 
 -- ---- the calls that hosts make
 

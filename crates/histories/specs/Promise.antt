@@ -10,7 +10,7 @@ use Rattle.model.specs.Calls.{StoreCall}
 use Rattle.store_encoding.specs.Stores.{Performed}
 use Rattle.histories.specs.Functions.{Step, Met, Known, Free, Cleared}
 use Rattle.histories.specs.Hosts.{HostStep, HostFunctions}
-use Rattle.histories.specs.Lists.{Runs, Claim, Resumed, HostTold, HostClaim, HostResumed}
+use Rattle.histories.specs.Lists.{Runs, Claim, Resumed, EqualWords, HostTold, HostClaim, HostResumed}
 
 -- a step of a call on the words s
 pub record Possible (s : List ℕ) (c : StoreCall) : Type 0 where
@@ -40,6 +40,7 @@ pub record Promise : Type 3 where
   -- every list of calls, on a fresh store and on any
   pub every : Claim
   pub resumed : Resumed
+  pub equal-words : EqualWords
   -- and of the calls that hosts make: their functions, what each step tells of any words, every list
   pub hosts : HostFunctions
   pub host-told : {s s′ : List ℕ} {c : StoreCall} {r : ℕ} → HostStep s c r s′ → HostTold s c r s′

@@ -30,13 +30,13 @@ use Rattle.key_calls.specs.Doors.{Attempted, Committed}
 -- the writing of a grid over the front of words
 over-front : (g : Grid) (w : List ℕ) → overwrite 0 (encode g) w ≡ writtenOver g w
 unfolding overwrite
-over-front g w = ap (λ (k : ℕ). encode g ++ drop k w) (zero-add (length (encode g)) ∙ encode-length g)
+over-front g w = ap (λ (k : ℕ). encode g ++ drop k w) (zero-add (length (encode g)) ∙ encode-length 0 g)
 
 -- the words at the front of what holds a grid's writing
 front : (g : Grid) (w : List ℕ) → w ≡ writtenOver g w → take (gridSize g) w ≡ encode g
 front g w e =
     ap (take (gridSize g)) e
-    ∙ ap (λ (k : ℕ). take k (writtenOver g w)) (sym (encode-length g))
+    ∙ ap (λ (k : ℕ). take k (writtenOver g w)) (sym (encode-length 0 g))
     ∙ take-append-seam (encode g) (drop (gridSize g) w)
 
 -- no more entries than doors
@@ -54,7 +54,7 @@ module _ (allowance : ℕ) (locks cabinets hand : List ℕ) where
   pub size-fits : (n : ℕ) (w : List ℕ) → Written g n w → sizeOf 1 n ≤ length w
   size-fits n w h =
       let k = ap length (h .words) ∙ length-append (encode g) (drop (gridSize g) w) in
-      let l = encode-length g in
+      let l = encode-length 0 g in
       let s = ap (sizeOf 1) (h .count) in
       omega arith
 

@@ -63,7 +63,7 @@ module _ (n m : ℕ) (locks cabinets hand out work : List ℕ) (u : rows locks �
   answer-same = rw (le-ltb _ _ l, le-ltb _ _ k, same-size g h same, same-count g h same)
 
   words-same : writtenOver g out ≡ writtenOver h out
-  words-same = rw (encode-ext g h same, same-size g h same)
+  words-same = rw (encode-ext 0 g h same, same-size g h same)
 
   pub alike-beyond : {out₁ work₁ out₂ work₂ : List ℕ} {answer₁ answer₂ : Answer}
       → Completed n locks cabinets hand out work answer₁ out₁ work₁

@@ -29,6 +29,10 @@ slotCount = 8
 abbrev pub maxStoreWords : ℕ
 maxStoreWords = 16384
 
+-- A12: "after 4294967295 the revision wraps to 0"
+abbrev pub maxRevision : ℕ
+maxRevision = 4294967295
+
 -- A13: "an allowance of 0 to 1,000 rounds"
 abbrev pub maxAllowance : ℕ
 maxAllowance = 1000

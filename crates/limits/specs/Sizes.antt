@@ -1,26 +1,26 @@
--- How many words a matrix has (document 01, "How a sheet is written"), for whoever counts them without knowing where each
+-- How many words a matrix has (document 01, "How a sheet is written"; document 02, A12), for whoever counts them without knowing where each
 -- stands. matrix/specs/Layout.antt says where.
 use Prim.Native.Nat.{ℕ, _+_, _*_}
 use mathlib.Core.Path.{_≡_, refl}
 use Rattle.limits.specs.Limits.{maxRows, maxEntries}
 
--- the words besides one for each row and two for each entry: counts, shape, the last row start
+-- the words besides one for each row and two for each entry: counts, revision, shape, the last row start
 abbrev pub fixedWords : ℕ
-fixedWords = 7
+fixedWords = 9
 
--- "Its size is R + 2N + 7 words."
+-- A12: "Sizes become R + 2N + 9"
 abbrev pub sizeOf : ℕ → ℕ → ℕ
 sizeOf r n = r + n + n + fixedWords
 
--- A6: "The largest sheet is then 5,103 words, .. and the work buffer must have 15,309 words", three of them
+-- A12: "the largest sheet 5,105 words, .. the work buffer 15,315", three of them
 abbrev pub maxMatrixWords : ℕ
 maxMatrixWords = sizeOf maxRows maxEntries
 
 abbrev pub workspaceWords : ℕ
 workspaceWords = 3 * maxMatrixWords
 
-largest-matrix : maxMatrixWords ≡ 5103
+largest-matrix : maxMatrixWords ≡ 5105
 largest-matrix = refl
 
-three-largest : workspaceWords ≡ 15309
+three-largest : workspaceWords ≡ 15315
 three-largest = refl

@@ -24,5 +24,8 @@ pub const SLOTS: usize = 8;
 // The words of a store are at most this many.
 pub const MAX_STORE_WORDS: usize = 16384;
 
+// A revision is 0 to this, and after this comes 0.
+pub const MAX_REVISION: u32 = 4294967295;
+
 // An allowance of rounds is 0 to this.
 pub const MAX_ALLOWANCE: u32 = 1000;

@@ -26,19 +26,21 @@ rowRises s i = rising (cols s) 0 (rowColumns s i)
 pub header-made : (s : List ℕ) → Header s → headerValid s ≡ true
 unfolding headerValid
 header-made s h =
-    and-both (eq-eqb _ _ (h .two)) (and-both (range-made (h .row-range)) (and-both (range-made (h .col-range))
-    (and-both (eq-eqb _ _ (h .starts)) (and-both (le-leb _ _ (h .few)) (and-both (le-leb _ _ (h .fits))
-    (eq-eqb _ _ (h .again)))))))
+    and-both (eq-eqb _ _ (h .one)) (and-both (eq-eqb _ _ (h .two)) (and-both (range-made (h .row-range))
+    (and-both (range-made (h .col-range)) (and-both (eq-eqb _ _ (h .starts)) (and-both (le-leb _ _ (h .few))
+    (and-both (le-leb _ _ (h .fits)) (eq-eqb _ _ (h .again))))))))
 
 pub header-facts : (s : List ℕ) → headerValid s ≡ true → Header s
 unfolding headerValid
-header-facts s h₀ =
+header-facts s h =
+    let h₀ = and-right _ _ h in
     let h₁ = and-right _ _ h₀ in
     let h₂ = and-right _ _ h₁ in
     let h₃ = and-right _ _ h₂ in
     let h₄ = and-right _ _ h₃ in
     let h₅ = and-right _ _ h₄ in
     record {
+      one = eqb-true _ _ (and-left _ _ h);
       two = eqb-true _ _ (and-left _ _ h₀);
       row-range = range-facts _ _ (and-left _ _ h₁);
       col-range = range-facts _ _ (and-left _ _ h₂);

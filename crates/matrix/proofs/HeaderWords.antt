@@ -9,6 +9,8 @@ use lib.Seq.{getD-set-same, getD-set-other, getD-drop, ext-getD}
 use Rattle.words.specs.Words.{at, part}
 use Rattle.words.proofs.Overwrite.{part-same}
 use Rattle.matrix.specs.Layout.{
+  revisionCountAt,
+  revisionAt,
   shapeCountAt,
   rowsAt,
   colsAt,
@@ -19,18 +21,25 @@ use Rattle.matrix.specs.Layout.{
   countAgainAt,
   valuesAt,
   sizeOf,
+  revision,
   rows,
   cols,
   start,
   entries,
 }
 use Rattle.matrix.specs.Facts.{Header}
-use Rattle.matrix.specs.HeaderWords.{headed, HeaderOf}
+use Rattle.matrix.specs.HeaderWords.{unrevised, headed, HeaderOf}
 
 module _ (r c n : ℕ) (w : List ℕ) where
   -- the words after each store
+  abbrev w₋ : List ℕ
+  w₋ = set w revisionCountAt 1
+
+  abbrev w₀ : List ℕ
+  w₀ = unrevised w
+
   abbrev w₁ : List ℕ
-  w₁ = set w shapeCountAt 2
+  w₁ = set w₀ shapeCountAt 2
 
   abbrev w₂ : List ℕ
   w₂ = set w₁ rowsAt r
@@ -55,7 +64,9 @@ module _ (r c n : ℕ) (w : List ℕ) where
       getD-set-other w₅ (countAgainAt r n) k n 0 g ∙ getD-set-other w₄ (countAt r) k n 0 f
       ∙ getD-set-other w₃ startCountAt k (r + 1) 0 (λ e. omega arith)
       ∙ getD-set-other w₂ colsAt k c 0 (λ e. omega arith)
-      ∙ getD-set-other w₁ rowsAt k r 0 (λ e. omega arith) ∙ getD-set-other w shapeCountAt k 2 0 (λ e. omega arith)
+      ∙ getD-set-other w₁ rowsAt k r 0 (λ e. omega arith) ∙ getD-set-other w₀ shapeCountAt k 2 0 (λ e. omega arith)
+      ∙ getD-set-other w₋ revisionAt k 0 0 (λ e. omega arith)
+      ∙ getD-set-other w revisionCountAt k 1 0 (λ e. omega arith)
 
   -- so are the row starts
   pub headed-start : (i : ℕ) → i ≤ r → start (headed r c n w) i ≡ start w i
@@ -90,14 +101,29 @@ module _ (r c n : ℕ) (w : List ℕ) where
         getD-set-other w₅ (countAgainAt r n) k n 0 (λ e. omega arith)
         ∙ getD-set-other w₄ (countAt r) k n 0 (λ e. omega arith)
 
+    -- a word of the revision's section: the shape and the counts come later
+    first : (k : ℕ) → k < shapeCountAt → at (headed r c n w) k ≡ at w₀ k
+    first k l =
+        front k (omega arith) ∙ getD-set-other w₃ startCountAt k (r + 1) 0 (λ e. omega arith)
+        ∙ getD-set-other w₂ colsAt k c 0 (λ e. omega arith) ∙ getD-set-other w₁ rowsAt k r 0 (λ e. omega arith)
+        ∙ getD-set-other w₀ shapeCountAt k 2 0 (λ e. omega arith)
+
+    -- a new matrix has revision 0
+    pub headed-revision : revision (headed r c n w) ≡ 0
+    headed-revision =
+        first revisionAt (omega arith) ∙ getD-set-same w₋ revisionAt 0 0 (simp length-set (omega arith))
+
     -- the header stands there
     pub headed-words : HeaderOf r c n (headed r c n w)
     headed-words = record {
+      one =
+          first revisionCountAt (omega arith) ∙ getD-set-other w₋ revisionAt revisionCountAt 0 0 (λ e. omega arith)
+          ∙ getD-set-same w revisionCountAt 1 0 (omega arith);
       two =
           front shapeCountAt (omega arith) ∙ getD-set-other w₃ startCountAt shapeCountAt (r + 1) 0 (λ e. omega arith)
           ∙ getD-set-other w₂ colsAt shapeCountAt c 0 (λ e. omega arith)
           ∙ getD-set-other w₁ rowsAt shapeCountAt r 0 (λ e. omega arith)
-          ∙ getD-set-same w shapeCountAt 2 0 (omega arith);
+          ∙ getD-set-same w₀ shapeCountAt 2 0 (simp length-set (omega arith));
       row-count =
           front rowsAt (omega arith) ∙ getD-set-other w₃ startCountAt rowsAt (r + 1) 0 (λ e. omega arith)
           ∙ getD-set-other w₂ colsAt rowsAt c 0 (λ e. omega arith)
@@ -116,6 +142,7 @@ module _ (r c n : ℕ) (w : List ℕ) where
 -- the header of a valid matrix is the one of its own numbers
 pub header-own : {s : List ℕ} → Header s → HeaderOf (rows s) (cols s) (entries s) s
 header-own h = record {
+  one = h .one;
   two = h .two;
   row-count = refl;
   col-count = refl;
@@ -128,6 +155,7 @@ header-own h = record {
 pub header-recounted : {r c n m : ℕ} {s t : List ℕ} → HeaderOf r c n s → ((k : ℕ) → k < startsAt → at t k ≡ at s k)
     → at t (countAt r) ≡ m → at t (countAgainAt r m) ≡ m → HeaderOf r c m t
 header-recounted h f e g = record {
+  one = f revisionCountAt (omega arith) ∙ h .one;
   two = f shapeCountAt (omega arith) ∙ h .two;
   row-count = f rowsAt (omega arith) ∙ h .row-count;
   col-count = f colsAt (omega arith) ∙ h .col-count;

@@ -8,9 +8,21 @@ use lib.ListN.{length}
 use Rattle.limits.specs.Limits.{maxRows, maxCols, maxEntries}
 pub use Rattle.limits.specs.Ranges.{InRange}
 use Rattle.rows.specs.Row.{rising}
-use Rattle.matrix.specs.Layout.{shapeCount, rows, cols, startCount, start, entries, entriesAgain, size, rowColumns}
+use Rattle.matrix.specs.Layout.{
+  revisionCount,
+  shapeCount,
+  rows,
+  cols,
+  startCount,
+  start,
+  entries,
+  entriesAgain,
+  size,
+  rowColumns,
+}
 
 pub record Header (s : List ℕ) : Type 0 where
+  pub one : revisionCount s ≡ 1
   pub two : shapeCount s ≡ 2
   pub row-range : InRange maxRows (rows s)
   pub col-range : InRange maxCols (cols s)

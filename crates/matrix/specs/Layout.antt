@@ -1,5 +1,5 @@
--- Where the words of a matrix stand (document 01, "How a sheet is written"): four sections "in fixed order, each after its
--- count": the shape, the row starts, the column numbers, the values. Each place is given from the one before it.
+-- Where the words of a matrix stand (document 01, "How a sheet is written"; document 02, A12): five sections "in fixed
+-- order, each after its count": the revision, the shape, the row starts, the column numbers, the values. Each place is given from the one before it.
 use Prim.Native.Nat.{ℕ, _+_}
 use mathlib.Core.Path.{_≡_, refl}
 use mathlib.Core.List.{List}
@@ -9,9 +9,16 @@ use Rattle.grid.specs.declared.Cell.{Cell}
 use Rattle.grid.specs.Grid.{Grid}
 use Rattle.rows.specs.Row.{lookup}
 
+-- A12: "a new first section before the others: 1, then a revision number"
+abbrev pub revisionCountAt : ℕ
+revisionCountAt = 0
+
+abbrev pub revisionAt : ℕ
+revisionAt = revisionCountAt + 1
+
 -- "2, then rows R, columns C"
 abbrev pub shapeCountAt : ℕ
-shapeCountAt = 0
+shapeCountAt = revisionCountAt + 2
 
 abbrev pub rowsAt : ℕ
 rowsAt = shapeCountAt + 1
@@ -44,7 +51,13 @@ valuesAt r n = r + n + (startsAt + 3)
 values-end : valuesAt 3 2 + 2 ≡ sizeOf 3 2
 values-end = refl
 
--- the count of the shape, rows R, columns C, the count of the row starts
+-- the count of the revision, the revision, the count of the shape, rows R, columns C, the count of the row starts
+abbrev pub revisionCount : List ℕ → ℕ
+revisionCount s = at s revisionCountAt
+
+abbrev pub revision : List ℕ → ℕ
+revision s = at s revisionAt
+
 abbrev pub shapeCount : List ℕ → ℕ
 shapeCount s = at s shapeCountAt
 

@@ -1,4 +1,4 @@
--- Which words begin with a valid matrix (document 01, "How a sheet is written"), and what `check` answers. A word past
+-- Which words begin with a valid matrix (document 01, "How a sheet is written"; document 02, A12), and what `check` answers. A word past
 -- the end reads as 0; the size, held against the length, rules such words out.
 use Prim.Native.Nat.{ℕ, _+_}
 use mathlib.Core.List.{List}
@@ -11,12 +11,24 @@ use Rattle.answers.specs.declared.Answer.{Answer}
 use Rattle.answers.specs.Refusals.{accepted, refused, invalidFirst}
 use Rattle.conditions.specs.Tests.{_and_, all}
 use Rattle.rows.specs.Row.{rising}
-use Rattle.matrix.specs.Layout.{shapeCount, rows, cols, startCount, start, entries, entriesAgain, size, rowColumns}
+use Rattle.matrix.specs.Layout.{
+  revisionCount,
+  shapeCount,
+  rows,
+  cols,
+  startCount,
+  start,
+  entries,
+  entriesAgain,
+  size,
+  rowColumns,
+}
 
--- the counts of the sections, "R and C are 1 to 512" (A6: 1,000), "N is 0 to 2,048", and the size within the buffer
+-- the counts of the sections (A12: "1, then a revision number", which is free), "R and C are 1 to 512" (A6: 1,000), "N is 0 to 2,048", and the size within the buffer
 unfoldable pub headerValid : List ℕ → Bool
 headerValid s =
-    eqb (shapeCount s) 2
+    eqb (revisionCount s) 1
+    and eqb (shapeCount s) 2
     and inRange maxRows (rows s)
     and inRange maxCols (cols s)
     and eqb (startCount s) (rows s + 1)

@@ -1,10 +1,14 @@
-// Where the words of a matrix stand (document 01, "How a sheet is written"), R the rows and N the entries:
-// 2, R, C; R + 1 and the row starts; N and the column numbers; N and the values.
+// Where the words of a matrix stand (document 01, "How a sheet is written"; document 02, A12), R the rows and N the
+// entries: 1 and the revision; 2, R, C; R + 1 and the row starts; N and the column numbers; N and the values.
 
 use limits::MAX_ENTRIES;
 use limits::MAX_ROWS;
 
-pub const SHAPE_COUNT_AT: usize = 0;
+pub const REVISION_COUNT_AT: usize = 0;
+
+pub const REVISION_AT: usize = REVISION_COUNT_AT + 1;
+
+pub const SHAPE_COUNT_AT: usize = REVISION_COUNT_AT + 2;
 
 pub const ROWS_AT: usize = SHAPE_COUNT_AT + 1;
 

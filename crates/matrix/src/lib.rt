@@ -8,6 +8,8 @@ use layout::COLUMNS_PAST;
 use layout::COUNT_AGAIN_PAST;
 use layout::COUNT_PAST;
 use layout::FIXED_WORDS;
+use layout::REVISION_AT;
+use layout::REVISION_COUNT_AT;
 use layout::ROWS_AT;
 use layout::SHAPE_COUNT_AT;
 use layout::START_COUNT_AT;
@@ -15,18 +17,21 @@ use layout::STARTS_AT;
 use layout::VALUES_PAST;
 use limits::MAX_COLS;
 use limits::MAX_ENTRIES;
+use limits::MAX_REVISION;
 use limits::MAX_ROWS;
 
 pub mod layout;
 
 ghost use mathlib.Core.Path.{_≡_};
-ghost use Prim.Native.Nat.{_+_};
+ghost use Prim.Native.Nat.{_+_, _<_};
+ghost use lib.ListN.{length};
+ghost use Rattle.grid.specs.Revision.{nextRevision};
 ghost use Rattle.words.specs.Lent.{PartOf};
-ghost use Rattle.matrix.specs.Layout.{rows, cols, entries, columnsFrom, valuesFrom};
+ghost use Rattle.matrix.specs.Layout.{revisionAt, revision, rows, cols, entries, columnsFrom, valuesFrom};
 ghost use Rattle.matrix.specs.Valid.{inRange, headerValid, startsValid, rowsValid, valid, checkAnswer};
 ghost use Rattle.matrix.specs.Facts.{Header, Starts, RowSpan};
 ghost use Rattle.matrix.specs.Falls.{fallsAtStart, startFalls};
-ghost use Rattle.matrix.specs.HeaderWords.{HeaderBounds, headed};
+ghost use Rattle.matrix.specs.HeaderWords.{HeaderBounds, headed, withRevision, touched};
 
 // 0 and N where the words begin with a valid matrix, else INVALID_FIRST.
 pub fn check(words: &[u32]) -> Answer
@@ -107,14 +112,51 @@ pub fn row_values(words: &[u32], i: usize) -> &[u32]
     &words[from..to]
 }
 
-// The header of a matrix of the given rows, columns and entries: the shape and the count of each section. The row
-// starts, the column numbers and the values are written apart from it.
+// The revision.
+pub fn revision(words: &[u32]) -> u32
+    requires { ⌜ Header (now words) ⌝ }
+    ensures { λ r. ⌜ r ≡ revision (now (words .entry)) ⌝ }
+{
+    words[REVISION_AT]
+}
+
+// The revision v after a call that writes into the matrix.
+pub fn next_revision(v: u32) -> u32
+    ensures { λ r. ⌜ r ≡ nextRevision v ⌝ }
+{
+    if v == MAX_REVISION {
+        return 0;
+    }
+    v + 1
+}
+
+// The next revision; nothing else changes.
+pub fn touch(words: &mut [u32])
+    requires { ⌜ revisionAt < length (now words) ⌝ }
+    ensures { λ _. ⌜ now (words .exit) ≡ touched (now (words .entry)) ⌝ }
+{
+    let v = words[REVISION_AT];
+    words[REVISION_AT] = next_revision(v);
+}
+
+// Another revision; nothing else changes.
+pub fn set_revision(words: &mut [u32], v: u32)
+    requires { ⌜ revisionAt < length (now words) ⌝ }
+    ensures { λ _. ⌜ now (words .exit) ≡ withRevision v (now (words .entry)) ⌝ }
+{
+    words[REVISION_AT] = v;
+}
+
+// The header of a new matrix of the given rows, columns and entries: the revision 0, the shape and the count of each section.
+// The row starts, the column numbers and the values are written apart from it.
 pub fn write_header(words: &mut [u32], rows: u32, cols: u32, count: u32)
     requires { ⌜ HeaderBounds rows count (now words) ⌝ }
     ensures { λ _. ⌜ now (words .exit) ≡ headed rows cols count (now (words .entry)) ⌝ }
 {
     let count_at = rows as usize + COUNT_PAST;
     let count_again_at = rows as usize + count as usize + COUNT_AGAIN_PAST;
+    words[REVISION_COUNT_AT] = 1;
+    words[REVISION_AT] = 0;
     words[SHAPE_COUNT_AT] = 2;
     words[ROWS_AT] = rows;
     words[COLS_AT] = cols;
@@ -138,6 +180,9 @@ fn header_valid(words: &[u32]) -> bool
     ensures { λ r. ⌜ r ≡ headerValid (now (words .entry)) ⌝ }
 {
     if words.len() < FIXED_WORDS + 1 {
+        return false;
+    }
+    if words[REVISION_COUNT_AT] != 1 {
         return false;
     }
     if words[SHAPE_COUNT_AT] != 2 {

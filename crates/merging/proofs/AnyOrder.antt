@@ -16,12 +16,13 @@ use Rattle.words.specs.Lent.{Address, lent}
 use Rattle.grid.specs.Grid.{Grid, Same}
 use Rattle.grid.specs.Entries.{entryCount}
 use Rattle.grid.proofs.Same.{same-refl, same-sym, same-trans, same-count}
-use Rattle.matrix.specs.Layout.{rows, cols, size, gridOf, workspaceWords}
+use Rattle.matrix.specs.Layout.{revision, rows, cols, size, gridOf, workspaceWords}
+use Rattle.matrix.specs.HeaderWords.{withRevision}
 use Rattle.matrix.specs.Valid.{valid}
-use Rattle.encoding.specs.Encode.{encode, gridSize, writtenOver}
-use Rattle.encoding.proofs.Canonical.{encode-ext, valid-encoded, valid-size}
+use Rattle.encoding.specs.Encode.{encode, gridSize}
+use Rattle.encoding.proofs.Canonical.{encode-ext, encode-revised, valid-encoded, valid-size}
 use Rattle.requests.specs.Refusal.{lentFinal}
-use Rattle.calls.specs.Completion.{lentAnswer}
+use Rattle.calls.specs.Completion.{lentAnswer, updatedTo}
 use Rattle.calls.proofs.operate.Met as operate-met
 use Rattle.calls.proofs.operate.Reads as operate-reads
 use Rattle.merging.specs.Merging.{join, joinAll, _∈_, here, there, Rearranged, Worded}
@@ -148,12 +149,14 @@ done g (then {xs = xs} t ts) =
 -- valid words with the same cells are the same matrix words
 matrix-words : (s : List ℕ) → valid s ≡ true → matrixWords s ≡ encode (gridOf s)
 matrix-words s v =
-    ap (take (size s)) (valid-encoded s v) ∙ take-at (encode (gridOf s)) (drop (size s) s) (size s) (valid-size s v)
+    ap (λ (x : List ℕ). take (size s) (withRevision 0 x)) (valid-encoded s v)
+    ∙ ap (take (size s)) (encode-revised (revision s) 0 (gridOf s) (drop (size s) s))
+    ∙ take-at (encode (gridOf s)) (drop (size s) s) (size s) (valid-size 0 s v)
 
 same-c : {c d : List ℕ} → valid c ≡ true → valid d ≡ true → Same (gridOf c) (gridOf d) → SameC c d
 same-c {c} {d} v w s = record {
   grid = s;
-  words = matrix-words c v ∙ encode-ext (gridOf c) (gridOf d) s ∙ sym (matrix-words d w);
+  words = matrix-words c v ∙ encode-ext 0 (gridOf c) (gridOf d) s ∙ sym (matrix-words d w);
 }
 
 suiting : {c : List ℕ} {xs : List (List ℕ)} → Stage c xs → All (rows c) (cols c) (map gridOf xs)
@@ -258,7 +261,7 @@ abbrev answerOf : List ℕ → List ℕ → ℕ → Answer
 answerOf c a n = lentAnswer (maxCall 0) a [] [] c [] [] n
 
 abbrev leftBy : List ℕ → List ℕ → ℕ → List ℕ
-leftBy c a n = unlessRefused (answerOf c a n) c (writtenOver (lentFinal (maxCall 0) a [] [] c [] []) c)
+leftBy c a n = unlessRefused (answerOf c a n) c (updatedTo (lentFinal (maxCall 0) a [] [] c [] []) c)
 
 possible-merge : Lfts 6 → (c a : List ℕ) (n : ℕ) → workspaceWords ≤ n
     → Merge c a (answerOf c a (length (zeros n))) (leftBy c a (length (zeros n)))

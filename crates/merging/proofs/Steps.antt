@@ -24,14 +24,15 @@ use Rattle.operations.specs.declared.Call.{Call}
 use Rattle.operations.specs.CellOperations.{unite}
 use Rattle.operations.specs.WriteBacks.{writeBack}
 use Rattle.operations.specs.Calls.{callFinal, indexesValid, shapesAgree}
-use Rattle.matrix.specs.Layout.{rows, cols, valuesFrom, rowColumns, rowValues, cellOf, gridOf, workspaceWords}
+use Rattle.grid.specs.Revision.{updating, revisionAfter}
+use Rattle.matrix.specs.Layout.{revision, rows, cols, valuesFrom, rowColumns, rowValues, cellOf, gridOf, workspaceWords}
 use Rattle.matrix.specs.Valid.{valid}
-use Rattle.encoding.specs.Encode.{encode, gridSize, writtenOver, Within}
+use Rattle.encoding.specs.Encode.{encodeRevised, gridSize, Within}
 use Rattle.encoding.proofs.Canonical.{encode-length, encode-valid, encode-same, valid-within}
 use Rattle.call_codes.specs.Decoding.{decoded}
 use Rattle.refusals.specs.Cases.{answerFor}
 use Rattle.requests.specs.Refusal.{inputRefusal, lentRefusal, lentFinal}
-use Rattle.calls.specs.Completion.{Attempted}
+use Rattle.calls.specs.Completion.{updatedTo, Attempted}
 use Rattle.merging.specs.Merging.{join, Word, Worded}
 use Rattle.merging.specs.AnyOrder.{byMax, identity, Words}
 use Rattle.merging.proofs.Cells.{identity-cell}
@@ -136,12 +137,13 @@ module _ (scalar : ℕ) (c a b m is js : List ℕ) (vc : valid c ≡ true) (va :
     merged work answer c′ h t =
         let e : answer ≡ accepted (entryCount final) =
         t .answer-is ∙ ap (λ (x : ℕ). answerFor x final) (taken work h) in
-        let d : c′ ≡ writtenOver final c =
-        t .words-are ∙ ap (λ (x : Answer). unlessRefused x c (writtenOver final c)) e in
+        let v = revisionAfter updating (revision c) in
+        let d : c′ ≡ updatedTo final c =
+        t .words-are ∙ ap (λ (x : Answer). unlessRefused x c (updatedTo final c)) e in
         record {
           code = ap (λ (x : Answer). x .code) e;
-          valid-c = rw d (encode-valid final (drop (gridSize final) c) within-final);
-          long = ap length d ∙ length-append (encode final) (drop (gridSize final) c)
-              ∙ (let l = length-drop (gridSize final) c in let k = encode-length final in omega (arith, fits-final));
-          grid = same-trans (rw d (encode-same final (drop (gridSize final) c))) final-same;
+          valid-c = rw d (encode-valid v final (drop (gridSize final) c) within-final);
+          long = ap length d ∙ length-append (encodeRevised v final) (drop (gridSize final) c)
+              ∙ (let l = length-drop (gridSize final) c in let k = encode-length v final in omega (arith, fits-final));
+          grid = same-trans (rw d (encode-same v final (drop (gridSize final) c))) final-same;
         }

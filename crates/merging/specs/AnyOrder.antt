@@ -19,6 +19,7 @@ use Rattle.words.specs.Lent.{Address, lent}
 use Rattle.grid.specs.Grid.{Same}
 use Rattle.grid.specs.Entries.{entryCount}
 use Rattle.matrix.specs.Layout.{rows, cols, size, gridOf, workspaceWords}
+use Rattle.matrix.specs.HeaderWords.{withRevision}
 use Rattle.matrix.specs.Valid.{valid}
 use Rattle.encoding.specs.Encode.{gridSize}
 use Rattle.call_codes.specs.declared.Options.{Options}
@@ -79,11 +80,12 @@ abbrev pub AllAccepted : List Answer → Type 0
 AllAccepted [] = Unit {0}
 AllAccepted (x ∷ xs) = (x .code ≡ 0) × AllAccepted xs
 
--- the words of the matrix at the front of a buffer, without the spare ones
+-- the words of the matrix at the front of a buffer, without the spare ones, and its revision left out
 abbrev pub matrixWords : List ℕ → List ℕ
-matrixWords s = take (size s) s
+matrixWords s = take (size s) (withRevision 0 s)
 
--- "The statement is about C's grid and sheet words, not about spare words or the counts returned on the way."
+-- "The statement is about C's grid and sheet words, not about spare words or the counts returned on the way." Every merge
+-- adds one to the revision: "A3's claim speaks of grids only" (A12), so of every word but that one.
 pub record SameC (c d : List ℕ) : Type 0 where
   pub grid : Same (gridOf c) (gridOf d)
   pub words : matrixWords c ≡ matrixWords d

@@ -20,18 +20,21 @@ use Rattle.model.specs.Model.{
   isVacant,
   gridIn,
   gridAt,
+  revisionIn,
+  revisionAt,
   slotSize,
   sizes,
   wordsNeeded,
+  neededWith,
 }
 use Rattle.model.specs.Calls.{noGrid, noCell, cellCases, noSlot, noRoom, fitCases}
 
--- both empty, or two grids that agree
+-- both empty, or two grids that agree, with one revision
 abbrev pub AlikeSlots : Slot → Slot → Type 0
 AlikeSlots vacant vacant = Unit {0}
-AlikeSlots vacant (holding h) = ⊥
-AlikeSlots (holding g) vacant = ⊥
-AlikeSlots (holding g) (holding h) = Same g h
+AlikeSlots vacant (holding u h) = ⊥
+AlikeSlots (holding v g) vacant = ⊥
+AlikeSlots (holding v g) (holding u h) = (v ≡ u) × Same g h
 
 -- slot by slot
 abbrev pub Alike : Model → Model → Type 0
@@ -47,7 +50,7 @@ alike-refl (x ∷ m) = (one x, alike-refl m)
   where
     one : (x : Slot) → AlikeSlots x x
     one vacant = tt
-    one (holding g) = same-refl g
+    one (holding v g) = (refl, same-refl g)
 
 alike-at : (m m′ : Model) (k : ℕ) → Alike m m′ → AlikeSlots (slotOf m k) (slotOf m′ k)
 alike-at [] [] k a = tt
@@ -66,21 +69,27 @@ alike-put (z ∷ m) (v ∷ m′) (suc k) x y a s = (a .0, alike-put m m′ k x y
 
 alike-vacant : (x y : Slot) → AlikeSlots x y → isVacant x ≡ isVacant y
 alike-vacant vacant vacant a = refl
-alike-vacant vacant (holding h) a = absurd a
-alike-vacant (holding g) vacant a = absurd a
-alike-vacant (holding g) (holding h) a = refl
+alike-vacant vacant (holding u h) a = absurd a
+alike-vacant (holding v g) vacant a = absurd a
+alike-vacant (holding v g) (holding u h) a = refl
 
 alike-grid : (x y : Slot) → AlikeSlots x y → Same (gridIn x) (gridIn y)
 alike-grid vacant vacant a = same-refl (gridIn vacant)
-alike-grid vacant (holding h) a = absurd a
-alike-grid (holding g) vacant a = absurd a
-alike-grid (holding g) (holding h) a = a
+alike-grid vacant (holding u h) a = absurd a
+alike-grid (holding v g) vacant a = absurd a
+alike-grid (holding v g) (holding u h) a = a .1
+
+alike-revision : (x y : Slot) → AlikeSlots x y → revisionIn x ≡ revisionIn y
+alike-revision vacant vacant a = refl
+alike-revision vacant (holding u h) a = absurd a
+alike-revision (holding v g) vacant a = absurd a
+alike-revision (holding v g) (holding u h) a = a .0
 
 alike-size : (x y : Slot) → AlikeSlots x y → slotSize x ≡ slotSize y
 alike-size vacant vacant a = refl
-alike-size vacant (holding h) a = absurd a
-alike-size (holding g) vacant a = absurd a
-alike-size (holding g) (holding h) a = same-size g h a
+alike-size vacant (holding u h) a = absurd a
+alike-size (holding v g) vacant a = absurd a
+alike-size (holding v g) (holding u h) a = same-size g h (a .1)
 
 alike-sizes : (m m′ : Model) → Alike m m′ → sizes m ≡ sizes m′
 alike-sizes [] [] a = refl
@@ -102,6 +111,9 @@ module _ (n : ℕ) (m m′ : Model) (a : Alike m m′) where
   pub grid-same : (k : ℕ) → Same (gridAt m k) (gridAt m′ k)
   grid-same k = alike-grid (slotOf m k) (slotOf m′ k) (alike-at m m′ k a)
 
+  pub revision-same : (k : ℕ) → revisionAt m k ≡ revisionAt m′ k
+  revision-same k = alike-revision (slotOf m k) (slotOf m′ k) (alike-at m m′ k a)
+
   -- 13
   pub no-grid : (k : ℕ) → noGrid m k ≡ noGrid m′ k
   no-grid k = let e = alike-vacant (slotOf m k) (slotOf m′ k) (alike-at m m′ k a) in rw e
@@ -115,10 +127,10 @@ module _ (n : ℕ) (m m′ : Model) (a : Alike m m′) where
       ∙ ap (λ (x : Case). noSlot k ∷ noGrid m′ k ∷ x ∷ []) e
 
   -- the room with a grid put into slot k
-  room-needed : (k : ℕ) (g g′ : Grid) → Same g g′
-      → wordsNeeded (put m k (holding g)) ≡ wordsNeeded (put m′ k (holding g′))
+  room-needed : (k : ℕ) (g g′ : Grid) → Same g g′ → neededWith m k g ≡ neededWith m′ k g′
   room-needed k g g′ s =
-      alike-needed (put m k (holding g)) (put m′ k (holding g′)) (alike-put m m′ k (holding g) (holding g′) a s)
+      alike-needed (put m k (holding 0 g)) (put m′ k (holding 0 g′))
+      (alike-put m m′ k (holding 0 g) (holding 0 g′) a (refl, s))
 
   -- 11, and 10 and 11
   pub room-same : (k : ℕ) (g g′ : Grid) → Same g g′ → noRoom n m k g ≡ noRoom n m′ k g′
@@ -126,5 +138,5 @@ module _ (n : ℕ) (m m′ : Model) (a : Alike m m′) where
 
   pub fit-same : (k : ℕ) (g g′ : Grid) → Same g g′ → fitCases n m k g ≡ fitCases n m′ k g′
   fit-same k g g′ s =
-      ap (λ (x : ℕ). counted x (wordsNeeded (put m k (holding g))) n) (same-count g g′ s)
+      ap (λ (x : ℕ). counted x (neededWith m k g) n) (same-count g g′ s)
       ∙ ap (λ (x : ℕ). counted (entryCount g′) x n) (room-needed k g g′ s)

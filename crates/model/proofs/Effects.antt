@@ -25,13 +25,14 @@ use Rattle.grid.specs.declared.EntryAt.the-variants as entry
 use Rattle.grid.specs.Grid.{Grid, Same, emptyGrid}
 use Rattle.grid.specs.Position.{entryAt}
 use Rattle.grid.specs.Update.{withCell}
+use Rattle.grid.specs.Revision.{Writing, updating, making, revisionAfter}
 use Rattle.grid.proofs.Same.{same-refl, same-count, same-changed}
 use Rattle.grid.proofs.Counts.{empty-count, cleared-count}
 use Rattle.grid.proofs.Position.{same-entry}
 use Rattle.refusals.specs.Cases.{Case, given, firstApplying}
 use Rattle.refusals.proofs.Cases.{later, applying-after, applying-tail, applying-none}
 use Rattle.refusals.proofs.Codes.{Coded, applying-coded, coded-append, outputs-coded}
-use Rattle.model.specs.Model.{vacant, holding, Model, slotOf, put, isVacant, gridAt, wordsNeeded}
+use Rattle.model.specs.Model.{vacant, holding, Model, slotOf, isVacant, gridAt, revisionAt, neededWith}
 use Rattle.model.specs.Effects.{
   Reply,
   wrote,
@@ -70,7 +71,7 @@ use Rattle.model.specs.Calls.{
   withoutValue,
   effect,
 }
-use Rattle.model.proofs.Alike.{Alike, alike-put, grid-same, no-grid, cell-cases, room-same, fit-same}
+use Rattle.model.proofs.Alike.{Alike, alike-put, grid-same, revision-same, no-grid, cell-cases, room-same, fit-same}
 use Rattle.model.proofs.Fitting.{Fitting, put-fits, dropped-fits, shaped-fits, fewer-fits}
 use Rattle.model.proofs.Operations.{operation-coded, operation-fits, operation-same, operated-same}
 
@@ -168,16 +169,18 @@ module _ (e : Effect) (n : ℕ) (m : Model) where
         go (no z) = rw (← (s .refusal), ne-eqb _ _ z) a
 
 -- ---- a grid put into a slot
-module _ (k : ℕ) (grid : Model → Grid) (cases : ℕ → Model → List Case) where
+module _ (how : Writing) (k : ℕ) (grid : Model → Grid) (cases : ℕ → Model → List Case) where
   putting-same : (n : ℕ) (m m′ : Model) → Alike m m′ → firstApplying (cases n m) ≡ firstApplying (cases n m′)
-      → (firstApplying (cases n m) ≡ 0 → Same (grid m) (grid m′)) → SameEffect (puttingGrid k grid cases) n m m′
+      → (firstApplying (cases n m) ≡ 0 → Same (grid m) (grid m′)) → SameEffect (puttingGrid how k grid cases) n m m′
   putting-same n m m′ a r s = record {
     refusal = r;
     answer = λ z. ap (λ (c : ℕ). wrote (accepted c)) (same-count (grid m) (grid m′) (s z));
-    change = λ z. alike-put m m′ k (holding (grid m)) (holding (grid m′)) a (s z);
+    change = λ z.
+        alike-put m m′ k (holding (revisionAfter how (revisionAt m k)) (grid m))
+        (holding (revisionAfter how (revisionAt m′ k)) (grid m′)) a (ap (revisionAfter how) (revision-same n m m′ a k), s z);
   }
 
-  putting-sound : ((n : ℕ) (m : Model) → Coded (cases n m)) → Sound (puttingGrid k grid cases)
+  putting-sound : ((n : ℕ) (m : Model) → Coded (cases n m)) → Sound (puttingGrid how k grid cases)
   putting-sound c = record { coded = c; accepted-code = λ m. refl; of-kind = λ m. tt }
 
 -- ---- call by call: models that agree
@@ -206,24 +209,24 @@ module _ (n : ℕ) (m m′ : Model) (a : Alike m m′) where
   unfolding effect
   effect-same (newEmpty k r c) =
       let s = same-refl (emptyGrid r c) in
-      putting-same k _ _ n m m′ a
+      putting-same making k _ _ n m m′ a
       (ap (λ (x : Case). firstApplying (noSlot k ∷ shape r c ∷ x ∷ [])) (room-same n m m′ a k _ _ s)) (λ z. s)
   effect-same (dropSlot k) =
       record { refusal = refl; answer = λ z. refl; change = λ z. alike-put m m′ k vacant vacant a tt }
   effect-same (setCell k i j v) =
       let s = changed-same k i j (Present v) in
-      putting-same k _ _ n m m′ a
+      putting-same updating k _ _ n m m′ a
       (ap (λ (xs : List Case). firstApplying (xs ++ fitCases n m k (withValue m k i j v))) (cell-cases n m m′ a k i j)
       ∙ ap (λ (xs : List Case). firstApplying (cellCases m′ k i j ++ xs)) (fit-same n m m′ a k _ _ s)) (λ z. s)
   effect-same (clearCell k i j) =
-      putting-same k _ _ n m m′ a (ap firstApplying (cell-cases n m m′ a k i j)) (λ z. changed-same k i j Absent)
+      putting-same updating k _ _ n m m′ a (ap firstApplying (cell-cases n m m′ a k i j)) (λ z. changed-same k i j Absent)
   effect-same (readCell k i j) = record {
     refusal = ap firstApplying (cell-cases n m m′ a k i j);
     answer = λ z. ap (λ (x : EntryAt). found (foundAnswer x)) (found-same k i j z);
     change = λ z. a;
   }
   effect-same (operation x) =
-      putting-same _ _ _ n m m′ a (operation-same n m m′ a (operateOf x)) (operated-same n m m′ a (operateOf x))
+      putting-same updating _ _ _ n m m′ a (operation-same n m m′ a (operateOf x)) (operated-same n m m′ a (operateOf x))
   effect-same (reduceSlot k number) = record {
     refusal = ap (λ (x : Case). firstApplying (noSlot k ∷ noMonoid number ∷ x ∷ [])) (no-grid n m m′ a k);
     answer = λ z.
@@ -244,10 +247,10 @@ module _ (n : ℕ) (m : Model) (h : Fitting n m) where
   effect-fits (newEmpty k r c) z =
       let h₁ = later (leb slotCount k) 12 _ refl z in
       let h₂ = later (not (inRange maxRows r and inRange maxCols c)) 8 _ refl (h₁ .rest) in
-      let h₃ = later (ltb n (wordsNeeded (put m k (holding (emptyGrid r c))))) 11 0 refl (h₂ .rest) in
+      let h₃ = later (ltb n (neededWith m k (emptyGrid r c))) 11 0 refl (h₂ .rest) in
       let t = not-false _ (h₂ .here) in
       let e = empty-count r c in
-      put-fits n m h k (holding (emptyGrid r c))
+      put-fits n m h k (holding 0 (emptyGrid r c))
       (record {
         row-range = range-facts maxRows r (and-left _ _ t);
         col-range = range-facts maxCols c (and-right _ _ t);
@@ -259,11 +262,11 @@ module _ (n : ℕ) (m : Model) (h : Fitting n m) where
       let fits = fitCases n m k (withValue m k i j v) in
       let c = applying-none (cellCases m k i j) fits (refl, (refl, (refl, tt))) z in
       let f = applying-tail (cellCases m k i j) fits (refl, (refl, (refl, tt))) z in
-      shaped-fits n m h k (withValue m k i j v) (cell-held k i j c) refl refl f
+      shaped-fits n m h k (withValue m k i j v) (cell-held k i j c) refl refl _ f
   effect-fits (clearCell k i j) z =
-      fewer-fits n m h k (withoutValue m k i j) (cell-held k i j z) refl refl (cleared-count (gridAt m k) i j)
+      fewer-fits n m h k (withoutValue m k i j) (cell-held k i j z) refl refl _ (cleared-count (gridAt m k) i j)
   effect-fits (readCell k i j) z = h
-  effect-fits (operation x) z = operation-fits n m (operateOf x) h z
+  effect-fits (operation x) z = operation-fits n m (operateOf x) _ h z
   effect-fits (reduceSlot k number) z = h
 
 -- ---- call by call: answers and codes
@@ -276,20 +279,20 @@ found-code (entry.Present v p) = refl
 
 pub effect-sound : (c : StoreCall) → Sound (effect c)
 unfolding effect
-effect-sound (newEmpty k r c) = putting-sound k _ _ (λ n m. (omega arith, (omega arith, (omega arith, tt))))
+effect-sound (newEmpty k r c) = putting-sound making k _ _ (λ n m. (omega arith, (omega arith, (omega arith, tt))))
 effect-sound (dropSlot k) =
     record { coded = λ n m. (omega arith, tt); accepted-code = λ m. refl; of-kind = λ m. tt }
 effect-sound (setCell k i j v) =
-    putting-sound k _ _ (λ n m. coded-append (cellCases m k i j) (fitCases n m k (withValue m k i j v))
+    putting-sound updating k _ _ (λ n m. coded-append (cellCases m k i j) (fitCases n m k (withValue m k i j v))
     (cell-coded m k i j)
-    (outputs-coded (withValue m k i j v) (wordsNeeded (put m k (holding (withValue m k i j v)))) n))
-effect-sound (clearCell k i j) = putting-sound k _ _ (λ n m. cell-coded m k i j)
+    (outputs-coded (withValue m k i j v) (neededWith m k (withValue m k i j v)) n))
+effect-sound (clearCell k i j) = putting-sound updating k _ _ (λ n m. cell-coded m k i j)
 effect-sound (readCell k i j) = record {
   coded = λ n m. cell-coded m k i j;
   accepted-code = λ m. found-code (entryAt (gridAt m k) i j);
   of-kind = λ m. tt;
 }
-effect-sound (operation x) = putting-sound _ _ _ (λ n m. operation-coded n m (operateOf x))
+effect-sound (operation x) = putting-sound updating _ _ _ (λ n m. operation-coded n m (operateOf x))
 effect-sound (reduceSlot k number) = record {
   coded = λ n m. (omega arith, (omega arith, (omega arith, tt)));
   accepted-code = λ m. refl;

@@ -28,12 +28,13 @@ use Rattle.model.specs.Model.{
   slotSize,
   sizes,
   wordsNeeded,
+  neededWith,
 }
 use Rattle.model.specs.Calls.{fitCases}
 
 abbrev pub WithinSlot : Slot → Type 0
 WithinSlot vacant = Unit {0}
-WithinSlot (holding g) = Within g
+WithinSlot (holding v g) = Within g
 
 pub record Fitting (n : ℕ) (m : Model) : Type 0 where
   pub slots : length m ≡ slotCount
@@ -59,14 +60,21 @@ sizes-put : (m : Model) (k : ℕ) (x : Slot) → slotSize x ≤ slotSize (slotOf
 sizes-put m k x h =
     let i = sizes-more m k x (slotOf m k) h in let e = ap sizes (set-getD m k vacant) in omega arith
 
+-- the room with a grid in slot k, whatever its revision
+pub needed-with : (m : Model) (k v : ℕ) (g : Grid) → wordsNeeded (put m k (holding v g)) ≡ neededWith m k g
+needed-with m k v g =
+    let i = sizes-more m k (holding v g) (holding 0 g) (omega arith) in
+    let j = sizes-more m k (holding 0 g) (holding v g) (omega arith) in
+    omega arith
+
 -- what a slot that is not empty holds
 within-grid : (x : Slot) → isVacant x ≡ false → WithinSlot x → Within (gridIn x)
 within-grid vacant e w = absurd (false≢true (sym e))
-within-grid (holding g) e w = w
+within-grid (holding v g) e w = w
 
 size-grid : (x : Slot) → isVacant x ≡ false → slotSize x ≡ gridSize (gridIn x)
 size-grid vacant e = absurd (false≢true (sym e))
-size-grid (holding g) e = refl
+size-grid (holding v g) e = refl
 
 module _ (n : ℕ) (m : Model) (h : Fitting n m) where
   -- what is put fits
@@ -81,25 +89,26 @@ module _ (n : ℕ) (m : Model) (h : Fitting n m) where
       put-fits k vacant tt (omega arith)
 
   -- a grid of the shape of slot k's
-  module _ (k : ℕ) (g : Grid) (v : isVacant (slotOf m k) ≡ false) (p : g .rows ≡ gridAt m k .rows)
+  module _ (k : ℕ) (g : Grid) (full : isVacant (slotOf m k) ≡ false) (p : g .rows ≡ gridAt m k .rows)
       (q : g .cols ≡ gridAt m k .cols) where
     shaped : entryCount g ≤ maxEntries → Within g
     shaped f =
-        let w = within-grid (slotOf m k) v (h .within k) in
+        let w = within-grid (slotOf m k) full (h .within k) in
         record { row-range = rw p (w .row-range); col-range = rw q (w .col-range); few = f }
 
     -- where neither 10 nor 11 applies
-    pub shaped-fits : firstApplying (fitCases n m k g) ≡ 0 → Fitting n (put m k (holding g))
-    shaped-fits z =
+    pub shaped-fits : (v : ℕ) → firstApplying (fitCases n m k g) ≡ 0 → Fitting n (put m k (holding v g))
+    shaped-fits v z =
         let h₁ = later (ltb maxEntries (entryCount g)) 10 _ refl z in
-        let h₂ = later (ltb n (wordsNeeded (put m k (holding g)))) 11 0 refl (h₁ .rest) in
-        put-fits k (holding g) (shaped (ltb-false _ _ (h₁ .here))) (ltb-false _ _ (h₂ .here))
+        let h₂ = later (ltb n (neededWith m k g)) 11 0 refl (h₁ .rest) in
+        put-fits k (holding v g) (shaped (ltb-false _ _ (h₁ .here)))
+        (omega (arith, needed-with m k v g, ltb-false n (neededWith m k g) (h₂ .here)))
 
     -- with no more entries it needs no more room
-    pub fewer-fits : entryCount g ≤ entryCount (gridAt m k) → Fitting n (put m k (holding g))
-    fewer-fits f =
-        let w = within-grid (slotOf m k) v (h .within k) .few in
-        let e = size-grid (slotOf m k) v in
-        let s = sizes-put m k (holding g) (omega arith) in
+    pub fewer-fits : (v : ℕ) → entryCount g ≤ entryCount (gridAt m k) → Fitting n (put m k (holding v g))
+    fewer-fits v f =
+        let w = within-grid (slotOf m k) full (h .within k) .few in
+        let e = size-grid (slotOf m k) full in
+        let s = sizes-put m k (holding v g) (omega arith) in
         let r = h .room in
-        put-fits k (holding g) (shaped (omega arith)) (omega arith)
+        put-fits k (holding v g) (shaped (omega arith)) (omega arith)

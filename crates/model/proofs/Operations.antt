@@ -16,7 +16,7 @@ use Rattle.refusals.specs.Cases.{Case, given, firstApplying, numberCases}
 use Rattle.refusals.proofs.Cases.{later, applying-after, applying-none, applying-tail}
 use Rattle.refusals.proofs.Codes.{Coded, coded-append, numbers-coded, agreements-coded, outputs-coded}
 use Rattle.model.specs.declared.Roles.{Roles}
-use Rattle.model.specs.Model.{holding, Model, slotOf, put, isVacant, gridAt, wordsNeeded}
+use Rattle.model.specs.Model.{holding, Model, slotOf, put, isVacant, gridAt, neededWith}
 use Rattle.model.specs.Calls.{
   Operate,
   noSlot,
@@ -72,7 +72,7 @@ module _ (n : ℕ) (m : Model) (o : Operate) where
       let a =
       agreements-coded (o .call) (gridAt m (o .roles .first)) (gridAt m (o .roles .second)) (gridAt m (o .roles .mask))
       (gridAt m (o .roles .output)) (o .is) (o .js) (o .work) in
-      let f = outputs-coded (operated m o) (wordsNeeded (put m (o .roles .output) (holding (operated m o)))) n in
+      let f = outputs-coded (operated m o) (neededWith m (o .roles .output) (operated m o)) n in
       coded-append (roleCases noSlot (o .roles)) (numberCases (o .call) ++ fromVacancies)
       (roles-coded noSlot (o .roles) (λ k. (omega arith, tt)))
       (coded-append (numberCases (o .call)) fromVacancies (numbers-coded (o .call))
@@ -80,15 +80,16 @@ module _ (n : ℕ) (m : Model) (o : Operate) where
       (coded-append (agreementsOf m o) fits a f)))
 
   -- what fits fits afterwards
-  pub operation-fits : Fitting n m → refusal n m o ≡ 0 → Fitting n (put m (o .roles .output) (holding (operated m o)))
+  pub operation-fits : (v : ℕ) → Fitting n m → refusal n m o ≡ 0
+      → Fitting n (put m (o .roles .output) (holding v (operated m o)))
   unfolding callFinal
-  operation-fits h z =
+  operation-fits v h z =
       let none = none-of z in
       let v₁ = later (isVacant (slotOf m (o .roles .first))) 13 _ refl (none .vacant) in
       let v₂ = later (isVacant (slotOf m (o .roles .second))) 13 _ refl (v₁ .rest) in
       let v₃ = later (isVacant (slotOf m (o .roles .mask))) 13 _ refl (v₂ .rest) in
       let v₄ = later (isVacant (slotOf m (o .roles .output))) 13 0 refl (v₃ .rest) in
-      shaped-fits n m h (o .roles .output) (operated m o) (v₄ .here) refl refl (none .fit)
+      shaped-fits n m h (o .roles .output) (operated m o) (v₄ .here) refl refl v (none .fit)
 
 -- ---- on models that agree
 module _ (n : ℕ) (m m′ : Model) (a : Alike m m′) (o : Operate) where

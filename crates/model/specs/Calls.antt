@@ -20,6 +20,7 @@ use Rattle.answers.specs.Reads.{foundAnswer}
 use Rattle.answers.specs.Numbers.{numberAnswer}
 use Rattle.grid.specs.Grid.{Grid, emptyGrid}
 use Rattle.grid.specs.Position.{entryAt}
+use Rattle.grid.specs.Revision.{updating, making}
 use Rattle.grid.specs.Update.{withCell}
 use Rattle.grid.specs.declared.Cell.the-variants.{Absent, Present}
 use Rattle.operations.specs.declared.Call.{Call}
@@ -31,7 +32,7 @@ use Rattle.operator_codes.specs.Codes.{monoidNumbered}
 use Rattle.reductions.specs.Reductions.{gridTotal}
 use Rattle.refusals.specs.Cases.{Case, given, numberCases, agreementCases, outputCases}
 use Rattle.model.specs.declared.Roles.{Roles}
-use Rattle.model.specs.Model.{vacant, holding, Model, slotOf, put, isVacant, gridAt, wordsNeeded}
+use Rattle.model.specs.Model.{vacant, Model, slotOf, isVacant, gridAt, neededWith}
 use Rattle.model.specs.Effects.{
   writing,
   reading,
@@ -97,11 +98,11 @@ cellCases m k i j = noSlot k ∷ noGrid m k ∷ noCell (gridAt m k) i j ∷ []
 
 -- 11: "8 plus the sizes of all grids, as they would be after the call, is more than the shelf's length"
 abbrev pub noRoom : ℕ → Model → ℕ → Grid → Case
-noRoom n m k g = given insufficientSpace (ltb n (wordsNeeded (put m k (holding g))))
+noRoom n m k g = given insufficientSpace (ltb n (neededWith m k g))
 
 -- 10 and 11 of a grid that is put into slot k
 abbrev pub fitCases : ℕ → Model → ℕ → Grid → List Case
-fitCases n m k g = outputCases g (wordsNeeded (put m k (holding g))) n
+fitCases n m k g = outputCases g (neededWith m k g) n
 
 -- ---- an operation
 
@@ -157,7 +158,7 @@ operationCases n m o =
     ++ (agreementsOf m o ++ fitCases n m (o .roles .output) (operated m o))))
 
 abbrev pub operationEffect : Operate → Effect
-operationEffect o = puttingGrid (o .roles .output) (λ m. operated m o) (λ n m. operationCases n m o)
+operationEffect o = puttingGrid updating (o .roles .output) (λ m. operated m o) (λ n m. operationCases n m o)
 
 -- ---- every call
 
@@ -177,8 +178,9 @@ abbrev pub totalCases : Model → ℕ → ℕ → List Case
 totalCases m k number = noSlot k ∷ noMonoid number ∷ noGrid m k ∷ []
 
 unfoldable pub effect : StoreCall → Effect
--- lay "puts a grid of the given shape without values where it is told, whatever was there"
-effect (newEmpty k r c) = puttingGrid k (λ m. emptyGrid r c) (λ n m. shapeCases k r c ++ (noRoom n m k (emptyGrid r c) ∷ []))
+-- lay "puts a grid of the given shape without values where it is told, whatever was there"; A12: "Laying starts at 0"
+effect (newEmpty k r c) =
+    puttingGrid making k (λ m. emptyGrid r c) (λ n m. shapeCases k r c ++ (noRoom n m k (emptyGrid r c) ∷ []))
 -- drop "empties the place", and "answers 0 and 0"
 effect (dropSlot k) = record {
   kind = writing;
@@ -186,9 +188,10 @@ effect (dropSlot k) = record {
   change = λ m. puts k vacant;
   answer = λ m. wrote (accepted 0);
 }
+-- A12: "Each accepted call that writes into a sheet adds one to that sheet's revision, even where no cell changes"
 effect (setCell k i j v) =
-    puttingGrid k (λ m. withValue m k i j v) (λ n m. cellCases m k i j ++ fitCases n m k (withValue m k i j v))
-effect (clearCell k i j) = puttingGrid k (λ m. withoutValue m k i j) (λ n m. cellCases m k i j)
+    puttingGrid updating k (λ m. withValue m k i j v) (λ n m. cellCases m k i j ++ fitCases n m k (withValue m k i j v))
+effect (clearCell k i j) = puttingGrid updating k (λ m. withoutValue m k i j) (λ n m. cellCases m k i j)
 -- "read changes nothing. .. Read answers present with the value, or absent."; A11: it "counts present cells in row order"
 effect (readCell k i j) = record {
   kind = reading;

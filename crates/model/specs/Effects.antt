@@ -12,8 +12,9 @@ use Rattle.answers.specs.Reads.{refusedRead}
 use Rattle.answers.specs.Numbers.{refusedNumber}
 use Rattle.grid.specs.Grid.{Grid}
 use Rattle.grid.specs.Entries.{entryCount}
+use Rattle.grid.specs.Revision.{Writing, revisionAfter}
 use Rattle.refusals.specs.Cases.{Case, firstApplying}
-use Rattle.model.specs.Model.{Slot, holding, Model, put}
+use Rattle.model.specs.Model.{Slot, holding, Model, put, revisionAt}
 
 -- an answer: of a call that writes, of a read, or of a reduction to a number
 pub data Reply : Type 0 where
@@ -56,12 +57,12 @@ pub record Effect : Type 0 where
   pub answer : (m : Model) → Reply
 
 -- a call that puts a grid into slot k: "Lay, set, clear and the operations answer 0 and the number of values in the grid
--- written."
-abbrev pub puttingGrid : ℕ → (Model → Grid) → (ℕ → Model → List Case) → Effect
-puttingGrid k grid cases = record {
+-- written." Its revision is the one after the slot's, or 0 where the grid is made anew (document 02, A12).
+abbrev pub puttingGrid : Writing → ℕ → (Model → Grid) → (ℕ → Model → List Case) → Effect
+puttingGrid how k grid cases = record {
   kind = writing;
   cases = cases;
-  change = λ m. puts k (holding (grid m));
+  change = λ m. puts k (holding (revisionAfter how (revisionAt m k)) (grid m));
   answer = λ m. wrote (accepted (entryCount (grid m)));
 }
 

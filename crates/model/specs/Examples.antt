@@ -56,7 +56,7 @@ absent p = found (foundAnswer (entry.Absent p))
 abbrev readRefusal : ℕ → Reply
 readRefusal code = found (refusedRead code)
 
--- ---- room: a store of 16 words has room for one empty vector, which fits exactly
+-- ---- room: a store of 18 words has room for one empty vector, which fits exactly
 abbrev roomCalls : List StoreCall
 roomCalls =
     newEmpty 0 1 2
@@ -80,7 +80,7 @@ roomCalls =
 
 -- the set needs two words more than there are, counted after the call; dropped, the room serves the next; what is laid over
 -- gives up its room; 8 and 13 come before 11
-room-answered : replies 16 fresh roomCalls
+room-answered : replies 18 fresh roomCalls
     ≡ entries 0
     ∷ refusal 11
     ∷ refusal 11
@@ -154,13 +154,13 @@ cells-answered = refl
 -- and a set that fits exactly is accepted
 abbrev full : Model
 full =
-    holding (record { rows = 64; cols = 33; cell = λ i j. cond (ltb j 32) (Present 1) Absent })
+    holding 0 (record { rows = 64; cols = 33; cell = λ i j. cond (ltb j 32) (Present 1) Absent })
     ∷ replicate 7 vacant
 
 abbrev fullCalls : List StoreCall
 fullCalls = setCell 0 5 32 7 ∷ setCell 0 5 31 7 ∷ clearCell 0 5 30 ∷ setCell 0 5 32 7 ∷ readCell 0 5 32 ∷ []
 
-full-answered : replies 4175 full fullCalls ≡ refusal 10 ∷ entries 2048 ∷ entries 2047 ∷ entries 2048 ∷ value 7 191 ∷ []
+full-answered : replies 4177 full fullCalls ≡ refusal 10 ∷ entries 2048 ∷ entries 2047 ∷ entries 2048 ∷ value 7 191 ∷ []
 unfolding effect replyOf nextOf entryAt _and_ flatten gather one
 full-answered = refl
 
@@ -296,7 +296,7 @@ unfolding effect replyOf nextOf entryAt inRange _and_ all flatten gather one cal
 order-answered = refl
 
 -- the final C does not fit: 9 comes before 11, and C is as it was. It takes the room of a slot that goes
-tight-answered : replies 61 (modelAfter 61 fresh laid)
+tight-answered : replies 69 (modelAfter 69 fresh laid)
     (difference true 0 1 2 3 (workspaceWords - 1)
     ∷ difference true 0 1 2 3 workspaceWords
     ∷ readCell 3 0 0
@@ -309,7 +309,7 @@ unfolding effect replyOf nextOf entryAt inRange _and_ all flatten gather one cal
 tight-answered = refl
 
 -- with one word more it fits exactly, beside all others
-exact-answered : replies 62 (modelAfter 62 fresh laid) (difference true 0 1 2 3 workspaceWords ∷ []) ≡ entries 4 ∷ []
+exact-answered : replies 70 (modelAfter 70 fresh laid) (difference true 0 1 2 3 workspaceWords ∷ []) ≡ entries 4 ∷ []
 unfolding effect replyOf nextOf entryAt inRange _and_ all flatten gather one callFinal indexesValid listValid shapesAgree
     writeBack binaryWord binaryNumbered signed word
 exact-answered = refl

@@ -3,3 +3,4 @@ pub mod Effects
 pub mod Calls
 pub mod Histories
 pub mod Examples
+pub mod RevisionExamples

@@ -8,10 +8,10 @@ use Rattle.limits.specs.Limits.{slotCount}
 use Rattle.grid.specs.Grid.{Grid, emptyGrid}
 use Rattle.grid.specs.Size.{gridSize}
 
--- "A place is empty or holds one grid"
+-- "A place is empty or holds one grid"; document 02, A12: "the wall of grids carries revisions"
 pub data Slot : Type 0 where
   vacant : Slot
-  holding : Grid → Slot
+  holding : (revision : ℕ) → Grid → Slot
 
 -- the slots in order
 abbrev pub Model : Type 0
@@ -30,20 +30,28 @@ put m k x = set m k x
 
 abbrev pub isVacant : Slot → Bool
 isVacant vacant = true
-isVacant (holding g) = false
+isVacant (holding v g) = false
 
 -- the grid of a slot that holds one. Of an empty slot it is never used: 13 comes before.
 abbrev pub gridIn : Slot → Grid
 gridIn vacant = emptyGrid 0 0
-gridIn (holding g) = g
+gridIn (holding v g) = g
 
 abbrev pub gridAt : Model → ℕ → Grid
 gridAt m k = gridIn (slotOf m k)
 
+-- and its revision
+abbrev pub revisionIn : Slot → ℕ
+revisionIn vacant = 0
+revisionIn (holding v g) = v
+
+abbrev pub revisionAt : Model → ℕ → ℕ
+revisionAt m k = revisionIn (slotOf m k)
+
 -- "its size is that of its sheet"; an empty slot has none
 abbrev pub slotSize : Slot → ℕ
 slotSize vacant = 0
-slotSize (holding g) = gridSize g
+slotSize (holding v g) = gridSize g
 
 abbrev pub sizes : Model → ℕ
 sizes [] = 0
@@ -52,3 +60,7 @@ sizes (x ∷ m) = slotSize x + sizes m
 -- "room is needed for 8 plus the sizes of all sheets"
 abbrev pub wordsNeeded : Model → ℕ
 wordsNeeded m = slotCount + sizes m
+
+-- with grid g in slot k: it takes as many words with any revision
+abbrev pub neededWith : Model → ℕ → Grid → ℕ
+neededWith m k g = wordsNeeded (put m k (holding 0 g))

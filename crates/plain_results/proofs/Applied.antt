@@ -188,7 +188,7 @@ module _ (op : ApplyOp) (v : byValue op ≡ true) where
         record {
           count = λ l. q;
           words = λ l. ap (take (gridSize T)) (e ∙ ap (λ (k : ℕ). headed r (cols a) k w₂) q ∙ headed-written applied-in-place)
-              ∙ take-at (encode T) _ (gridSize T) (encode-length T);
+              ∙ take-at (encode T) _ (gridSize T) (encode-length 0 T);
           full = λ f. absurd (omega (arith, few));
         }
 

@@ -96,6 +96,6 @@ module _ (op : Operation) (a b c is js : List ℕ) (p : Inputs op a b c is js) (
         (ap (λ (m : ℕ). part (columnsAt m) (columnsAt m + length (take n ov)) w₁) (sym q) ∙ columns) (rows .values) in
         record {
           count = λ o. rows .count;
-          words = λ o. ap (take (gridSize T)) (x ∙ y) ∙ take-at (encode T) _ (gridSize T) (encode-length T);
+          words = λ o. ap (take (gridSize T)) (x ∙ y) ∙ take-at (encode T) _ (gridSize T) (encode-length 0 T);
           full = h .full;
         }

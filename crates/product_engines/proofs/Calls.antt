@@ -5,10 +5,9 @@ use mathlib.Core.List.{List}
 use lib.ListN.{length, replicate}
 use Rattle.answers.specs.declared.Answer.{Answer}
 use Rattle.answers.specs.Refusals.{unlessRefused}
-use Rattle.encoding.specs.Encode.{writtenOver}
 use Rattle.operations.specs.declared.Call.{Call}
 use Rattle.requests.specs.Refusal.{lentFinal}
-use Rattle.calls.specs.Completion.{Completed}
+use Rattle.calls.specs.Completion.{updatedTo, Completed}
 use Rattle.calls.proofs.operate_with.Met as with-met
 use Rattle.calls.proofs.operate_with.Reads as with
 use Rattle.model.specs.Effects.{Reply, wrote, found, totalled}
@@ -26,7 +25,7 @@ completed-unique {call} {a} {b} {m} {c} {is} {js} {w} {r} {r′} h k =
       answers = e;
       written =
           k .attempted .words-are
-          ∙ ap (λ (x : Answer). unlessRefused x c (writtenOver (lentFinal call a b m c is js) c)) e
+          ∙ ap (λ (x : Answer). unlessRefused x c (updatedTo (lentFinal call a b m c is js) c)) e
           ∙ sym (h .attempted .words-are);
       workspace = k .cleared ∙ sym (h .cleared);
     }

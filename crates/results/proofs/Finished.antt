@@ -14,7 +14,7 @@ use Rattle.grid.specs.Entries.{entryCount, gridColumns, gridValues}
 use Rattle.matrix.specs.Layout.{startsAt, columnsAt, countAgainAt, valuesAt, sizeOf, start}
 use Rattle.matrix.specs.HeaderWords.{headed}
 use Rattle.encoding.specs.Encode.{entriesBefore, writtenOver}
-use Rattle.encoding.proofs.Assembled.{InPlace, assembled, headed-assembled}
+use Rattle.encoding.proofs.Assembled.{InPlace, headed-anew}
 use Rattle.results.specs.Staging.{stagedAt, ResultBounds, finished, Staged}
 use Rattle.results.proofs.Staged.{part-set-other}
 
@@ -89,4 +89,4 @@ module _ (g : Grid) (n : ℕ) (w : List ℕ) (b : ResultBounds (g .rows) (g .col
   finished-written =
       let whole = headed r (g .cols) (entryCount g) ended in
       let e : finished r (g .cols) n w ≡ whole = ap (λ (x : ℕ). headed r (g .cols) x ended) (s .count) in
-      e ∙ assembled g whole (headed-assembled finished-in-place) ∙ ap (writtenOver g) (sym e)
+      e ∙ headed-anew finished-in-place ∙ ap (writtenOver g) (sym e)

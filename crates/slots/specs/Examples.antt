@@ -24,10 +24,10 @@ fresh-empty = refl
 
 -- "The 1 by 4 strip with 10, 20, 40 at columns 0, 1, 3" in slot 1, and two words more than it needs
 abbrev vectorWords : List ℕ
-vectorWords = 2 ∷ 1 ∷ 4 ∷ 2 ∷ 0 ∷ 3 ∷ 3 ∷ 0 ∷ 1 ∷ 3 ∷ 3 ∷ 10 ∷ 20 ∷ 40 ∷ []
+vectorWords = 1 ∷ 0 ∷ 2 ∷ 1 ∷ 4 ∷ 2 ∷ 0 ∷ 3 ∷ 3 ∷ 0 ∷ 1 ∷ 3 ∷ 3 ∷ 10 ∷ 20 ∷ 40 ∷ []
 
 abbrev oneVector : List ℕ
-oneVector = (0 ∷ 14 ∷ vectorWords) ++ replicate (6 + 2) 0
+oneVector = (0 ∷ 16 ∷ vectorWords) ++ replicate (6 + 2) 0
 
 pub one-vector-valid : storeValid oneVector ≡ true
 unfolding storeValid sectioned endFrom allZero allContentsValid contentsValid slotsOf slotsFrom _and_ all
@@ -42,11 +42,11 @@ unfolding slotsOf slotsFrom
 one-vector-held = refl
 
 -- its sections end two words before the store does
-pub one-vector-end : endFrom slotCount oneVector ≡ slotCount + 14
+pub one-vector-end : endFrom slotCount oneVector ≡ slotCount + 16
 unfolding endFrom
 one-vector-end = refl
 
-pub one-vector-written : writing (slotCount + 16) held ≡ oneVector
+pub one-vector-written : writing (slotCount + 18) held ≡ oneVector
 unfolding writing
 one-vector-written = refl
 
@@ -68,7 +68,7 @@ unfolding storeValid sectioned endFrom allZero allContentsValid contentsValid sl
 count-past = refl
 
 -- a count of a word more than the matrix has
-spare-in-slot : storeValid ((0 ∷ 15 ∷ vectorWords) ++ replicate (6 + 2) 0) ≡ false
+spare-in-slot : storeValid ((0 ∷ 17 ∷ vectorWords) ++ replicate (6 + 2) 0) ≡ false
 unfolding storeValid sectioned endFrom allZero allContentsValid contentsValid slotsOf slotsFrom _and_ all
     valid headerValid startsValid rowsValid inRange
 spare-in-slot = refl

@@ -28,8 +28,8 @@ source-made true s old new m e =
     let g = transposed (gridOf s) in
     let w = transposed-within (valid-within s (matrix-made s m)) in
     rw e (record {
-      matrix = matrix-facts _ (encode-valid g (drop (gridSize g) old) w);
-      same = encode-same g (drop (gridSize g) old);
+      matrix = matrix-facts _ (encode-valid 0 g (drop (gridSize g) old) w);
+      same = encode-same 0 g (drop (gridSize g) old);
     })
 source-made false s old new m e =
     record { matrix = m; same = record { rows = refl; cols = refl; cell = λ i j l k. refl } }

@@ -2,34 +2,55 @@
 use Prim.Native.Nat.{ℕ, _≤_, _<_}
 use native.Mathlib.Omega.{arith}
 use mathlib.Core.Path.{_≡_, refl, sym, ap, subst, _∙_}
-use mathlib.Core.List.{List}
-use lib.ListN.{length, take}
+use mathlib.Core.List.{List, _++_}
+use lib.ListN.{length, take, drop, take-append-drop}
+use lib.Seq.{take-at}
 use borrow.Author.Tests.{eqb-false, lt-ltb}
 use Rattle.limits.specs.Limits.{maxEntries}
 use Rattle.answers.specs.Refusals.{tooManyEntries}
 use Rattle.grid.specs.Grid.{Grid}
 use Rattle.grid.specs.Entries.{entryCount}
-use Rattle.matrix.specs.Layout.{gridOf}
+use Rattle.grid.specs.Revision.{updating, revisionAfter}
+use Rattle.matrix.specs.Layout.{revision, gridOf}
 use Rattle.matrix.specs.Facts.{Matrix}
-use Rattle.encoding.specs.Encode.{encode, gridSize}
+use Rattle.matrix.specs.HeaderWords.{withRevision}
+use Rattle.encoding.specs.Encode.{encodeRevised, encode, gridSize}
+use Rattle.encoding.proofs.Canonical.{encode-length, encode-revised}
 use Rattle.operations.specs.declared.Call.{Call}
 use Rattle.operations.specs.Calls.{callFinal}
 use Rattle.refusals.specs.Cases.{firstApplying, agreementCases, agreementRefusal}
 use Rattle.requests.specs.Refusal.{lentFinal}
 use Rattle.requests.specs.Inputs.{Valid}
+use Rattle.compute.specs.declared.Outcome.{Outcome}
+use Rattle.compute.specs.declared.Outcome.the-variants as outcome
+use Rattle.compute.specs.Computing.{Computed}
 use Rattle.slots.specs.Sections.{slotAt}
 use Rattle.slots.specs.Facts.{Held}
 use Rattle.model.specs.declared.Roles.{Roles}
 use Rattle.model.specs.Model.{gridAt}
 use Rattle.model.specs.Calls.{Operate, operated, agreementsOf}
 use Rattle.store_encoding.specs.Stores.{modelOf}
-use Rattle.store_encoding.proofs.Held.{grid-model}
-use Rattle.store_calls.specs.Attempts.{Holding, RefusedBy, DoneBy}
+use Rattle.store_encoding.proofs.Held.{grid-model, revision-model}
+use Rattle.store_calls.specs.Attempts.{Holding, RefusedBy, outputNext, DoneBy}
 use Rattle.store_calls.proofs.Refusals.{agreement-first, agreement-passed}
 
 -- a matrix has words
 pub not-empty : (x : List ℕ) → Held x → length x ≡ 0 → ⊥
 not-empty x h e = let w = h .whole in omega arith
+
+-- another revision in the writing of a grid at the front of words
+revised-front : (v : ℕ) (g : Grid) (w : List ℕ) → take (gridSize g) w ≡ encode g
+    → take (gridSize g) (withRevision v w) ≡ encodeRevised v g
+revised-front v g w t =
+    let k = gridSize g in
+    let d : w ≡ encode g ++ drop k w = sym (take-append-drop k w) ∙ ap (λ (x : List ℕ). x ++ drop k w) t in
+    ap (λ (x : List ℕ). take k (withRevision v x)) d ∙ ap (take k) (encode-revised 0 v g (drop k w))
+    ∙ take-at (encodeRevised v g) (drop k w) k (encode-length v g)
+
+-- what the working part left, once it is known to be done
+pub computed-done : {r : Outcome} (n : ℕ) (g : Grid) (w : List ℕ) → r ≡ outcome.Done n → Computed r g w
+    → Computed (outcome.Done n) g w
+computed-done n g w e h = subst (λ (x : Outcome). Computed x g w) e h
 
 -- the words of each role, as they are lent
 pub record Lent (s : List ℕ) (r : Roles) (a b m c : List ℕ) : Type 0 where
@@ -101,12 +122,18 @@ module _ (s : List ℕ) (o : Operate) (a b m c : List ℕ) (h : Holding s (o .ro
           applying-is = λ i. sym (agreement-passed (modelOf s) o i (agreement-is ∙ z) ∙ rw (lt-ltb _ _ f));
         }
 
-    -- the final C is at the front of the workspace
-    pub evaluated-done : (n : ℕ) (w : List ℕ) → n ≡ entryCount final → n ≤ maxEntries
-        → take (gridSize final) w ≡ encode final → DoneBy n (modelOf s) o w
-    evaluated-done n w q f t = record {
+    -- the final C is at the front of the workspace, and its revision, v, is set
+    pub evaluated-done : (n v : ℕ) (w w′ : List ℕ) → n ≡ entryCount final → n ≤ maxEntries
+        → take (gridSize final) w ≡ encode final → w′ ≡ withRevision v w → v ≡ revisionAfter updating (revision c)
+        → DoneBy n (modelOf s) o w′
+    evaluated-done n v w w′ q f t r u = record {
       agrees = agreement-is ∙ z;
       count = q ∙ ap entryCount (sym final-is);
       few = f;
-      written = ap (λ (g : Grid). take (gridSize g) w) final-is ∙ t ∙ ap encode (sym final-is);
+      written =
+          let k = o .roles .output in
+          let old = revision-model s k (not-empty _ (h .output)) ∙ ap revision (sym (e .output)) in
+          ap (λ (g : Grid). take (gridSize g) w′) final-is ∙ ap (take (gridSize final)) r ∙ revised-front v final w t
+          ∙ ap (λ (x : ℕ). encodeRevised x final) (u ∙ ap (revisionAfter updating) (sym old))
+          ∙ ap (encodeRevised (outputNext (modelOf s) o)) (sym final-is);
     }

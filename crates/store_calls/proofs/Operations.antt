@@ -27,7 +27,7 @@ use Rattle.slots.specs.Room.{slotPut, wordsWith}
 use Rattle.slots.proofs.Facts.{store-facts}
 use Rattle.slots.proofs.Sections.{end-least}
 use Rattle.model.specs.declared.Roles.{Roles}
-use Rattle.model.specs.Model.{Model, holding, put, gridAt, wordsNeeded}
+use Rattle.model.specs.Model.{Model, holding, put, gridAt, neededWith}
 use Rattle.model.specs.Effects.{wrote}
 use Rattle.model.specs.Calls.{rolesOf, Operate, OperationCall, operateOf, operation, operated, operationEffect, effect}
 use Rattle.store_encoding.specs.Writing.{modelWriting}
@@ -41,6 +41,7 @@ use Rattle.store_calls.specs.Attempts.{
   rolesRefusal,
   Holding,
   outputsOf,
+  outputNext,
   RefusedBy,
   DoneBy,
   Committed,
@@ -85,6 +86,9 @@ module _ (s : List ℕ) (o : Operate) where
   abbrev k : ℕ
   k = o .roles .output
 
+  abbrev v : ℕ
+  v = outputNext m o
+
   -- the same answer by another name
   pub operated-by : (answer a : Answer) (s′ : List ℕ) → answer ≡ a → Operated s o a s′ → Operated s o answer s′
   operated-by answer a s′ e r = record { answer-is = ap wrote e ∙ r .answer-is; words-are = r .words-are }
@@ -102,7 +106,7 @@ module _ (s : List ℕ) (o : Operate) where
 
     -- the final C is in its slot
     operated-accepted : (n : ℕ) (s′ : List ℕ) → operationRefusal (length s) m o ≡ 0 → n ≡ entryCount g
-        → s′ ≡ modelWriting (length s) (put m k (holding g)) → Operated s o (accepted n) s′
+        → s′ ≡ modelWriting (length s) (put m k (holding v g)) → Operated s o (accepted n) s′
     unfolding operationRefusal
     operated-accepted n s′ z e w =
         performed-done s (operationEffect o) h z (wrote (accepted n)) s′ (ap (λ (c : ℕ). wrote (accepted c)) e) w
@@ -131,15 +135,15 @@ module _ (s : List ℕ) (o : Operate) where
         -- and words that hold its writing are as long
         pub size-fits : size ≤ length w
         size-fits =
-            let l = encode-length g in
+            let l = encode-length v g in
             let t = sym (length-take (gridSize g) w) ∙ ap length (d .written) in
             let i = size-of in omega arith
 
         -- the room that the model asks for
-        needed : wordsNeeded (put m k (holding g)) ≡ taken
+        needed : neededWith m k g ≡ taken
         needed =
-            needed-model s k (holding g) (store-facts s h) (x .slots .output)
-            ∙ ap (wordsWith s k) (encode-length g ∙ sym size-of)
+            needed-model s k (holding 0 g) (store-facts s h) (x .slots .output)
+            ∙ ap (wordsWith s k) (encode-length 0 g ∙ sym size-of)
 
         -- 7 to 10 do not apply, so 11 decides
         few : entryCount g ≤ maxEntries
@@ -149,10 +153,10 @@ module _ (s : List ℕ) (o : Operate) where
         output-is = roles-passed m o (length s) z ∙ agreement-passed m o (length s) (d .agrees)
 
         -- what is copied is the writing of the final C
-        copied : slotPut s k (take size w) ≡ modelWriting (length s) (put m k (holding g))
+        copied : slotPut s k (take size w) ≡ modelWriting (length s) (put m k (holding v g))
         copied =
             ap (λ (i : ℕ). slotPut s k (take i w)) size-of ∙ ap (slotPut s k) (d .written)
-            ∙ slot-written s k (holding g) (store-facts s h)
+            ∙ slot-written s k (holding v g) (store-facts s h)
 
         -- the final C is committed
         pub operated-done : (answer : Answer) (s′ : List ℕ) → Committed s k w n answer s′ → Operated s o answer s′
@@ -161,17 +165,17 @@ module _ (s : List ℕ) (o : Operate) where
             go : Dec (taken ≤ length s) → Operated s o answer s′
             go (yes f) =
                 let q : answer ≡ accepted n = c .answer-is ∙ rw (le-leb _ _ f) in
-                let v : s′ ≡ slotPut s k (take size w) = c .words-are ∙ rw q in
+                let u : s′ ≡ slotPut s k (take size w) = c .words-are ∙ rw q in
                 let r : operationRefusal (length s) m o ≡ 0 = output-is ∙ rw (le-ltb _ _ few, needed, le-ltb _ _ f) in
-                operated-by answer _ s′ q (operated-accepted n s′ r (d .count) (v ∙ copied))
+                operated-by answer _ s′ q (operated-accepted n s′ r (d .count) (u ∙ copied))
             go (no f) =
                 let i : length s < taken = omega arith in
                 let q : answer ≡ refused insufficientSpace = c .answer-is ∙ rw (lt-leb _ _ i) in
-                let v : s′ ≡ s = c .words-are ∙ rw q in
+                let u : s′ ≡ s = c .words-are ∙ rw q in
                 let r : operationRefusal (length s) m o ≡ insufficientSpace =
                 output-is ∙ rw (le-ltb _ _ few, needed, lt-ltb _ _ i) in
                 let p = operated-refused insufficientSpace (sym r) (eqb-false insufficientSpace 0 refl) in
-                record { answer-is = ap wrote q ∙ p .answer-is; words-are = v ∙ p .words-are }
+                record { answer-is = ap wrote q ∙ p .answer-is; words-are = u ∙ p .words-are }
 
 -- ---- the call
 

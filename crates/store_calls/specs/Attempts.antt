@@ -9,15 +9,16 @@ use Rattle.limits.specs.Limits.{slotCount, maxEntries}
 use Rattle.answers.specs.declared.Answer.{Answer}
 use Rattle.answers.specs.Refusals.{accepted, refused, unlessRefused, insufficientSpace}
 use Rattle.grid.specs.Entries.{entryCount}
+use Rattle.grid.specs.Revision.{updating, revisionAfter}
 use Rattle.matrix.specs.Layout.{rows, sizeOf}
-use Rattle.encoding.specs.Encode.{encode, gridSize}
+use Rattle.encoding.specs.Encode.{encodeRevised, gridSize}
 use Rattle.operations.specs.declared.Call.{Call}
 use Rattle.refusals.specs.Cases.{Case, firstApplying, numberCases}
 use Rattle.slots.specs.Sections.{endFrom, slotAt}
 use Rattle.slots.specs.Facts.{Held, Store}
 use Rattle.slots.specs.Room.{slotPut, wordsWith}
 use Rattle.model.specs.declared.Roles.{Roles}
-use Rattle.model.specs.Model.{Model}
+use Rattle.model.specs.Model.{Model, revisionAt}
 use Rattle.model.specs.Effects.{wrote}
 use Rattle.model.specs.Calls.{
   Operate,
@@ -73,12 +74,16 @@ pub record RefusedBy (code : ℕ) (m : Model) (o : Operate) : Type 0 where
   pub some : code ≡ 0 → ⊥
   pub applying-is : (n : ℕ) → code ≡ firstApplying (agreementsOf m o ++ outputsOf m o n)
 
+-- the revision of C after the call
+abbrev pub outputNext : Model → Operate → ℕ
+outputNext m o = revisionAfter updating (revisionAt m (o .roles .output))
+
 -- none of 7 to 10 applies, and the writing of the final C is at the front of the workspace
 pub record DoneBy (n : ℕ) (m : Model) (o : Operate) (w : List ℕ) : Type 0 where
   pub agrees : firstApplying (agreementsOf m o) ≡ 0
   pub count : n ≡ entryCount (operated m o)
   pub few : n ≤ maxEntries
-  pub written : take (gridSize (operated m o)) w ≡ encode (operated m o)
+  pub written : take (gridSize (operated m o)) w ≡ encodeRevised (outputNext m o) (operated m o)
 
 abbrev pub Evaluation : Evaluated → Model → Operate → List ℕ → Type 0
 Evaluation (evaluated.Refused code) m o w = RefusedBy code m o

@@ -186,7 +186,7 @@ fn vacancy_refusal(store: &[u32], roles: Roles) -> u32
     0
 }
 
-// The final C from the slots, which are only read.
+// The final C from the slots, which are only read, with the revision after that of C.
 fn evaluate(
     store: &[u32],
     call: Call,
@@ -210,7 +210,10 @@ fn evaluate(
     }
     match compute::compute(call, a, b, mask, c, is, js, work, engine) {
         Outcome::Full => Evaluated::Refused(TOO_MANY_ENTRIES),
-        Outcome::Done(n) => Evaluated::Done(n),
+        Outcome::Done(n) => {
+            matrix::set_revision(work, matrix::next_revision(matrix::revision(c)));
+            Evaluated::Done(n)
+        }
     }
 }
 

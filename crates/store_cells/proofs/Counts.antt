@@ -13,7 +13,7 @@ use Rattle.grid.specs.Entries.{column, entryCount}
 use Rattle.grid.specs.Position.{AbsentAt, PresentAt}
 use Rattle.grid.specs.Update.{withCell}
 use Rattle.matrix.specs.Layout.{entries, gridOf}
-use Rattle.encoding.specs.Encode.{encode, gridSize, writtenOver}
+use Rattle.encoding.specs.Encode.{encodeRevised, gridSize, writtenRevised}
 use Rattle.encoding.proofs.Canonical.{valid-entries, encode-ext}
 use Rattle.edits.specs.Changes.{InMatrix}
 use Rattle.edits.proofs.Around.{cellCount, around, around-length, changed-here, changed-other}
@@ -55,9 +55,10 @@ module _ {x : List ℕ} {i j : ℕ} (m : InMatrix x i j) (p : ℕ) where
   cleared-count e = omega (arith, change Absent, ap cellCount (e .cell))
 
 -- a cell that is cleared and was empty: the writing is the same
-pub cleared-same : (g : Grid) (i j p : ℕ) → AbsentAt g i j p → encode (withCell g i j Absent) ≡ encode g
-cleared-same g i j p e =
-    encode-ext (withCell g i j Absent) g (record { rows = refl; cols = refl; cell = λ r c l m. cell-same r c })
+pub cleared-same : (v : ℕ) (g : Grid) (i j p : ℕ) → AbsentAt g i j p
+    → encodeRevised v (withCell g i j Absent) ≡ encodeRevised v g
+cleared-same v g i j p e =
+    encode-ext v (withCell g i j Absent) g (record { rows = refl; cols = refl; cell = λ r c l m. cell-same r c })
   where
     cell-same : (r c : ℕ) → withCell g i j Absent .cell r c ≡ g .cell r c
     cell-same r c = go (ℕ-discrete r i) (ℕ-discrete c j)
@@ -69,7 +70,7 @@ cleared-same g i j p e =
         go (no d) f = changed-other g i j Absent r c (λ a b. d a)
 
 -- a writing that fills its words leaves none of the old ones
-pub whole : (g : Grid) (y : List ℕ) → gridSize g ≡ length y → writtenOver g y ≡ encode g
-whole g y e =
-    ap (λ (n : ℕ). encode g ++ drop n y) e ∙ ap (λ (t : List ℕ). encode g ++ t) (drop-length y)
-    ∙ append-nil (encode g)
+pub whole : (v : ℕ) (g : Grid) (y : List ℕ) → gridSize g ≡ length y → writtenRevised v g y ≡ encodeRevised v g
+whole v g y e =
+    ap (λ (n : ℕ). encodeRevised v g ++ drop n y) e ∙ ap (λ (t : List ℕ). encodeRevised v g ++ t) (drop-length y)
+    ∙ append-nil (encodeRevised v g)

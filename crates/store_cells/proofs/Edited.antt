@@ -14,10 +14,9 @@ use Rattle.grid.specs.declared.EntryAt.the-variants as entry
 use Rattle.grid.specs.Grid.{Grid}
 use Rattle.grid.specs.Entries.{entryCount}
 use Rattle.grid.specs.Position.{positionOf, entryAt, AbsentAt, PresentAt}
-use Rattle.grid.specs.Update.{withCell}
 use Rattle.grid.proofs.Position.{absent-at, present-at}
 use Rattle.matrix.specs.Layout.{entries, gridOf}
-use Rattle.encoding.specs.Encode.{encode, gridSize, writtenOver}
+use Rattle.encoding.specs.Encode.{encodeRevised, gridSize}
 use Rattle.encoding.proofs.Canonical.{encode-length}
 use Rattle.slots.specs.Sections.{endFrom, slotAt, countAt}
 use Rattle.slots.specs.Facts.{Fits}
@@ -25,9 +24,9 @@ use Rattle.slots.specs.Room.{slotPut, resized}
 use Rattle.slots.proofs.Sections.{end-rises}
 use Rattle.slots.proofs.Slot.{slot-length}
 use Rattle.slots.proofs.Resized.{new-length, new-grown}
-use Rattle.edits.specs.Changes.{InMatrix, HasSpace}
+use Rattle.edits.specs.Changes.{InMatrix, HasSpace, updated}
 use Rattle.store_encoding.specs.Placing.{Placed}
-use Rattle.store_cells.specs.Slots.{CellOf, slotGrid, slotWith}
+use Rattle.store_cells.specs.Slots.{CellOf, slotGrid, slotWith, slotNext}
 use Rattle.store_cells.proofs.Counts.{replaced-count, added-count, whole}
 use Rattle.store_cells.proofs.Rewritten.{put-same, part-lent, part-back}
 use Rattle.store_cells.proofs.Grown.{held-in, grown-in, grown-absent, grown-space, grown-written}
@@ -96,8 +95,8 @@ module _ {s : List ℕ} {k i j : ℕ} (h : CellOf s k i j) (p v : ℕ)
 
   pub replaced-placed : (a n m : ℕ) (x : List ℕ) → a ≡ endFrom k s + 1 → n ≡ length (slotAt s k)
       → m ≡ entries (slotAt s k)
-      → x ≡ writtenOver (withCell (gridOf (part a (a + n) s)) i j (Present v)) (part a (a + n) s)
-      → Placed s k g₁ (accepted m) (putMid a (a + n - a) s x)
+      → x ≡ updated (part a (a + n) s) i j (Present v)
+      → Placed s k (slotNext s k) g₁ (accepted m) (putMid a (a + n - a) s x)
   replaced-placed a n m x b d q w =
       let y = slotAt s k in
       let c = replaced-count (slot-in h) p e v in
@@ -105,11 +104,11 @@ module _ {s : List ℕ} {k i j : ℕ} (h : CellOf s k i j) (p v : ℕ)
       let f = h .held .matrix .header .few in
       let l = h .held .whole in
       let r : gridSize g₁ ≡ length y = omega arith in
-      let t : x ≡ encode g₁ =
-      w ∙ ap (λ (z : List ℕ). writtenOver (withCell (gridOf z) i j (Present v)) z) (slot-lent h a n b d)
-      ∙ whole g₁ y r in
-      let z = ap length t ∙ encode-length g₁ in
-      placed-written (h .store) (h .slot) g₁ (omega arith) m _ (omega arith) (q ∙ sym c)
+      let u = slotNext s k in
+      let t : x ≡ encodeRevised u g₁ =
+      w ∙ ap (λ (z : List ℕ). updated z i j (Present v)) (slot-lent h a n b d) ∙ whole u g₁ y r in
+      let z = ap length t ∙ encode-length u g₁ in
+      placed-written (h .store) (h .slot) u g₁ (omega arith) m _ (omega arith) (q ∙ sym c)
       (slot-back h a n x b d (z ∙ r) ∙ ap (slotPut s k) t)
 
 -- ---- an entry more: two words more
@@ -123,18 +122,18 @@ module _ {s : List ℕ} {k i j : ℕ} (h : CellOf s k i j) (p v : ℕ)
   added-size = let l = h .held .whole in omega (arith, added-count (slot-in h) p e v)
 
   -- 10
-  pub add-many : entries (slotAt s k) ≡ maxEntries → Placed s k g₂ (refused tooManyEntries) s
-  add-many f = placed-many (h .store) (h .slot) g₂ (omega (arith, added-count (slot-in h) p e v))
+  pub add-many : entries (slotAt s k) ≡ maxEntries → Placed s k (slotNext s k) g₂ (refused tooManyEntries) s
+  add-many f = placed-many (h .store) (h .slot) _ g₂ (omega (arith, added-count (slot-in h) p e v))
 
   few-enough : entries (slotAt s k) < maxEntries → entryCount g₂ ≤ maxEntries
   few-enough f = omega (arith, added-count (slot-in h) p e v)
 
   -- 11
   pub add-no-room : (end n : ℕ) → entries (slotAt s k) < maxEntries → end ≡ endFrom slotCount s
-      → n ≡ length (slotAt s k) → length s < end - countAt s k + (n + 2) → Placed s k g₂ (refused insufficientSpace) s
+      → n ≡ length (slotAt s k) → length s < end - countAt s k + (n + 2) → Placed s k (slotNext s k) g₂ (refused insufficientSpace) s
   add-no-room end n f d m r =
       let z = added-size in
-      placed-no-room (h .store) (h .slot) g₂ (few-enough f) (omega arith)
+      placed-no-room (h .store) (h .slot) _ g₂ (few-enough f) (omega arith)
 
 -- the slot is resized for it: u are the words of the store, and a is where those of the slot start
 pub record Adding (s : List ℕ) (k i j p end n a : ℕ) (u : List ℕ) : Type 0 where
@@ -186,21 +185,22 @@ module _ {s : List ℕ} {k i j p end n a : ℕ} {u : List ℕ} (r : Adding s k i
 
   -- the store when they are back
   pub added-placed : (v m : ℕ) (x : List ℕ) → m ≡ entries (slotAt s k) + 1
-      → x ≡ writtenOver (withCell (gridOf (part a (a + (n + 2)) u)) i j (Present v)) (part a (a + (n + 2)) u)
-      → Placed s k (slotWith s k i j (Present v)) (accepted m) (putMid a (a + (n + 2) - a) u x)
+      → x ≡ updated (part a (a + (n + 2)) u) i j (Present v)
+      → Placed s k (slotNext s k) (slotWith s k i j (Present v)) (accepted m) (putMid a (a + (n + 2) - a) u x)
   added-placed v m x d w =
       let h = r .cell in
       let e = r .absent in
       let g = slotWith s k i j (Present v) in
-      let t : x ≡ encode g =
-      w ∙ ap (λ (z : List ℕ). writtenOver (withCell (gridOf z) i j (Present v)) z) lent-is
+      let f = slotNext s k in
+      let t : x ≡ encodeRevised f g =
+      w ∙ ap (λ (z : List ℕ). updated z i j (Present v)) lent-is
       ∙ grown-written (h .held) (h .row) (h .col) behind two p v e in
       let l = r .long in
       let y = added-size h p v e in
-      let z : length x ≡ length new = ap length t ∙ encode-length g ∙ omega (arith, new-long) in
+      let z : length x ≡ length new = ap length t ∙ encode-length f g ∙ omega (arith, new-long) in
       let o = r .fits .ends in
       let q = r .fits .room in
-      placed-written (h .store) (h .slot) g (few-enough h p v e (r .few)) m _ (omega arith)
+      placed-written (h .store) (h .slot) f g (few-enough h p v e (r .few)) m _ (omega arith)
       (d ∙ sym (added-count (slot-in h) p e v))
       (part-back (h .store .sections) (h .slot) a (r .from) new u (r .words) (a + (n + 2)) x (omega (arith, new-long)) z
       ∙ ap (slotPut s k) t)

@@ -12,15 +12,24 @@ use Rattle.grid.specs.declared.Cell.the-variants.{Present}
 use Rattle.grid.specs.Grid.{Grid, Same}
 use Rattle.grid.specs.Position.{AbsentAt}
 use Rattle.grid.specs.Update.{withCell}
+use Rattle.grid.specs.Revision.{updating, revisionAfter}
 use Rattle.grid.proofs.Position.{same-absent}
-use Rattle.matrix.specs.Layout.{rows, cols, entries, size, gridOf}
+use Rattle.matrix.specs.Layout.{revision, rows, cols, entries, size, gridOf}
 use Rattle.matrix.specs.Valid.{valid}
 use Rattle.matrix.proofs.Facts.{matrix-facts, matrix-made}
-use Rattle.encoding.specs.Encode.{encode, writtenOver}
-use Rattle.encoding.proofs.Canonical.{encode-valid, encode-same, encode-ext, encode-length, valid-within, valid-size}
+use Rattle.encoding.specs.Encode.{encodeRevised, writtenRevised}
+use Rattle.encoding.proofs.Canonical.{
+  encode-valid,
+  encode-same,
+  encode-revision,
+  encode-ext,
+  encode-length,
+  valid-within,
+  valid-size,
+}
 use Rattle.slots.specs.Facts.{Held}
 use Rattle.store_encoding.proofs.Held.{held-encoded}
-use Rattle.edits.specs.Changes.{InMatrix, HasSpace}
+use Rattle.edits.specs.Changes.{InMatrix, HasSpace, updated}
 use Rattle.store_cells.proofs.Counts.{added-count, whole}
 
 -- one cell changed alike in two grids
@@ -44,14 +53,17 @@ module _ {x : List ℕ} {i j : ℕ} (h : Held x) (l : i < rows x) (m : j < cols 
     abbrev y : List ℕ
     y = x ++ t
 
-    grown : encode (gridOf x) ++ t ≡ y
+    grown : encodeRevised (revision x) (gridOf x) ++ t ≡ y
     grown = ap (λ (z : List ℕ). z ++ t) (held-encoded x h)
 
     grown-valid : valid y ≡ true
-    grown-valid = sym (ap valid grown) ∙ encode-valid (gridOf x) t (valid-within x held-valid)
+    grown-valid = sym (ap valid grown) ∙ encode-valid (revision x) (gridOf x) t (valid-within x held-valid)
 
     grown-same : Same (gridOf y) (gridOf x)
-    grown-same = subst (λ (z : List ℕ). Same (gridOf z) (gridOf x)) grown (encode-same (gridOf x) t)
+    grown-same = subst (λ (z : List ℕ). Same (gridOf z) (gridOf x)) grown (encode-same (revision x) (gridOf x) t)
+
+    grown-revision : revision y ≡ revision x
+    grown-revision = sym (ap revision grown) ∙ encode-revision (revision x) (gridOf x) t
 
     pub grown-in : InMatrix y i j
     grown-in =
@@ -67,8 +79,8 @@ module _ {x : List ℕ} {i j : ℕ} (h : Held x) (l : i < rows x) (m : j < cols 
     -- the size of the matrix
     grown-size : size y ≡ length x
     grown-size =
-        sym (valid-size y grown-valid) ∙ ap length (encode-ext (gridOf y) (gridOf x) grown-same)
-        ∙ valid-size x held-valid ∙ h .whole
+        sym (valid-size 0 y grown-valid) ∙ ap length (encode-ext 0 (gridOf y) (gridOf x) grown-same)
+        ∙ valid-size 0 x held-valid ∙ h .whole
 
     module _ (two : length t ≡ 2) where
       -- there is space for an entry more
@@ -82,15 +94,18 @@ module _ {x : List ℕ} {i j : ℕ} (h : Held x) (l : i < rows x) (m : j < cols 
 
       -- and when it is put in, the writing fills the words
       pub grown-written : (p v : ℕ) → AbsentAt (gridOf x) i j p
-          → writtenOver (withCell (gridOf y) i j (Present v)) y ≡ encode (withCell (gridOf x) i j (Present v))
+          → updated y i j (Present v)
+          ≡ encodeRevised (revisionAfter updating (revision x)) (withCell (gridOf x) i j (Present v))
       grown-written p v e =
           let g : Grid = withCell (gridOf y) i j (Present v) in
           let g′ : Grid = withCell (gridOf x) i j (Present v) in
-          let q : encode g ≡ encode g′ = encode-ext g g′ (same-with (gridOf y) (gridOf x) i j (Present v) grown-same) in
+          let u = revisionAfter updating (revision x) in
+          let f = same-with (gridOf y) (gridOf x) i j (Present v) grown-same in
+          let q : encodeRevised u g ≡ encodeRevised u g′ = encode-ext u g g′ f in
           let c = added-count held-in p e v in
-          let a = encode-length g in
-          let b = encode-length g′ in
+          let a = encode-length u g in
+          let b = encode-length u g′ in
           let d = ap length q in
           let n = length-append x t in
           let w = h .whole in
-          whole g y (omega arith) ∙ q
+          ap (λ (r : ℕ). writtenRevised (revisionAfter updating r) g y) grown-revision ∙ whole u g y (omega arith) ∙ q

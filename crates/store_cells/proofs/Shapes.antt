@@ -14,6 +14,7 @@ use Rattle.limits.specs.Sizes.{sizeOf}
 use Rattle.limits.specs.Ranges.{inRange}
 use Rattle.limits.proofs.Ranges.{range-facts}
 use Rattle.answers.specs.Refusals.{accepted, refused, invalidShape, insufficientSpace, invalidStore}
+use Rattle.grid.specs.Revision.{making}
 use Rattle.grid.specs.Grid.{emptyGrid}
 use Rattle.grid.proofs.Counts.{empty-count}
 use Rattle.encoding.specs.Encode.{encode}
@@ -23,7 +24,7 @@ use Rattle.slots.specs.Sections.{endFrom}
 use Rattle.slots.specs.Valid.{storeValid}
 use Rattle.slots.specs.Room.{wordsWith, Filled}
 use Rattle.slots.proofs.Facts.{store-facts}
-use Rattle.model.specs.Model.{holding, put, wordsNeeded}
+use Rattle.model.specs.Model.{holding, neededWith}
 use Rattle.model.specs.Effects.{wrote}
 use Rattle.model.specs.Calls.{newEmpty, shapeCases, noRoom, effect}
 use Rattle.store_encoding.specs.Stores.{modelOf, Performed}
@@ -35,7 +36,7 @@ use Rattle.store_cells.proofs.Outcomes.{performed-put}
 
 -- the size of an empty matrix
 pub empty-size : (r c : ℕ) → length (encode (emptyGrid r c)) ≡ sizeOf r 0
-empty-size r c = encode-length (emptyGrid r c) ∙ ap (sizeOf r) (empty-count r c)
+empty-size r c = encode-length 0 (emptyGrid r c) ∙ ap (sizeOf r) (empty-count r c)
 
 -- its words at the front of others
 pub empty-front : (r c : ℕ) (t : List ℕ) → take (sizeOf r 0) (encode (emptyGrid r c) ++ t) ≡ encode (emptyGrid r c)
@@ -93,9 +94,9 @@ module _ (s : List ℕ) (k r c : ℕ) where
   -- past them
   module _ {end : ℕ} (h : Checked s end) (z : shapeRefusal k r c ≡ 0) where
     -- the words that are needed, as the model and as `put` count them
-    needed : wordsNeeded (put (modelOf s) k (holding (emptyGrid r c)))
+    needed : neededWith (modelOf s) k (emptyGrid r c)
         ≡ wordsWith s k (length (encode (emptyGrid r c)))
-    needed = needed-model s k (holding (emptyGrid r c)) (h .store) (layable s k end r c h z .slot)
+    needed = needed-model s k (holding 0 (emptyGrid r c)) (h .store) (layable s k end r c h z .slot)
 
     -- 11
     pub lay-no-room : {s′ : List ℕ} {b : Bool} → b ≡ false → Filled s k (encode (emptyGrid r c)) b s′
@@ -115,7 +116,7 @@ module _ (s : List ℕ) (k r c : ℕ) where
     unfolding effect shapeRefusal
     lay-performed {s′} {b} e f =
         let l : wordsWith s k (length (encode (emptyGrid r c))) ≤ length s = leb-true _ _ (sym (f .room-is) ∙ e) in
-        performed-put s k _ _ (h .valid)
+        performed-put making s k _ _ (h .valid)
         (applying-rest (shapeCases k r c) (noRoom (length s) (modelOf s) k (emptyGrid r c) ∷ [])
         (refl, (refl, tt)) z ∙ rw (needed, le-ltb _ _ l))
         (record { answer-is = ap accepted (sym (empty-count r c)); words-are = f .words-are ∙ rw e })

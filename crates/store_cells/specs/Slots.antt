@@ -10,8 +10,9 @@ use Rattle.grid.specs.declared.Cell.the-variants.{Absent, Present}
 use Rattle.grid.specs.Grid.{Grid}
 use Rattle.grid.specs.Entries.{entryCount}
 use Rattle.grid.specs.Update.{withCell}
-use Rattle.matrix.specs.Layout.{rows, cols, gridOf}
-use Rattle.encoding.specs.Encode.{encode}
+use Rattle.grid.specs.Revision.{updating, revisionAfter}
+use Rattle.matrix.specs.Layout.{revision, rows, cols, gridOf}
+use Rattle.encoding.specs.Encode.{encodeRevised}
 use Rattle.refusals.specs.Cases.{firstApplying}
 use Rattle.slots.specs.Sections.{endFrom, slotAt}
 use Rattle.slots.specs.Facts.{Held, Store}
@@ -49,18 +50,22 @@ slotGrid s k = gridOf (slotAt s k)
 abbrev pub slotWith : List ℕ → ℕ → ℕ → ℕ → Cell → Grid
 slotWith s k i j x = withCell (slotGrid s k) i j x
 
--- the words of a store with the grid g in slot k
-abbrev pub gridPut : List ℕ → ℕ → Grid → List ℕ
-gridPut s k g = slotPut s k (encode g)
+-- the revision of a slot after a call that writes into it
+abbrev pub slotNext : List ℕ → ℕ → ℕ
+slotNext s k = revisionAfter updating (revision (slotAt s k))
 
--- an accepted write: the grid g in slot k, and its entries
-pub record Put (s : List ℕ) (k : ℕ) (g : Grid) (answer : Answer) (s′ : List ℕ) : Type 0 where
+-- the words of a store with the grid g in slot k, with revision v
+abbrev pub gridPut : List ℕ → ℕ → ℕ → Grid → List ℕ
+gridPut s k v g = slotPut s k (encodeRevised v g)
+
+-- an accepted write: the grid g in slot k, with revision v, and its entries
+pub record Put (s : List ℕ) (k v : ℕ) (g : Grid) (answer : Answer) (s′ : List ℕ) : Type 0 where
   pub answer-is : answer ≡ accepted (entryCount g)
-  pub words-are : s′ ≡ gridPut s k g
+  pub words-are : s′ ≡ gridPut s k v g
 
 -- a cell of slot k set, unless by 10 or 11; and cleared, which nothing refuses
 abbrev pub CellSet : List ℕ → ℕ → ℕ → ℕ → ℕ → Answer → List ℕ → Type 0
-CellSet s k i j v answer s′ = Placed s k (slotWith s k i j (Present v)) answer s′
+CellSet s k i j v answer s′ = Placed s k (slotNext s k) (slotWith s k i j (Present v)) answer s′
 
 abbrev pub CellCleared : List ℕ → ℕ → ℕ → ℕ → Answer → List ℕ → Type 0
-CellCleared s k i j answer s′ = Put s k (slotWith s k i j Absent) answer s′
+CellCleared s k i j answer s′ = Put s k (slotNext s k) (slotWith s k i j Absent) answer s′

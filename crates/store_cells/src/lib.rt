@@ -160,7 +160,7 @@ fn add(store: &mut [u32], slot: usize, end: usize, i: usize, j: u32, p: usize, v
     accepted(n + 1)
 }
 
-// A cell becomes empty. One that is empty already is left so.
+// A cell becomes empty. One that is empty already is left so, and counts as written into.
 pub fn clear_cell(store: &mut [u32], slot: usize, i: u32, j: u32) -> Answer
     ensures { λ r. ⌜ Performed (now (store .entry)) (clearCell slot i j) (wrote r) (now (store .exit)) ⌝ }
 {
@@ -179,12 +179,22 @@ pub fn clear_cell(store: &mut [u32], slot: usize, i: u32, j: u32) -> Answer
         position: p,
     } = entry
     else {
-        return Answer {
-            code: 0,
-            entries: matrix::entry_count(slots::contents(&store[..], slot)),
-        };
+        return touch(store, slot, i as usize, j, grid::position_of(entry) as usize);
     };
     take(store, slot, end, i as usize, j, p as usize)
+}
+
+// A cell of a slot that has no entry stays so: the slot's revision is the next.
+fn touch(store: &mut [u32], slot: usize, i: usize, j: u32, p: usize) -> Answer
+    requires { ⌜ CellOf (now store) slot i j ⌝ ∗ ⌜ AbsentAt (slotGrid (now store) slot) i j p ⌝ }
+    ensures { λ r. ⌜ CellCleared (now (store .entry)) slot i j r (now (store .exit)) ⌝ }
+{
+    let words = slots::contents(&store[..], slot);
+    let n = matrix::entry_count(words);
+    let size = words.len();
+    let from = slots::find(&store[..], slot) + 1;
+    matrix::touch(&mut store[from..from + size]);
+    accepted(n)
 }
 
 // The entry p of a slot goes, and two words with it.

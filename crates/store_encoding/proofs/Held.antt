@@ -11,9 +11,9 @@ use lib.Dec.{eqb}
 use borrow.Author.Tests.{eq-eqb, ne-eqb}
 use Rattle.limits.specs.Limits.{slotCount}
 use Rattle.grid.specs.Grid.{Grid}
-use Rattle.matrix.specs.Layout.{gridOf, size}
+use Rattle.matrix.specs.Layout.{revision, size, gridOf}
 use Rattle.matrix.proofs.Facts.{matrix-made}
-use Rattle.encoding.specs.Encode.{encode}
+use Rattle.encoding.specs.Encode.{encodeRevised}
 use Rattle.encoding.proofs.Canonical.{encode-length, valid-encoded}
 use Rattle.slots.specs.Sections.{Slots, total, writing, endFrom, slotsOf, slotAt, countAt}
 use Rattle.slots.specs.Valid.{contentsValid}
@@ -21,16 +21,17 @@ use Rattle.slots.specs.Facts.{Held, Store}
 use Rattle.slots.proofs.Facts.{held-facts}
 use Rattle.slots.proofs.Sections.{slot-count, rewritten}
 use Rattle.slots.proofs.Slot.{room-needed}
-use Rattle.model.specs.Model.{Slot, vacant, holding, Model, slotOf, put, gridAt, isVacant, slotSize, sizes, wordsNeeded}
+use Rattle.model.specs.Model.{Slot, vacant, holding, Model, slotOf, put, gridAt, revisionAt, isVacant}
+use Rattle.model.specs.Model.{slotSize, sizes, wordsNeeded}
 use Rattle.store_encoding.specs.Writing.{contents, allContents, modelWriting}
 use Rattle.store_encoding.specs.Stores.{slotHeld, modelOf}
 
--- a matrix that fills its words is the writing of its grid
-pub held-encoded : (x : List ℕ) → Held x → encode (gridOf x) ≡ x
+-- a matrix that fills its words is the writing of its grid with its revision
+pub held-encoded : (x : List ℕ) → Held x → encodeRevised (revision x) (gridOf x) ≡ x
 held-encoded x h =
     let v = valid-encoded x (matrix-made x (h .matrix)) in
-    sym (v ∙ ap (λ (k : ℕ). encode (gridOf x) ++ drop k x) (h .whole)
-    ∙ ap (λ (t : List ℕ). encode (gridOf x) ++ t) (drop-length x) ∙ append-nil (encode (gridOf x)))
+    let w = encodeRevised (revision x) (gridOf x) in
+    sym (v ∙ ap (λ (k : ℕ). w ++ drop k x) (h .whole) ∙ ap (λ (t : List ℕ). w ++ t) (drop-length x) ∙ append-nil w)
 
 no-words : (x : List ℕ) → length x ≡ 0 → [] ≡ x
 no-words [] h = refl
@@ -41,9 +42,9 @@ pub held-contents : (x : List ℕ) → contentsValid x ≡ true → contents (sl
 held-contents x v = go (ℕ-discrete (length x) 0)
   where
     go : Dec (length x ≡ 0) → contents (slotHeld x) ≡ x
-    go (yes e) = ap (λ (b : Bool). contents (cond b vacant (holding (gridOf x)))) (eq-eqb _ _ e) ∙ no-words x e
+    go (yes e) = ap (λ (b : Bool). contents (cond b vacant (holding (revision x) (gridOf x)))) (eq-eqb _ _ e) ∙ no-words x e
     go (no n) =
-        ap (λ (b : Bool). contents (cond b vacant (holding (gridOf x)))) (ne-eqb _ _ n)
+        ap (λ (b : Bool). contents (cond b vacant (holding (revision x) (gridOf x)))) (ne-eqb _ _ n)
         ∙ held-encoded x (held-facts x v n)
 
 all-held : (w : Slots) → ((k : ℕ) → k < length w → contentsValid (getD w k []) ≡ true)
@@ -86,16 +87,20 @@ pub vacant-model : (s : List ℕ) (k : ℕ) → length (slotAt s k) ≡ 0 → is
 vacant-model s k e = ap isVacant (slot-model s k) ∙ rw (eq-eqb _ _ e)
 
 pub holding-model : (s : List ℕ) (k : ℕ) → (length (slotAt s k) ≡ 0 → ⊥)
-    → slotOf (modelOf s) k ≡ holding (gridOf (slotAt s k))
+    → slotOf (modelOf s) k ≡ holding (revision (slotAt s k)) (gridOf (slotAt s k))
 holding-model s k n = slot-model s k ∙ rw (ne-eqb _ _ n)
 
 pub grid-model : (s : List ℕ) (k : ℕ) → (length (slotAt s k) ≡ 0 → ⊥) → gridAt (modelOf s) k ≡ gridOf (slotAt s k)
 grid-model s k n = rw (holding-model s k n)
 
+pub revision-model : (s : List ℕ) (k : ℕ) → (length (slotAt s k) ≡ 0 → ⊥)
+    → revisionAt (modelOf s) k ≡ revision (slotAt s k)
+revision-model s k n = rw (holding-model s k n)
+
 -- the sizes are those of the contents
 size-contents : (x : Slot) → slotSize x ≡ length (contents x)
 size-contents vacant = refl
-size-contents (holding g) = sym (encode-length g)
+size-contents (holding v g) = sym (encode-length v g)
 
 pub sizes-total : (m : Model) → sizes m ≡ total (allContents m)
 sizes-total [] = refl

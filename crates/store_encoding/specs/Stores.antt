@@ -6,7 +6,7 @@ use mathlib.Core.List.{List, map}
 use lib.ListN.{length}
 use lib.Dec.{eqb}
 use Rattle.answers.specs.Refusals.{invalidStore}
-use Rattle.matrix.specs.Layout.{gridOf}
+use Rattle.matrix.specs.Layout.{revision, gridOf}
 use Rattle.slots.specs.Sections.{slotsOf}
 use Rattle.slots.specs.Valid.{storeValid}
 use Rattle.model.specs.Model.{Slot, vacant, holding, Model}
@@ -16,7 +16,7 @@ use Rattle.store_encoding.specs.Writing.{modelWriting}
 
 -- what the words of a slot hold
 abbrev pub slotHeld : List ℕ → Slot
-slotHeld x = cond (eqb (length x) 0) vacant (holding (gridOf x))
+slotHeld x = cond (eqb (length x) 0) vacant (holding (revision x) (gridOf x))
 
 unfoldable pub modelOf : List ℕ → Model
 modelOf s = map slotHeld (slotsOf s)

@@ -1,14 +1,14 @@
 -- The one writing of a model (document 01, "The shelf": "The one writing of the grids").
 use Prim.Native.Nat.{ℕ}
 use mathlib.Core.List.{List, [], map}
-use Rattle.encoding.specs.Encode.{encode}
+use Rattle.encoding.specs.Encode.{encodeRevised}
 use Rattle.slots.specs.Sections.{Slots, writing}
 use Rattle.model.specs.Model.{Slot, vacant, holding, Model}
 
--- the words of a slot: its sheet, or none
+-- the words of a slot: its sheet with its revision, or none
 abbrev pub contents : Slot → List ℕ
 contents vacant = []
-contents (holding g) = encode g
+contents (holding v g) = encodeRevised v g
 
 abbrev pub allContents : Model → Slots
 allContents m = map contents m

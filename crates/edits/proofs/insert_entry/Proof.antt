@@ -1,6 +1,8 @@
 -- `insert_entry` leaves the writing of the grid with the new entry.
-use mathlib.Core.Path.{_∙_}
+use native.Mathlib.Omega.{arith}
+use mathlib.Core.Path.{ap, _∙_}
 use Rattle.grid.specs.declared.Cell.the-variants.{Absent}
+use Rattle.matrix.specs.HeaderWords.{touched}
 use Rattle.edits.proofs.Place.{later-starts}
 use Rattle.edits.proofs.Insertion.{put-bounds, inserted-written}
 use borrow.Author.Needs.{needs}
@@ -54,15 +56,24 @@ put-entry-requires c κs =
     let a = start (q .before) .pre in
     put-bounds (a .0) (a .1 .0) (a .1 .1) (q .raise-words .ensures)
 
+touch-requires : tie.Need-touch-requires
+touch-requires c κs =
+    let e = c .before .before .before in
+    let q = starts-at e in
+    let a = start (q .before) .pre in
+    omega (arith, e .put-entry .kept .0, q .raise-words .kept .0, a .0 .matrix .header .fits)
+
 same-length : tie.Need-same-length
 same-length c = search needs
 
 returns : tie.Need-returns
 returns c =
-    let e = c .before .before in
+    let t = c .before .before in
+    let e = t .before .before .before .before in
     let q = starts-at e in
     let a = start (q .before) .pre in
-    e .put-entry .ensures ∙ inserted-written (a .0) (a .1 .0) (a .1 .1) (q .raise-words .ensures) _
+    t .touch .ensures ∙ ap touched (e .put-entry .ensures)
+    ∙ inserted-written (a .0) (a .1 .0) (a .1 .1) (q .raise-words .ensures) _
 
 pub insert-entry-spec : {M : Type 1} → statement M
 insert-entry-spec =
@@ -80,5 +91,6 @@ insert-entry-spec =
     add-raise-words-4
     raise-words-requires
     put-entry-requires
+    touch-requires
     same-length
     returns)

@@ -1,5 +1,7 @@
 -- `remove_entry` leaves the writing of the grid without the entry.
-use mathlib.Core.Path.{_∙_}
+use native.Mathlib.Omega.{arith}
+use mathlib.Core.Path.{ap, _∙_}
+use Rattle.matrix.specs.HeaderWords.{touched}
 use Rattle.edits.proofs.Place.{later-starts}
 use Rattle.edits.proofs.Removal.{take-bounds, removed-written}
 use borrow.Author.Needs.{needs}
@@ -53,15 +55,24 @@ take-entry-requires c κs =
     let a = start (q .before) .pre in
     take-bounds (a .0) (a .1) (q .lower-words .ensures)
 
+touch-requires : tie.Need-touch-requires
+touch-requires c κs =
+    let e = c .before .before .before in
+    let q = starts-at e in
+    let a = start (q .before) .pre in
+    omega (arith, e .take-entry .kept .0, q .lower-words .kept .0, a .0 .matrix .header .fits)
+
 same-length : tie.Need-same-length
 same-length c = search needs
 
 returns : tie.Need-returns
 returns c =
-    let e = c .before .before in
+    let t = c .before .before in
+    let e = t .before .before .before .before in
     let q = starts-at e in
     let a = start (q .before) .pre in
-    e .take-entry .ensures ∙ removed-written (a .0) (a .1) (q .lower-words .ensures)
+    t .touch .ensures ∙ ap touched (e .take-entry .ensures)
+    ∙ removed-written (a .0) (a .1) (q .lower-words .ensures)
 
 pub remove-entry-spec : {M : Type 1} → statement M
 remove-entry-spec =
@@ -79,5 +90,6 @@ remove-entry-spec =
     add-lower-words-4
     lower-words-requires
     take-entry-requires
+    touch-requires
     same-length
     returns)

@@ -23,23 +23,29 @@ slice-write-words-2 c = simp length-set (omega arith)
 slice-write-words-3 : tie.Need-slice-write-words-3
 slice-write-words-3 c = simp length-set (omega arith)
 
-add-words : tie.Need-add-words
-add-words c = search needs
-
 slice-write-words-4 : tie.Need-slice-write-words-4
 slice-write-words-4 c = simp length-set (omega arith)
-
-mul-words : tie.Need-mul-words
-mul-words c = search needs
 
 slice-write-words-5 : tie.Need-slice-write-words-5
 slice-write-words-5 c = simp length-set (omega arith)
 
-mul-words-2 : tie.Need-mul-words-2
-mul-words-2 c = search needs
+add-words : tie.Need-add-words
+add-words c = search needs
 
 slice-write-words-6 : tie.Need-slice-write-words-6
 slice-write-words-6 c = simp length-set (omega arith)
+
+mul-words : tie.Need-mul-words
+mul-words c = search needs
+
+slice-write-words-7 : tie.Need-slice-write-words-7
+slice-write-words-7 c = simp length-set (omega arith)
+
+mul-words-2 : tie.Need-mul-words-2
+mul-words-2 c = search needs
+
+slice-write-words-8 : tie.Need-slice-write-words-8
+slice-write-words-8 c = simp length-set (omega arith)
 
 same-length : tie.Need-same-length
 same-length c = search needs
@@ -57,11 +63,13 @@ write-header-spec =
     slice-write-words
     slice-write-words-2
     slice-write-words-3
-    add-words
     slice-write-words-4
-    mul-words
     slice-write-words-5
-    mul-words-2
+    add-words
     slice-write-words-6
+    mul-words
+    slice-write-words-7
+    mul-words-2
+    slice-write-words-8
     same-length
     returns)

@@ -1,15 +1,18 @@
 -- `evaluate` lends the words of the slots to the tests and to the working part.
-use mathlib.Core.Path.{_≡_, sym, _∙_}
+use native.Mathlib.Omega.{arith}
+use mathlib.Core.Path.{_≡_, sym, ap, _∙_}
 use mathlib.Core.List.{List}
 use Prim.Native.Nat.{ℕ}
 use denote.Ref.{now}
 use lib.ListN.{length}
 use Rattle.model.specs.Calls.{Operate}
+use Rattle.grid.specs.Revision.{nextRevision}
 use Rattle.matrix.specs.Layout.{gridOf}
 use Rattle.refusals.specs.Cases.{agreementRefusal}
-use Rattle.requests.proofs.Refusals.{checked-of}
+use Rattle.requests.proofs.Refusals.{Checked, checked-of}
 use Rattle.store_calls.specs.Attempts.{asked}
-use Rattle.store_calls.proofs.Evaluations.{Lent, all-valid, evaluated-refused, evaluated-full, evaluated-done}
+use Rattle.store_calls.proofs.Evaluations.{Lent, all-valid}
+use Rattle.store_calls.proofs.Evaluations.{evaluated-refused, evaluated-full, computed-done, evaluated-done}
 use borrow.Author.Needs.{needs}
 use Rattle.store_calls.proofs.evaluate.Statement.{statement}
 use Rattle.store_calls.proofs.evaluate.Tie as tie
@@ -74,20 +77,41 @@ returns c =
     evaluated-refused _ (operation (start p)) _ _ _ _ (start p .pre .1) (lent p) _ (c .before .agreement-refusal .ensures)
     (c .if1 .taken)
 
-compute-requires : tie.Need-compute-requires
-compute-requires c κs =
-    let q = c .before in
+-- so the inputs can be worked on, and the workspace suffices
+checks : (q : tie.Else1) → let p = words q in let x = start p .args in
+    Checked (x .call) (first p) (second p) (mask p) (output p) (now (x .is)) (now (x .js)) (length (now (x .work)))
+checks q =
     let p = words q in
     let x = start p in
     let v = all-valid (x .args .call) _ _ _ _ _ _ (x .pre .1) (lent p) in
-    let h = checked-of _ _ _ _ _ (now (x .args .is)) (now (x .args .js)) _ v (none-applies q) in
-    (h .ready, h .workspace)
+    checked-of _ _ _ _ _ (now (x .args .is)) (now (x .args .js)) _ v (none-applies q)
+
+compute-requires : tie.Need-compute-requires
+compute-requires c κs = let h = checks (c .before) in (h .ready, h .workspace)
 
 enum-told : tie.Need-enum-told
 enum-told c = search needs
 
 enum-known-n : tie.Need-enum-known-n
 enum-known-n c = search needs
+
+-- where the final C was worked out, from where its revision is set
+abbrev worked : tie.After-revision → tie.After-compute
+worked r = r .before .before .before .before .before .before .before
+
+revision-requires : tie.Need-revision-requires
+revision-requires c κs =
+    let p = c .before .before .before .before .before .before .before .before .before .before in
+    rw (p .contents4 .ensures .words) (start p .pre .1 .output .matrix .header)
+
+next-revision-requires : tie.Need-next-revision-requires
+next-revision-requires c κs = search needs
+
+set-revision-requires : tie.Need-set-revision-requires
+set-revision-requires c κs =
+    let o = worked (c .before) in
+    let h = checks (o .before .before) .workspace in
+    omega (arith, o .compute .kept .1 .1 .1 .1 .1 .1 .1 .0)
 
 same-length : tie.Need-same-length
 same-length c = search needs
@@ -105,11 +129,14 @@ same-length-2 c = search needs
 
 returns-3 : tie.Need-returns-3
 returns-3 c =
-    let o = c .before .before .before .before .before in
+    let t = c .before .before in
+    let r = t .before .before in
+    let o = worked r in
     let q = o .before .before in
     let p = words q in
-    let f = rw (c .before .n .given .1) at (o .compute .ensures) in
-    evaluated-done _ (operation (start p)) _ _ _ _ (start p .pre .1) (lent p) (none-applies q) _ _ (f .0) (f .1) (f .2)
+    let f = computed-done _ _ _ (r .before .before .before .n .given .1) (o .compute .ensures) in
+    evaluated-done _ (operation (start p)) _ _ _ _ (start p .pre .1) (lent p) (none-applies q) _ _ _ _ (f .0) (f .1) (f .2)
+    (t .set-revision .ensures) (t .before .next-revision .ensures ∙ ap nextRevision (r .revision .ensures))
 
 pub evaluate-spec : {M : Type 1} → statement M
 evaluate-spec =
@@ -124,6 +151,9 @@ evaluate-spec =
     compute-requires
     enum-told
     enum-known-n
+    revision-requires
+    next-revision-requires
+    set-revision-requires
     same-length
     returns-2
     same-length-2

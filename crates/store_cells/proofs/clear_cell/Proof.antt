@@ -1,14 +1,11 @@
--- `clear_cell` takes an entry out, or leaves the words.
-use mathlib.Core.Path.{refl, ap, _∙_}
+-- `clear_cell` takes an entry out, or touches the slot.
 use denote.Ref.{now}
-use Rattle.matrix.specs.Layout.{entries}
 use Rattle.model.specs.Calls.{effect}
 use Rattle.store_encoding.proofs.Performed.{performed-no-store}
 use Rattle.store_cells.proofs.Checks.{unchecked, Checked, checked}
 use Rattle.store_cells.proofs.Refusals.{Reached, reached}
 use Rattle.store_cells.proofs.Outcomes.{clear-refused, clear-performed}
-use Rattle.store_cells.proofs.Edited.{absent-in, present-in}
-use Rattle.store_cells.proofs.Taken.{cleared-put}
+use Rattle.store_cells.proofs.Edited.{absent-found, present-in}
 use borrow.Author.Needs.{needs}
 use Rattle.store_cells.proofs.clear_cell.Statement.{statement}
 use Rattle.store_cells.proofs.clear_cell.Tie as tie
@@ -35,7 +32,7 @@ abbrev passed : tie.After-entry-at → tie.Else2
 passed c = c .before .before .before
 
 -- where the entry is told to be absent, and where it is known to be present
-abbrev missed : tie.After-contents2 → tie.After-enum-told
+abbrev missed : tie.After-position-of → tie.After-enum-told
 missed c = c .before .before
 
 abbrev met : tie.After-take-arg → tie.After-entry
@@ -85,30 +82,28 @@ enum-known-entry c = search needs
 enum-told : tie.Need-enum-told
 enum-told c = search needs
 
-contents-requires-2 : tie.Need-contents-requires-2
-contents-requires-2 c κs =
-    let h = there (passed (c .before .before .before)) .cell in
-    (h .store .sections, h .slot)
+position-of-requires : tie.Need-position-of-requires
+position-of-requires c κs = search needs
 
-entry-count-requires : tie.Need-entry-count-requires
-entry-count-requires c κs =
-    let h = there (passed (missed c .before .before)) .cell in
-    rw (c .contents2 .ensures .words) (h .held .matrix .header)
+cast-touch : tie.Need-cast-touch
+cast-touch c = search needs
+
+touch-requires : tie.Need-touch-requires
+touch-requires c κs =
+    let t = missed c in
+    let f = t .before .before in
+    let h = there (passed f) in
+    let e = absent-found (h .cell) (f .before .contents .ensures .words) (f .entry-at .ensures .0)
+    (t .enum-told .given .1) (c .position-of .ensures) in
+    (h .cell, e)
 
 same-length-3 : tie.Need-same-length-3
 same-length-3 c = search needs
 
 returns-3 : tie.Need-returns-3
 returns-3 c =
-    let w = c .before in
-    let t = missed w in
-    let f = t .before .before in
-    let h = there (passed f) in
-    let e = absent-in (h .cell) (f .before .contents .ensures .words) (f .entry-at .ensures .0)
-    (t .enum-told .given .1) in
-    clear-performed h _ _
-    (cleared-put (h .cell) _ _ e refl
-    (c .entry-count .ensures ∙ ap entries (w .contents2 .ensures .words)))
+    let r = c .before .before in
+    clear-performed (there (passed (missed (r .before) .before .before))) _ _ (r .touch .ensures)
 
 cast-take : tie.Need-cast-take
 cast-take c = search needs
@@ -145,8 +140,9 @@ clear-cell-spec =
     entry-at-requires
     enum-known-entry
     enum-told
-    contents-requires-2
-    entry-count-requires
+    position-of-requires
+    cast-touch
+    touch-requires
     same-length-3
     returns-3
     cast-take
