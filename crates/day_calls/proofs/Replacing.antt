@@ -10,10 +10,10 @@ use Rattle.grid.proofs.Counts.{gather-absent}
 use Rattle.rows.specs.Row.{lookup, Row}
 use Rattle.matrix.specs.Layout.{rows, cols, start, entries, rowColumns, rowValues, cellOf, gridOf}
 use Rattle.matrix.proofs.Facts.{matrix-made, row-span}
-use Rattle.encoding.specs.Encode.{gridSize, writtenOver}
+use Rattle.encoding.specs.Encode.{gridSize}
 use Rattle.encoding.proofs.Canonical.{valid-row}
 use Rattle.day_grids.specs.Day.{withRow, noEntries}
-use Rattle.row_edits.specs.Replacing.{countWith, Replaceable}
+use Rattle.row_edits.specs.Replacing.{updatedTo, countWith, Replaceable}
 use Rattle.day_marks.specs.Marks.{Vector}
 use Rattle.day_requests.specs.Ready.{Backable, Rewritable}
 use Rattle.day_calls.specs.Calls.{dayWith, dayWithout}
@@ -55,7 +55,7 @@ module _ {day marks : List ℕ} {i : ℕ} (b : Backable day marks i) where
       })
 
   pub without-written : (cs vs t : List ℕ) → cs ≡ [] → vs ≡ []
-      → t ≡ writtenOver (withRow (gridOf day) i (lookup cs vs)) day → t ≡ writtenOver (dayWithout day i) day
+      → t ≡ updatedTo (withRow (gridOf day) i (lookup cs vs)) day → t ≡ updatedTo (dayWithout day i) day
   unfolding lookup
   without-written cs vs t e f h = h ∙ rw (e, f)
 
@@ -85,7 +85,7 @@ module _ {day marks new : List ℕ} {i : ℕ} (r : Rewritable day marks i new) w
           space = omega (arith, c);
         }
 
-    pub with-written : (t : List ℕ) → t ≡ writtenOver (withRow (gridOf day) i (lookup cs vs)) day
-        → t ≡ writtenOver (dayWith day i new) day
+    pub with-written : (t : List ℕ) → t ≡ updatedTo (withRow (gridOf day) i (lookup cs vs)) day
+        → t ≡ updatedTo (dayWith day i new) day
     unfolding cellOf
     with-written t h = h ∙ rw (e, f)

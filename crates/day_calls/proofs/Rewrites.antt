@@ -10,9 +10,10 @@ use Rattle.answers.specs.Refusals.{accepted, refused, tooManyEntries, insuffici
 use Rattle.grid.specs.declared.EntryAt.{EntryAt}
 use Rattle.grid.specs.declared.EntryAt.the-variants as entry
 use Rattle.grid.specs.Entries.{entryCount}
-use Rattle.encoding.specs.Encode.{gridSize, writtenOver}
+use Rattle.encoding.specs.Encode.{gridSize}
 use Rattle.refusals.specs.Cases.{firstApplying}
 use Rattle.refusals.proofs.Cases.{applying-first, applying-rest, Numbered}
+use Rattle.row_edits.specs.Replacing.{updatedTo}
 use Rattle.day_marks.specs.Marks.{markWords}
 use Rattle.day_requests.specs.Refusal.{rewriteCases, rewriteRefusal, backRefusal}
 use Rattle.day_calls.specs.Calls.{
@@ -76,8 +77,8 @@ module _ (day marks : List ℕ) (i : ℕ) (new : List ℕ) where
 
         -- both are written
         pub rewrite-done : gridSize (marksWith marks i) ≤ length marks → (n : ℕ) (day′ marks′ : List ℕ)
-            → n ≡ entryCount (dayWith day i new) → day′ ≡ writtenOver (dayWith day i new) day
-            → marks′ ≡ writtenOver (marksWith marks i) marks → Rewritten day marks i new (accepted n) day′ marks′
+            → n ≡ entryCount (dayWith day i new) → day′ ≡ updatedTo (dayWith day i new) day
+            → marks′ ≡ updatedTo (marksWith marks i) marks → Rewritten day marks i new (accepted n) day′ marks′
         rewrite-done l n day′ marks′ e d m = record {
           answer-is = ap accepted e ∙ rw (rest, le-ltb _ _ few, le-ltb _ _ fits, le-ltb _ _ l);
           day-is = d;
@@ -91,7 +92,7 @@ module _ (day marks : List ℕ) (i : ℕ) where
       let f = ne-eqb code 0 h in record { answer-is = rw (← e, f); day-is = rw f; marks-are = rw f }
 
   pub back-done : backRefusal day marks i ≡ 0 → (n : ℕ) (day′ marks′ : List ℕ) → n ≡ entryCount (dayWithout day i)
-      → day′ ≡ writtenOver (dayWithout day i) day → marks′ ≡ writtenOver (marksWithout marks i) marks
+      → day′ ≡ updatedTo (dayWithout day i) day → marks′ ≡ updatedTo (marksWithout marks i) marks
       → TakenBack day marks i (accepted n) day′ marks′
   back-done z n day′ marks′ e d m = record {
     answer-is = ap accepted e ∙ rw z;

@@ -16,6 +16,7 @@ use Rattle.grid.specs.Position.{entryAt}
 use Rattle.matrix.specs.Layout.{gridOf}
 use Rattle.encoding.specs.Encode.{gridSize, writtenOver}
 use Rattle.refusals.specs.Cases.{Case, given, firstApplying, answerFor, outputCases}
+use Rattle.row_edits.specs.Replacing.{updatedTo}
 use Rattle.day_grids.specs.Day.{shownFrom, rewrittenDay, rewrittenMarks, takenDay, takenMarks}
 use Rattle.day_requests.specs.Refusal.{rewriteCases, backRefusal, readRefusal, pairCases}
 use Rattle.day_folds.specs.Folding.{lentFold}
@@ -47,17 +48,18 @@ unfoldable pub rewritingRefusal : List ℕ → List ℕ → ℕ → List ℕ →
 rewritingRefusal day marks i new = firstApplying (rewriteCases day marks i new ++ writtenCases day marks i new)
 
 -- "Rewriting takes a 1 by C strip and marks with 1 ..; both return 0 and the day sheet's N"; "they change nothing" where
--- they are refused
+-- they are refused. A12: "Each accepted call that writes into a sheet adds one to that sheet's revision"
 pub record Rewritten (day marks : List ℕ) (i : ℕ) (new : List ℕ) (answer : Answer) (day′ marks′ : List ℕ) : Type 0 where
   pub answer-is : answer ≡ answerFor (rewritingRefusal day marks i new) (dayWith day i new)
-  pub day-is : day′ ≡ unlessRefused answer day (writtenOver (dayWith day i new) day)
-  pub marks-are : marks′ ≡ unlessRefused answer marks (writtenOver (marksWith marks i) marks)
+  pub day-is : day′ ≡ unlessRefused answer day (updatedTo (dayWith day i new) day)
+  pub marks-are : marks′ ≡ unlessRefused answer marks (updatedTo (marksWith marks i) marks)
 
--- "taking back empties the day row and its mark, if any": 10 and 11 cannot arise
+-- "taking back empties the day row and its mark, if any": 10 and 11 cannot arise. A12: one is added, too, by "taking back
+-- an unmarked row (day and marks)"
 pub record TakenBack (day marks : List ℕ) (i : ℕ) (answer : Answer) (day′ marks′ : List ℕ) : Type 0 where
   pub answer-is : answer ≡ answerFor (backRefusal day marks i) (dayWithout day i)
-  pub day-is : day′ ≡ unlessRefused answer day (writtenOver (dayWithout day i) day)
-  pub marks-are : marks′ ≡ unlessRefused answer marks (writtenOver (marksWithout marks i) marks)
+  pub day-is : day′ ≡ unlessRefused answer day (updatedTo (dayWithout day i) day)
+  pub marks-are : marks′ ≡ unlessRefused answer marks (updatedTo (marksWithout marks i) marks)
 
 -- "reading a cell through the pair", and A11: "reading through the pair counts in the sheet shown"
 unfoldable pub throughAnswer : List ℕ → List ℕ → List ℕ → ℕ → ℕ → CellAnswer
@@ -72,7 +74,7 @@ foldRefusal base day marks room =
     firstApplying (pairCases base day marks
     ++ outputCases (lentFold base day marks) (gridSize (lentFold base day marks)) room)
 
--- "folding both into one new sheet", which its buffer need not have held
+-- "folding both into one new sheet", which its buffer need not have held. A12: "Sheets made by .. folding start at 0"
 pub record Folded (base day marks out : List ℕ) (answer : Answer) (out′ : List ℕ) : Type 0 where
   pub answer-is : answer ≡ answerFor (foldRefusal base day marks (length out)) (lentFold base day marks)
   pub words-are : out′ ≡ unlessRefused answer out (writtenOver (lentFold base day marks) out)

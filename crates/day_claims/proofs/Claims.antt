@@ -42,7 +42,7 @@ module _ (base day marks out out′ : List ℕ) (answer : Answer) (h : Folded ba
   pub folded-holds : Holds (lentFold base day marks) out′
   folded-holds =
       let p = pair-ready base day marks (fold-none base day marks (length out) z) in
-      written-holds (lentFold base day marks) out out′
+      written-holds 0 (lentFold base day marks) out out′
       (record {
         row-range = p .base-valid .header .row-range;
         col-range = p .base-valid .header .col-range;

@@ -11,7 +11,7 @@ use Rattle.grid.specs.declared.Cell.{Cell}
 use Rattle.grid.specs.declared.Cell.the-variants.{Absent, Present}
 use Rattle.grid.specs.Grid.{Grid, Same}
 use Rattle.matrix.specs.Layout.{rows, cols, cellOf, gridOf}
-use Rattle.encoding.specs.Encode.{writtenOver}
+use Rattle.row_edits.specs.Replacing.{updatedTo}
 use Rattle.day_grids.specs.Day.{throughPair, withRow, noEntries, rewrittenMarks, takenMarks}
 use Rattle.day_grids.proofs.Through.{rewritten-through, taken-through, through-same, same-row}
 use Rattle.day_requests.specs.Refusal.{backRefusal}
@@ -80,8 +80,8 @@ module _ {base day marks day′ marks′ : List ℕ} {g : Grid} (k : Kept base d
   step-rewritten new answer h = go (eqb (answer .code) 0) refl (h .day-is) (h .marks-are)
     where
       go : (b : Bool) → eqb (answer .code) 0 ≡ b
-          → day′ ≡ cond b (writtenOver (dayWith day i new) day) day
-          → marks′ ≡ cond b (writtenOver (marksWith marks i) marks) marks
+          → day′ ≡ cond b (updatedTo (dayWith day i new) day) day
+          → marks′ ≡ cond b (updatedTo (marksWith marks i) marks) marks
           → Kept base day′ marks′ (cond b (withRow g i (cellOf new 0)) g)
       go false e a b = rw (a, b) k
       go true e a b =
@@ -89,9 +89,9 @@ module _ {base day marks day′ marks′ : List ℕ} {g : Grid} (k : Kept base d
           (eqb-true _ _ e) in
           let r = rewrite-ready day marks i new (rewrite-none day marks i new z) .back .over in
           changed-kept k i (cellOf new 0) (dayWith day i new) (marksWith marks i)
-          (written-holds (dayWith day i new) day day′
+          (written-holds _ (dayWith day i new) day day′
           (row-within i (cellOf new 0) (r .day-valid) (rewrite-few day marks i new z)) a)
-          (written-holds (marksWith marks i) marks marks′ (mark-within i (Present 1) (r .marks-valid) (r .one-row)) b)
+          (written-holds _ (marksWith marks i) marks marks′ (mark-within i (Present 1) (r .marks-valid) (r .one-row)) b)
           refl refl refl refl
           (rewritten-through (gridOf base) (gridOf day) (gridOf marks) i (gridOf new))
 
@@ -101,8 +101,8 @@ module _ {base day marks day′ marks′ : List ℕ} {g : Grid} (k : Kept base d
   step-taken answer h = go (eqb (answer .code) 0) refl (h .day-is) (h .marks-are)
     where
       go : (b : Bool) → eqb (answer .code) 0 ≡ b
-          → day′ ≡ cond b (writtenOver (dayWithout day i) day) day
-          → marks′ ≡ cond b (writtenOver (marksWithout marks i) marks) marks
+          → day′ ≡ cond b (updatedTo (dayWithout day i) day) day
+          → marks′ ≡ cond b (updatedTo (marksWithout marks i) marks) marks
           → Kept base day′ marks′ (cond b (withRow g i (cellOf base i)) g)
       go false e a b = rw (a, b) k
       go true e a b =
@@ -110,7 +110,7 @@ module _ {base day marks day′ marks′ : List ℕ} {g : Grid} (k : Kept base d
           let w = back-ready day marks i z in
           let r = w .over in
           changed-kept k i (cellOf base i) (dayWithout day i) (marksWithout marks i)
-          (written-holds (dayWithout day i) day day′ (row-within i noEntries (r .day-valid) (without-few w)) a)
-          (written-holds (marksWithout marks i) marks marks′ (mark-within i Absent (r .marks-valid) (r .one-row)) b)
+          (written-holds _ (dayWithout day i) day day′ (row-within i noEntries (r .day-valid) (without-few w)) a)
+          (written-holds _ (marksWithout marks i) marks marks′ (mark-within i Absent (r .marks-valid) (r .one-row)) b)
           refl refl refl refl
           (taken-through (gridOf base) (gridOf day) (gridOf marks) i)

@@ -13,7 +13,7 @@ use Rattle.grid.proofs.Gather.{gather-most}
 use Rattle.matrix.specs.Layout.{rows, cols, gridOf}
 use Rattle.matrix.specs.Facts.{Matrix}
 use Rattle.matrix.proofs.Facts.{matrix-facts, row-span}
-use Rattle.encoding.specs.Encode.{gridSize, Within, writtenOver}
+use Rattle.encoding.specs.Encode.{gridSize, Within, writtenRevised}
 use Rattle.encoding.proofs.Canonical.{encode-valid, encode-same}
 use Rattle.day_grids.specs.Day.{withRow}
 use Rattle.day_requests.specs.Ready.{Day, Backable}
@@ -25,11 +25,11 @@ pub record Holds (g : Grid) (s : List ℕ) : Type 0 where
   pub matrix : Matrix s
   pub same : Same (gridOf s) g
 
-pub written-holds : (g : Grid) (w s : List ℕ) → Within g → s ≡ writtenOver g w → Holds g s
-written-holds g w s h e =
+pub written-holds : (v : ℕ) (g : Grid) (w s : List ℕ) → Within g → s ≡ writtenRevised v g w → Holds g s
+written-holds v g w s h e =
     rw e (record {
-      matrix = matrix-facts (writtenOver g w) (encode-valid g (drop (gridSize g) w) h);
-      same = encode-same g (drop (gridSize g) w);
+      matrix = matrix-facts (writtenRevised v g w) (encode-valid v g (drop (gridSize g) w) h);
+      same = encode-same v g (drop (gridSize g) w);
     })
 
 -- with another row

@@ -26,7 +26,7 @@ front-held g n r c k w w′ e er ec ek rows cols few space s h =
     let s′ = subst (λ (x : ℕ). Staged g (g .rows) x w) (sym e) s in
     let h′ : w′ ≡ finished (g .rows) (g .cols) n w = h ∙ rw (er, ec) in
     let v : w′ ≡ writtenOver g w′ = h′ ∙ finished-written g n w b s′ ∙ ap (writtenOver g) (sym h′) in
-    let z : k ≡ length (encode g) = omega (arith, encode-length g) in
+    let z : k ≡ length (encode g) = omega (arith, encode-length 0 g) in
     ap (take k) v ∙ ap (λ (x : ℕ). take x (writtenOver g w′)) z ∙ take-append-seam (encode g) (drop (gridSize g) w′)
 
 -- copied over the front of others
@@ -34,4 +34,4 @@ pub front-copied : (g : Grid) (x out : List ℕ) → x ≡ encode g → overwrit
 unfolding overwrite
 front-copied g x out e =
     ap (λ (y : List ℕ). overwrite 0 y out) e
-    ∙ ap (λ (k : ℕ). encode g ++ drop k out) (zero-add (length (encode g)) ∙ encode-length g)
+    ∙ ap (λ (k : ℕ). encode g ++ drop k out) (zero-add (length (encode g)) ∙ encode-length 0 g)

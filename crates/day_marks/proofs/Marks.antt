@@ -11,15 +11,17 @@ use Rattle.grid.specs.declared.EntryAt.{EntryAt}
 use Rattle.grid.specs.declared.EntryAt.the-variants as entry
 use Rattle.grid.specs.Grid.{Grid, Same}
 use Rattle.grid.specs.Entries.{column, flatten}
+use Rattle.grid.specs.Revision.{nextRevision}
 use Rattle.grid.specs.Position.{positionOf, entryAt, AbsentAt, PresentAt}
 use Rattle.grid.proofs.Gather.{gather-most}
 use Rattle.grid.proofs.Position.{absent-at, present-at}
 use Rattle.grid.proofs.Same.{same-size}
-use Rattle.matrix.specs.Layout.{sizeOf, rows, cols, entries, size, cellOf, gridOf}
+use Rattle.matrix.specs.Layout.{sizeOf, revision, rows, cols, entries, size, cellOf, gridOf}
+use Rattle.matrix.specs.HeaderWords.{touched}
 use Rattle.matrix.proofs.Facts.{matrix-made}
-use Rattle.encoding.specs.Encode.{encode, gridSize, writtenOver}
-use Rattle.encoding.proofs.Canonical.{valid-entries, valid-encoded, encode-ext}
-use Rattle.edits.specs.Changes.{InMatrix, HasSpace}
+use Rattle.encoding.specs.Encode.{encodeRevised, gridSize}
+use Rattle.encoding.proofs.Canonical.{valid-entries, valid-touched, encode-ext}
+use Rattle.edits.specs.Changes.{InMatrix, HasSpace, updated}
 use Rattle.edits.proofs.Around.{changed-here, changed-other}
 use Rattle.day_grids.specs.Day.{marking, marked, takenMarks}
 use Rattle.day_marks.specs.Marks.{Vector, markWords}
@@ -79,13 +81,14 @@ taken-cells g i p a = record {
     go r c (yes d) (no f) = changed-other g 0 i Absent r c (λ x y. f y)
     go r c (no d) f = changed-other g 0 i Absent r c (λ x y. d x)
 
--- so the words stay
+-- so the words stay, but for the revision
 pub taken-none : {s : List ℕ} {i p : ℕ} → Vector s i → AbsentAt (gridOf s) 0 i p
-    → s ≡ writtenOver (takenMarks (gridOf s) i) s
+    → touched s ≡ updated s 0 i Absent
 taken-none {s} {i} {p} v a =
     let h = matrix-made s (v .matrix) in
     let c = taken-cells (gridOf s) i p a in
     let k = same-size (takenMarks (gridOf s) i) (gridOf s) c ∙ ap (sizeOf (rows s)) (valid-entries s h) in
-    valid-encoded s h
-    ∙ sym (ap (λ (l : List ℕ). l ++ drop (gridSize (takenMarks (gridOf s) i)) s) (encode-ext _ _ c)
-    ∙ ap (λ (n : ℕ). encode (gridOf s) ++ drop n s) k)
+    let v = nextRevision (revision s) in
+    valid-touched s h
+    ∙ sym (ap (λ (l : List ℕ). l ++ drop (gridSize (takenMarks (gridOf s) i)) s) (encode-ext v _ _ c)
+    ∙ ap (λ (n : ℕ). encodeRevised v (gridOf s) ++ drop n s) k)

@@ -6,11 +6,9 @@ ghost use Prim.Native.Nat.{_+_, _≤_};
 ghost use lib.ListN.{length};
 ghost use Rattle.grid.specs.declared.Cell.the-variants.{Absent, Present};
 ghost use Rattle.grid.specs.Position.{entryAt};
-ghost use Rattle.grid.specs.Update.{withCell};
 ghost use Rattle.matrix.specs.Layout.{size, gridOf};
-ghost use Rattle.encoding.specs.Encode.{writtenOver};
-ghost use Rattle.edits.specs.Changes.{InMatrix};
-ghost use Rattle.day_grids.specs.Day.{marked, rewrittenMarks, takenMarks};
+ghost use Rattle.edits.specs.Changes.{updated};
+ghost use Rattle.day_grids.specs.Day.{marked};
 ghost use Rattle.day_marks.specs.Marks.{Vector, markWords, shownWords};
 
 // Whether row i is marked.
@@ -59,8 +57,7 @@ pub fn mark_words(entry: EntryAt) -> usize
 pub fn put_mark(marks: &mut [u32], i: u32, entry: EntryAt)
     requires { ⌜ Vector (now marks) i ⌝ ∗ ⌜ entry ≡ entryAt (gridOf (now marks)) 0 i ⌝
         ∗ ⌜ size (now marks) + markWords entry ≤ length (now marks) ⌝ }
-    ensures { λ _. ⌜ now (marks .exit) ≡ writtenOver (rewrittenMarks (gridOf (now (marks .entry))) i)
-        (now (marks .entry)) ⌝ }
+    ensures { λ _. ⌜ now (marks .exit) ≡ updated (now (marks .entry)) 0 i (Present 1) ⌝ }
 {
     let EntryAt::Present {
         value: _,
@@ -73,11 +70,10 @@ pub fn put_mark(marks: &mut [u32], i: u32, entry: EntryAt)
     edits::replace_value(marks, 0, i, p as usize, 1);
 }
 
-// The mark of row i goes, if there is one.
+// The mark of row i goes, if there is one; the revision is the next in either case.
 pub fn take_mark(marks: &mut [u32], i: u32)
     requires { ⌜ Vector (now marks) i ⌝ }
-    ensures { λ _. ⌜ now (marks .exit) ≡ writtenOver (takenMarks (gridOf (now (marks .entry))) i)
-        (now (marks .entry)) ⌝ }
+    ensures { λ _. ⌜ now (marks .exit) ≡ updated (now (marks .entry)) 0 i Absent ⌝ }
 {
     let found = cells::entry_at(&marks[..], 0, i);
     let entry = found.entry;
@@ -86,6 +82,7 @@ pub fn take_mark(marks: &mut [u32], i: u32)
         position: p,
     } = entry
     else {
+        matrix::touch(marks);
         return;
     };
     edits::remove_entry(marks, 0, i, p as usize);

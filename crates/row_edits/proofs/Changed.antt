@@ -14,12 +14,14 @@ use Rattle.grid.proofs.Gather.{gather-length, flatten-length, flatten-same}
 use Rattle.rows.specs.Row.{lookup, Row}
 use Rattle.rows.proofs.Lookup.{gather-lookup-columns, gather-lookup-values}
 use Rattle.matrix.specs.Layout.{
+  revisionAt,
   startsAt,
   countAt,
   columnsAt,
   countAgainAt,
   valuesAt,
   sizeOf,
+  revision,
   rows,
   cols,
   start,
@@ -30,17 +32,19 @@ use Rattle.matrix.specs.Layout.{
 }
 use Rattle.matrix.specs.Valid.{valid}
 use Rattle.matrix.specs.Facts.{Matrix}
+use Rattle.matrix.specs.HeaderWords.{touched}
 use Rattle.matrix.proofs.Facts.{matrix-made, row-span}
 use Rattle.matrix.proofs.Rows.{columns-length}
 use Rattle.matrix.proofs.HeaderWords.{header-own, header-recounted}
-use Rattle.encoding.specs.Encode.{entriesBefore, gridSize, encode, writtenOver}
+use Rattle.encoding.specs.Encode.{entriesBefore, gridSize, encodeRevised, writtenRevised}
 use Rattle.encoding.proofs.Decoded.{valid-columns, valid-values}
-use Rattle.encoding.proofs.Canonical.{valid-before, valid-entries, valid-row-columns}
+use Rattle.encoding.proofs.Canonical.{encode-touched, valid-before, valid-entries, valid-row-columns}
 use Rattle.encoding.proofs.Assembled.{Assembled, assembled}
 use Rattle.edits.proofs.Located.{Located, part-located, located-part, located-front, located-back}
 use Rattle.edits.proofs.Located.{located-both, located-moved}
 use Rattle.day_grids.specs.Day.{withRow}
 use Rattle.day_grids.proofs.Rows.{RowAround, row-around, row-around-length, row-other, gather-here}
+use Rattle.row_edits.specs.Replacing.{updatedTo}
 
 -- t is s with row i changed to the columns cs and the values vs, so that there are n′ entries: section by section
 pub record RowChanged (s t : List ℕ) (i n′ : ℕ) (cs vs : List ℕ) : Type 0 where
@@ -221,6 +225,13 @@ module _ {s : List ℕ} {i : ℕ} (m : Matrix s) (l : i < rows s) where
         ext-getD 0 (drop e t) (drop e s) (omega (arith, length-drop e t, length-drop e s, h .same))
         (λ k d. getD-drop e t k 0 ∙ h .spare (e + k) (omega (arith, count-is)) ∙ sym (getD-drop e s k 0))
 
-    -- so the words are that writing, and then the spare words
-    pub row-changed : t ≡ writtenOver g′ s
-    row-changed = assembled g′ t changed-assembled ∙ ap (λ (x : List ℕ). encode g′ ++ x) spare-kept
+    -- so the words are that writing, with the revision as it was, and then the spare words; and with the next revision
+    -- they are what the call leaves
+    pub row-changed : touched t ≡ updatedTo g′ s
+    row-changed =
+        let v = revision s in
+        let kept : t ≡ writtenRevised v g′ s =
+        assembled g′ t changed-assembled
+        ∙ ap (λ (u : ℕ). writtenRevised u g′ t) (h .head revisionAt (omega arith))
+        ∙ ap (λ (x : List ℕ). encodeRevised v g′ ++ x) spare-kept in
+        ap touched kept ∙ encode-touched v g′ (drop (gridSize g′) s)

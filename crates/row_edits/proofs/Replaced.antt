@@ -10,10 +10,11 @@ use Rattle.rows.specs.Row.{lookup}
 use Rattle.matrix.specs.Layout.{startsAt, columnsAt, valuesAt, rows, start, entries, gridOf}
 use Rattle.matrix.specs.Facts.{RowSpan}
 use Rattle.matrix.proofs.Facts.{row-span}
-use Rattle.encoding.specs.Encode.{writtenOver}
+use Rattle.matrix.specs.HeaderWords.{touched}
 use Rattle.edits.specs.Changes.{Mapped, Bounded}
 use Rattle.day_grids.specs.Day.{withRow}
 use Rattle.row_edits.specs.Replacing.{
+  updatedTo,
   countWith,
   Replaceable,
   shifted,
@@ -157,5 +158,5 @@ module _ {s cs vs : List ℕ} {i : ℕ} (h : Replaceable s i cs vs) where
           }
 
       -- so they are the writing of the grid with the row
-      pub replaced-written : rowPut r n′ a cs vs t ≡ writtenOver (withRow (gridOf s) i (lookup cs vs)) s
+      pub replaced-written : touched (rowPut r n′ a cs vs t) ≡ updatedTo (withRow (gridOf s) i (lookup cs vs)) s
       replaced-written = row-changed (h .matrix) (h .row) (h .new) replaced

@@ -1,4 +1,4 @@
-// One row of a valid matrix, replaced in place.
+// One row of a valid matrix, replaced in place, and the revision with it.
 use matrix::layout::COLUMNS_PAST;
 use matrix::layout::COUNT_AGAIN_PAST;
 use matrix::layout::COUNT_PAST;
@@ -10,15 +10,14 @@ ghost use Prim.Native.Nat.{_≤_};
 ghost use Rattle.limits.specs.Limits.{maxEntries};
 ghost use Rattle.rows.specs.Row.{lookup};
 ghost use Rattle.matrix.specs.Layout.{gridOf};
-ghost use Rattle.encoding.specs.Encode.{writtenOver};
 ghost use Rattle.edits.specs.Changes.{Mapped, Bounded};
 ghost use Rattle.day_grids.specs.Day.{withRow};
-ghost use Rattle.row_edits.specs.Replacing.{Replaceable, shifted, RoomBounds, Opened, PutBounds, rowPut};
+ghost use Rattle.row_edits.specs.Replacing.{updatedTo, Replaceable, shifted, RoomBounds, Opened, PutBounds, rowPut};
 
 // Row i takes these columns and values. Each word behind the row is moved at most once.
 pub fn replace_row(words: &mut [u32], i: usize, columns: &[u32], values: &[u32])
     requires { ⌜ Replaceable (now words) i (now columns) (now values) ⌝ }
-    ensures { λ _. ⌜ now (words .exit) ≡ writtenOver (withRow (gridOf (now (words .entry))) i
+    ensures { λ _. ⌜ now (words .exit) ≡ updatedTo (withRow (gridOf (now (words .entry))) i
         (lookup (now (columns .entry)) (now (values .entry)))) (now (words .entry)) ⌝ }
 {
     let r = words[ROWS_AT] as usize;
@@ -35,6 +34,7 @@ pub fn replace_row(words: &mut [u32], i: usize, columns: &[u32], values: &[u32])
     );
     make_room(words, r, n, a, b, k);
     put_row(words, r, n + k + a - b, a, columns, values);
+    matrix::touch(words);
 }
 
 // Each word from `from` up to, and not including, `to` grows by `more` and shrinks by `less`.

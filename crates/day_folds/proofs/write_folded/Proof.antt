@@ -43,7 +43,7 @@ held-size c =
     omega (
       arith,
       ap length (held c),
-      encode-length (lentFold (now (a .base)) (now (a .day)) (now (a .marks))),
+      encode-length 0 (lentFold (now (a .base)) (now (a .day)) (now (a .marks))),
       start q .pre .1 .0,
       q .before .before .before .row-count .ensures,
     )

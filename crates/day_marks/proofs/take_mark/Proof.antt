@@ -1,5 +1,6 @@
--- `take_mark` removes the entry, or leaves the words where there is none.
-use mathlib.Core.Path.{refl}
+-- `take_mark` removes the entry, or leaves all but the revision where there is none.
+use native.Mathlib.Omega.{arith}
+use mathlib.Core.Path.{refl, _∙_}
 use Rattle.day_marks.proofs.Marks.{in-vector, absent-placed, present-placed, taken-none}
 use borrow.Author.Needs.{needs}
 use Rattle.day_marks.proofs.take_mark.Statement.{statement}
@@ -14,13 +15,21 @@ enum-known-entry c = search needs
 enum-told : tie.Need-enum-told
 enum-told c = search needs
 
+touch-requires : tie.Need-touch-requires
+touch-requires c κs =
+    let p = c .before .before .before .before .before .before .pre in omega (arith, p .matrix .header .fits)
+
 same-length : tie.Need-same-length
 same-length c = search needs
 
 returns : tie.Need-returns
 returns c =
-    let f = c .before .before in
-    taken-none (f .before .before .before .pre) (absent-placed (f .entry-at .ensures .0) (c .enum-told .given .1) refl)
+    let t = c .before .before in
+    let n = t .before .before in
+    let f = n .before .before in
+    t .touch .ensures
+    ∙ taken-none (f .before .before .before .pre)
+    (absent-placed (f .entry-at .ensures .0) (n .enum-told .given .1) refl)
 
 cast-remove-entry : tie.Need-cast-remove-entry
 cast-remove-entry c = search needs
@@ -44,6 +53,7 @@ take-mark-spec =
     entry-at-requires
     enum-known-entry
     enum-told
+    touch-requires
     same-length
     returns
     cast-remove-entry

@@ -1,6 +1,7 @@
 -- `replace_row` leaves the writing of the grid with the new row.
 use native.Mathlib.Omega.{arith}
-use mathlib.Core.Path.{_∙_}
+use mathlib.Core.Path.{ap, _∙_}
+use Rattle.matrix.specs.HeaderWords.{touched}
 use Rattle.row_edits.proofs.Replaced.{
   span,
   row-few,
@@ -121,15 +122,30 @@ put-row-requires c κs =
     let q = shifted-at o in
     put-bounds (start (q .before) .pre) (q .shift-starts .ensures) (o .make-room .ensures)
 
+touch-requires : tie.Need-touch-requires
+touch-requires c κs =
+    let e = c .before .before .before in
+    let o = opened-at (e .before) in
+    let q = shifted-at o in
+    omega (
+      arith,
+      e .put-row .kept .0,
+      o .make-room .kept .0,
+      q .shift-starts .kept .0,
+      start (q .before) .pre .matrix .header .fits,
+    )
+
 same-length : tie.Need-same-length
 same-length c = search needs
 
 returns : tie.Need-returns
 returns c =
-    let z = c .before .before in
+    let t = c .before .before in
+    let z = t .before .before .before .before in
     let o = opened-at (z .before) in
     let q = shifted-at o in
-    z .put-row .ensures ∙ replaced-written (start (q .before) .pre) (q .shift-starts .ensures) (o .make-room .ensures)
+    t .touch .ensures ∙ ap touched (z .put-row .ensures)
+    ∙ replaced-written (start (q .before) .pre) (q .shift-starts .ensures) (o .make-room .ensures)
 
 pub replace-row-spec : {M : Type 1} → statement M
 replace-row-spec =
@@ -163,5 +179,6 @@ replace-row-spec =
     add-put-row-2
     sub-put-row
     put-row-requires
+    touch-requires
     same-length
     returns)
