@@ -3,14 +3,17 @@ use Prim.Native.Nat.{ℕ, _<_}
 use mathlib.Core.Path.{_≡_, refl, sym, ap, _∙_}
 use mathlib.Core.List.{List, []}
 use mathlib.Core.Bool.{Bool, true, false, cond}
+use lib.ListN.{length}
 use Rattle.grid.specs.declared.Cell.{Cell}
 use Rattle.rows.specs.Row.{Row, Holds, lookup}
-use Rattle.rows.proofs.Holds.{holds-same}
+use Rattle.rows.proofs.Holds.{holds-same, holds-absent}
+use Rattle.rows.proofs.Walk.{absent-all}
 use Rattle.matrix.specs.Layout.{cols, rowColumns, rowValues, cellOf}
 use Rattle.operations.specs.declared.WriteBack.{WriteBack}
 use Rattle.operations.specs.WriteBacks.{writeBack}
 use Rattle.merge.specs.declared.Combine.the-variants.{Write}
 use Rattle.merge.specs.Combined.{combined, combinedRow}
+use Rattle.merge.proofs.Quiet.{row-quiet}
 use Rattle.result_rows.proofs.Inputs.{matrix-row, empty-row, cell-row}
 use Rattle.compute.specs.Computing.{MaskRow, OldRow}
 
@@ -42,3 +45,12 @@ unfolding combined
 written-row w m c tc tv oc ov i n e h =
     holds-same h _ (λ j l. mask-cell w (w .«has_mask») refl m i j _ _
     ∙ ap (λ (x : Cell). writeBack w (cellOf m i j) x (lookup tc tv j)) (sym (ap (λ (f : ℕ → Cell). f j) (cell-row c i))))
+
+-- where neither the row of T nor that of old C has entries, the final row has none
+pub quiet-row : (w : WriteBack) (m c tc tv oc ov : List ℕ) (i n : ℕ) → length tc ≡ 0 → length (rowColumns c i) ≡ 0
+    → Holds n (λ j. writeBack w (cellOf m i j) (cellOf c i j) (lookup tc tv j)) 0 oc ov
+unfolding cellOf
+quiet-row w m c tc tv oc ov i n t e =
+    holds-absent n _ oc ov
+    (λ j. row-quiet w (rowColumns m i) (rowValues m i) (rowColumns c i) (rowValues c i) tc tv j
+    (absent-all (rowColumns c i) (rowValues c i) e j) (absent-all tc tv t j))

@@ -18,6 +18,7 @@ ghost use mathlib.Core.List.{[]};
 ghost use Prim.Native.Nat.{_≤_, _<_};
 ghost use lib.ListN.{length};
 ghost use Rattle.rows.specs.Row.{Row, Holds, lookup};
+ghost use Rattle.matrix.specs.Facts.{Header, RowSpan};
 ghost use Rattle.matrix.specs.Layout.{rows, cols, rowColumns, rowValues, cellOf, gridOf, workspaceWords};
 ghost use Rattle.operations.specs.GridOperations.{resultGrid};
 ghost use Rattle.operations.specs.WriteBacks.{writeBack};
@@ -125,7 +126,7 @@ fn mask_values(masked: bool, mask: &[u32], i: usize) -> &[u32]
     matrix::row_values(mask, i)
 }
 
-// Row i of the final C, from old C, the mask and the row of T.
+// Row i of the final C, from old C, the mask and the row of T. Where both rows have no entries, it has none.
 fn write_row(
     w: WriteBack,
     mask: &[u32],
@@ -143,6 +144,9 @@ fn write_row(
         (lookup (now (tc .entry)) (now (tv .entry)) j))
         r (now (oc .exit)) (now (ov .exit)) ⌝ }
 {
+    if both_empty(tc, c, i) {
+        return 0;
+    }
     let has_mask = w.has_mask;
     merge::merge_row(
         Combine::Write(w),
@@ -156,6 +160,18 @@ fn write_row(
         oc,
         ov,
     )
+}
+
+// Whether neither the row of T nor row i of old C has entries.
+fn both_empty(tc: &[u32], c: &[u32], i: usize) -> bool
+    requires { ⌜ Header (now c) ⌝ ∗ ⌜ RowSpan (now c) i ⌝ }
+    ensures { λ r. ⌜ (r ≡ true → (length (now (tc .entry)) ≡ 0) × (length (rowColumns (now (c .entry)) i) ≡ 0)) ⌝ }
+{
+    if tc.len() != 0 {
+        return false;
+    }
+    let columns = matrix::row_columns(c, i);
+    columns.len() == 0
 }
 
 // Row i of T, as far as the mask lets it through.

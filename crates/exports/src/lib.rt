@@ -2,8 +2,8 @@
 // the order of the wrapped function, then the buffers. A slice is passed as a pointer and the number of its words.
 // `flags`, `has_mask`, `has_accumulator` and `accumulator` are the call's options; a `has_..` is no where it is 0, else
 // yes. Any numbers and any buffers may be passed. Each call answers in one number: the code in the lower word, the
-// entries of what was written or checked, the value of the cell that was read, or the number that a matrix was reduced
-// to, in the upper; the position of a cell that was read is in the lower word too.
+// entries of what was written or checked, the value of the cell that was read, the number that a matrix was reduced to,
+// or its revision, in the upper; the position of a cell that was read is in the lower word too.
 use answers::Answer;
 use answers::CellAnswer;
 use answers::NumberAnswer;
@@ -21,6 +21,7 @@ ghost use lib.ListN.{length, replicate};
 ghost use Rattle.matrix.specs.Valid.{checkAnswer};
 ghost use Rattle.cells.specs.Read.{readAnswer};
 ghost use Rattle.reduce.specs.Reduce.{reduceAnswer};
+ghost use Rattle.revision.specs.Revision.{revisionAnswer};
 ghost use Rattle.row_view.specs.View.{rowView, placeOf};
 ghost use Rattle.call_codes.specs.declared.Verb.the-variants as verbs;
 ghost use Rattle.call_codes.specs.Decoding.{decoded};
@@ -433,6 +434,14 @@ pub extern "C" fn ostrubel_reduce(monoid: u32, words: &[u32]) -> u64
     ensures { λ r. ⌜ r ≡ packedNumber (reduceAnswer (now (words .entry)) monoid) ⌝ }
 {
     pack_number(reduce::reduce(words, monoid))
+}
+
+// The revision of a matrix.
+#[no_mangle]
+pub extern "C" fn ostrubel_revision(words: &[u32]) -> u64
+    ensures { λ r. ⌜ r ≡ packedNumber (revisionAnswer (now (words .entry))) ⌝ }
+{
+    pack_number(revision::revision_of(words))
 }
 
 // An empty matrix in a slot, whatever was there.

@@ -1,3 +1,4 @@
 pub mod Applied
+pub mod Empty
 pub mod Rows
 pub mod Result

@@ -13,7 +13,7 @@ use Rattle.limits.specs.Limits.{maxCols, maxEntries}
 use Rattle.words.specs.Words.{at}
 use Rattle.grid.specs.Grid.{Grid}
 use Rattle.grid.specs.Entries.{column, value, gather, flatten, entryCount}
-use Rattle.grid.proofs.Gather.{gather-length, flatten-next, flatten-grows}
+use Rattle.grid.proofs.Gather.{gather-length, gather-skip, flatten-next, flatten-grows}
 use Rattle.rows.specs.Row.{Holds}
 use Rattle.rows.proofs.Holds.{holds-most}
 use Rattle.encoding.specs.Encode.{entriesBefore}
@@ -22,7 +22,7 @@ use Rattle.matrix.specs.Layout.{gridOf}
 use Rattle.operations.specs.declared.Operation.{Operation}
 use Rattle.operations.specs.GridOperations.{resultGrid}
 use Rattle.result_rows.specs.RowInputs.{RowInputs, Buffers}
-use Rattle.plain_results.specs.Rows.{Inputs, Space, Rows, AllRows}
+use Rattle.plain_results.specs.Rows.{Inputs, EmptyRow, Space, Rows, Skipped, AllRows}
 
 -- no rows yet
 pub rows-none : (g : Grid) (starts oc ov : List ℕ) → Rows g 0 0 starts oc ov
@@ -55,6 +55,15 @@ back-length n s y l e =
     ap length (back-is n s y l) ∙ length-append (take n s) y
     ∙ omega (arith, length-take-le n s l, lent-length n s)
 
+-- the start of one row more
+starts-next : {g : Grid} {i n : ℕ} {starts oc ov : List ℕ} → Rows g i n starts oc ov → i < length starts → (m : ℕ)
+    → m < i + 1 → at (set starts i n) m ≡ entriesBefore g m
+starts-next {g} {i} {n} {starts} p r m l = go (decLt m i)
+  where
+    go : Dec (m < i) → at (set starts i n) m ≡ entriesBefore g m
+    go (yes d) = getD-set-other starts i m n 0 (λ e. omega arith) ∙ p .starts m d
+    go (no d) = let e : m ≡ i = omega arith in rw e (getD-set-same starts i n 0 r ∙ p .count)
+
 -- one row more, with k entries, behind n entries
 module _ {g : Grid} {i n k : ℕ} {starts oc ov : List ℕ} (p : Rows g i n starts oc ov) (a : n ≤ length oc)
     (b : n ≤ length ov) {xc xv : List ℕ} (h : Holds (g .cols) (g .cell i) k xc xv) where
@@ -64,17 +73,10 @@ module _ {g : Grid} {i n k : ℕ} {starts oc ov : List ℕ} (p : Rows g i n star
       ∙ length-append (flatten column (g .cols) (g .cell) i) (gather column (g .cols) (g .cell i))
       ∙ omega (arith, p .count, h .count)
 
-  starts-next : i < length starts → (m : ℕ) → m < i + 1 → at (set starts i n) m ≡ entriesBefore g m
-  starts-next r m l = go (decLt m i)
-    where
-      go : Dec (m < i) → at (set starts i n) m ≡ entriesBefore g m
-      go (yes d) = getD-set-other starts i m n 0 (λ e. omega arith) ∙ p .starts m d
-      go (no d) = let e : m ≡ i = omega arith in rw e (getD-set-same starts i n 0 r ∙ p .count)
-
   pub rows-next : i < length starts → Rows g (i + 1) (n + k) (set starts i n) (take n oc ++ xc) (take n ov ++ xv)
   rows-next r = record {
     count = sym entries-next;
-    starts = starts-next r;
+    starts = starts-next p r;
     columns = take-behind n k oc xc a ∙ rw (p .columns, h .columns) (sym (flatten-next column (g .cols) (g .cell) i));
     values = take-behind n k ov xv b ∙ rw (p .values, h .values) (sym (flatten-next value (g .cols) (g .cell) i));
   }
@@ -82,6 +84,38 @@ module _ {g : Grid} {i n k : ℕ} {starts oc ov : List ℕ} (p : Rows g i n star
   -- more entries than a matrix may have
   pub rows-full : i < g .rows → maxEntries < n + k → maxEntries < entryCount g
   rows-full l f = omega (arith, entries-next, flatten-grows column (g .cols) (g .cell) (i + 1) (g .rows) (omega arith))
+
+-- one row more, without entries
+module _ (g : Grid) (i : ℕ) (e : EmptyRow g i) where
+  flatten-same : (emit : ℕ → ℕ → ℕ) → flatten emit (g .cols) (g .cell) i ≡ flatten emit (g .cols) (g .cell) (i + 1)
+  unfolding gather
+  flatten-same emit =
+      sym (flatten-next emit (g .cols) (g .cell) i
+      ∙ ap (λ (x : List ℕ). flatten emit (g .cols) (g .cell) i ++ x)
+      (gather-skip emit (g .cell i) 0 (g .cols) (omega arith) (λ j l m. e j))
+      ∙ append-nil (flatten emit (g .cols) (g .cell) i))
+
+  rows-empty : {n : ℕ} {starts oc ov : List ℕ} → Rows g i n starts oc ov → i < length starts
+      → Rows g (i + 1) n (set starts i n) oc ov
+  rows-empty p r = record {
+    count = p .count ∙ ap length (flatten-same column);
+    starts = starts-next p r;
+    columns = p .columns ∙ flatten-same column;
+    values = p .values ∙ flatten-same value;
+  }
+
+-- the loop over rows without entries: none yet, and one more
+pub skipped-none : {g : Grid} {total i n : ℕ} {starts : List ℕ} → i ≤ total → Skipped g total i n starts i starts
+skipped-none l = record { rises = omega arith; within = l; size = refl; passes = λ oc ov p. p }
+
+pub skipped-next : {g : Grid} {total i n r : ℕ} {st st′ : List ℕ} → Skipped g total i n st r st′ → EmptyRow g r
+    → r < total → r < length st′ → Skipped g total i n st (r + 1) (set st′ r n)
+skipped-next {g} {n = n} {r} {st′ = st′} s e l m = record {
+  rises = omega (arith, s .rises);
+  within = omega arith;
+  size = length-set st′ r n ∙ s .size;
+  passes = λ oc ov p. rows-empty g r e (s .passes oc ov p) m;
+}
 
 -- the loop over the rows of T: i of them are passed, with n entries
 pub record Passed (op : Operation) (a b c is js : List ℕ) (total n i : ℕ) (starts oc ov : List ℕ) : Type 0 where
@@ -123,6 +157,22 @@ module _ (op : Operation) (a b c is js : List ℕ) where
 
     cols-most : T .cols ≤ maxCols
     cols-most = omega (arith, p .inputs .same-cols, p .inputs .output .header .col-range .most)
+
+    -- the rows up to r have no entries
+    pub passed-skip : {r : ℕ} {st′ : List ℕ} → Skipped T (layout.rows c) i n starts r st′
+        → Passed op a b c is js total n r st′ oc ov
+    passed-skip s = record {
+      inputs = p .inputs;
+      rows-are = p .rows-are;
+      within = omega (arith, s .within, p .rows-are);
+      few = p .few;
+      space = record {
+        starts = omega (arith, s .size, p .space .starts);
+        columns = p .space .columns;
+        values = p .space .values;
+      };
+      rows = s .passes oc ov (p .rows);
+    }
 
     -- what the next row needs
     pub row-needs : i < total → RowInputs op a b c is js i × Buffers T (lent n oc) (lent n ov)

@@ -5,6 +5,7 @@ use mathlib.Core.List.{List}
 use lib.ListN.{length, take}
 use Rattle.limits.specs.Limits.{maxRows, maxCols, maxEntries}
 use Rattle.words.specs.Words.{at}
+use Rattle.grid.specs.declared.Cell.the-variants.{Absent}
 use Rattle.grid.specs.Grid.{Grid}
 use Rattle.grid.specs.Entries.{column, value, flatten, entryCount}
 use Rattle.matrix.specs.Layout.{rows, cols}
@@ -20,6 +21,10 @@ pub record Inputs (op : Operation) (a b c is js : List ℕ) : Type 0 where
   pub same-rows : rowNeeds op a b c is js .result .rows ≡ rows c
   pub same-cols : rowNeeds op a b c is js .result .cols ≡ cols c
 
+-- row i has no entries
+abbrev pub EmptyRow : Grid → ℕ → Type 0
+EmptyRow g i = (j : ℕ) → g .cell i j ≡ Absent
+
 -- room for the starts, and for one row more than the entries of a matrix
 pub record Space (st oc ov : List ℕ) : Type 0 where
   pub starts : maxRows ≤ length st
@@ -32,6 +37,13 @@ pub record Rows (g : Grid) (i n : ℕ) (st oc ov : List ℕ) : Type 0 where
   pub starts : (k : ℕ) → k < i → at st k ≡ entriesBefore g k
   pub columns : take n oc ≡ flatten column (g .cols) (g .cell) i
   pub values : take n ov ≡ flatten value (g .cols) (g .cell) i
+
+-- the rows of g from i up to r have no entries, and their starts follow those of the first i, which have n entries
+pub record Skipped (g : Grid) (total i n : ℕ) (st : List ℕ) (r : ℕ) (st′ : List ℕ) : Type 0 where
+  pub rises : i ≤ r
+  pub within : r ≤ total
+  pub size : length st′ ≡ length st
+  pub passes : (oc ov : List ℕ) → Rows g i n st oc ov → Rows g r n st′ oc ov
 
 -- all rows of g, with n entries, or too many entries
 pub record AllRows (g : Grid) (n : ℕ) (starts oc ov : List ℕ) : Type 0 where

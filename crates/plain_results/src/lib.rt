@@ -14,12 +14,14 @@ ghost use mathlib.Core.Path.{_≡_};
 ghost use mathlib.Core.Bool.{true};
 ghost use Prim.Native.Nat.{_≤_};
 ghost use lib.ListN.{length};
-ghost use Rattle.matrix.specs.Layout.{gridOf, workspaceWords};
+ghost use Rattle.limits.specs.Limits.{maxRows, maxEntries};
+ghost use Rattle.matrix.specs.Layout.{rows, rowColumns, gridOf, workspaceWords};
 ghost use Rattle.operations.specs.GridOperations.{resultGrid};
-ghost use Rattle.matrix.specs.Facts.{Matrix};
+ghost use Rattle.matrix.specs.Facts.{Header, RowSpan, Matrix};
+ghost use Rattle.result_rows.specs.RowInputs.{RowInputs};
 ghost use Rattle.apply_rows.specs.Values.{byValue};
 ghost use Rattle.plain_results.specs.Applied.{appliedGrid};
-ghost use Rattle.plain_results.specs.Rows.{Inputs, Space, AllRows, Written};
+ghost use Rattle.plain_results.specs.Rows.{Inputs, EmptyRow, Space, Skipped, AllRows, Written};
 
 // The places of a buffer for all rows: as many as a matrix may have entries, and one row more.
 const RESULT_PLACES: usize = MAX_ENTRIES as usize + ROW_PLACES;
@@ -128,7 +130,7 @@ fn all_rows(
 {
     let total = matrix::row_count(c) as usize;
     let mut n: usize = 0;
-    let mut i: usize = 0;
+    let mut i = skip_rows(operation, a, b, c, is, js, starts, 0, 0);
     while i < total {
         starts[i] = n as u32;
         n += result_rows::result_row(
@@ -146,7 +148,75 @@ fn all_rows(
         if (MAX_ENTRIES as usize) < n {
             return n;
         }
-        i += 1;
+        i = skip_rows(operation, a, b, c, is, js, starts, i + 1, n);
     }
     n
+}
+
+// Writes the starts of the rows from `from` on that are known to be empty, after n entries: the first row that is not.
+fn skip_rows(
+    operation: Operation,
+    a: &[u32],
+    b: &[u32],
+    c: &[u32],
+    is: &[u32],
+    js: &[u32],
+    starts: &mut [u32],
+    from: usize,
+    n: usize,
+) -> usize
+    requires { ⌜ Inputs operation (now a) (now b) (now c) (now is) (now js) ⌝ }
+    requires { ⌜ (from ≤ rows (now c)) × (n ≤ maxEntries) ⌝ ∗ ⌜ maxRows ≤ length (now starts) ⌝ }
+    ensures { λ r. ⌜ Skipped (resultGrid operation (gridOf (now (a .entry))) (gridOf (now (b .entry)))
+        (gridOf (now (c .entry))) (now (is .entry)) (now (js .entry)))
+        (rows (now (c .entry))) from n (now (starts .entry)) r (now (starts .exit)) ⌝ }
+{
+    let total = matrix::row_count(c) as usize;
+    let mut i = from;
+    while i < total {
+        if !is_empty(operation, a, b, c, is, js, i) {
+            return i;
+        }
+        starts[i] = n as u32;
+        i += 1;
+    }
+    i
+}
+
+// Whether the row starts alone tell that row i of T has no entries.
+fn is_empty(
+    operation: Operation,
+    a: &[u32],
+    b: &[u32],
+    c: &[u32],
+    is: &[u32],
+    js: &[u32],
+    i: usize,
+) -> bool
+    requires { ⌜ RowInputs operation (now a) (now b) (now c) (now is) (now js) i ⌝ }
+    ensures { λ r. ⌜ (r ≡ true → EmptyRow (resultGrid operation (gridOf (now (a .entry))) (gridOf (now (b .entry)))
+        (gridOf (now (c .entry))) (now (is .entry)) (now (js .entry))) i) ⌝ }
+{
+    match operation {
+        Operation::Mxm(_, _) => has_none(a, i),
+        Operation::EwiseMult(_) => has_none(a, i),
+        Operation::EwiseAdd(_) => {
+            if !has_none(a, i) {
+                return false;
+            }
+            has_none(b, i)
+        }
+        Operation::Apply(_) => has_none(a, i),
+        Operation::Select(_) => has_none(a, i),
+        _ => false,
+    }
+}
+
+// Whether row i of a matrix has no entries.
+fn has_none(words: &[u32], i: usize) -> bool
+    requires { ⌜ Header (now words) ⌝ ∗ ⌜ RowSpan (now words) i ⌝ }
+    ensures { λ r. ⌜ (r ≡ true → length (rowColumns (now (words .entry)) i) ≡ 0) ⌝ }
+{
+    let columns = matrix::row_columns(words, i);
+    columns.len() == 0
 }

@@ -1,7 +1,7 @@
--- The loops of `sum_row` and `sum_rows`, and the row that is collected at the end.
+-- The loops of `sum_entries` and `sum_rows`, and the row that is collected at the end.
 use Prim.Native.Nat.{ℕ, _+_, _*_, _≤_, _<_}
 use native.Mathlib.Omega.{arith}
-use mathlib.Core.Path.{_≡_, refl, ap, _∙_}
+use mathlib.Core.Path.{_≡_, refl, sym, ap, subst, _∙_}
 use mathlib.Core.List.{List}
 use mathlib.Core.Bool.{Bool, true, false, cond}
 use lib.ListN.{length, set, length-set}
@@ -26,15 +26,33 @@ use Rattle.matrix.proofs.Facts.{matrix-made}
 use Rattle.encoding.proofs.Canonical.{valid-row}
 use Rattle.dense_rows.specs.Dense.{marked}
 use Rattle.dense_rows.proofs.Sweep.{Swept, swept-start, swept-step, swept-done}
-use Rattle.bit_rows.specs.Bits.{mark, mapPlaces, flagged, Tracked, Carries, Marking, Room}
-use Rattle.bit_rows.proofs.Marks.{marked-here, marked-other, carries-room}
+use Rattle.bit_rows.specs.Bits.{bit, mark, mapPlaces, flagged, Tracked, Carries, Marking, Room}
+use Rattle.bit_rows.proofs.Marks.{flagged-unmarked, marked-here, marked-other, carries-room}
 use Rattle.mask_rows.specs.Masks.{KeptInside}
-use Rattle.products.specs.Products.{productRow, addedRow, insideRow}
+use Rattle.products.specs.Products.{productRow, addedRow, insideRow, AddedAt}
 use Rattle.products.proofs.Dot.{dot-none, dot-empty}
 use Rattle.products.proofs.Adding.{keeps}
 use Rattle.products.proofs.Sums.{Sums, sums-start, sums-step, sums-done}
 
--- ---- `sum_row`: the entries before p of a row, each times x, are added
+-- ---- `add_at`: the first product at a column, and a later one
+
+pub added-first : (monoid : Monoid) (x : ℕ) {j : ℕ} {map : List ℕ} (sums : List ℕ) {top′ : ℕ} {map′ : List ℕ}
+    → mark map j ≡ 0 → Marking j map top′ map′ → AddedAt monoid x j map sums top′ map′ (set sums j x)
+added-first monoid x {j} {map} sums e g =
+    record { marking = g; sum = x; adds = rw (flagged-unmarked map sums j e); stored = refl }
+
+pub added-later : (monoid : Monoid) (x : ℕ) {j : ℕ} {map : List ℕ} (sums : List ℕ) {top m s : ℕ} → Tracked top map
+    → m ≡ mark map j → (m ≡ 0 → ⊥) → Present s ≡ unite (monoidOp monoid) (marked m (at sums j)) (Present x)
+    → AddedAt monoid x j map sums top map (set sums j s)
+unfolding bit flagged
+added-later monoid x sums {s = s} t e n f = record {
+  marking = record { tracked = t; here = omega arith; other = λ k u. refl };
+  sum = s;
+  adds = f ∙ rw e;
+  stored = refl;
+}
+
+-- ---- `sum_entries`: the entries before p of a row, each times x, are added
 
 pub record Placing (monoid : Monoid) (op : BinaryOp) (x : ℕ) (columns vals : List ℕ) (old : ℕ → Cell) (sums₀ : List ℕ)
     (top : ℕ) (map sums : List ℕ) (p : ℕ) : Type 0 where
@@ -49,22 +67,20 @@ module _ {columns vals : List ℕ} (w : Row maxCols columns vals) {monoid : Mono
   placing-start t f = record { tracked = t; long = refl; swept = swept-start w (keeps monoid op x _ old) f }
 
   module _ {top : ℕ} {map sums : List ℕ} {p : ℕ} (h : Placing monoid op x columns vals old sums₀ top map sums p) where
-    -- the sum s with the product of entry p is stored at its column, which is marked
-    pub placing-step : {t m s top′ : ℕ} {map′ : List ℕ} → p < length columns → at columns p < length sums
-        → t ≡ binaryWord op x (at vals p) → m ≡ mark map (at columns p)
-        → Present s ≡ unite (monoidOp monoid) (marked m (at sums (at columns p))) (Present t)
-        → Marking (at columns p) map top′ map′
-        → Placing monoid op x columns vals old sums₀ top′ map′ (set sums (at columns p) s) (p + 1)
-    unfolding flagged
-    placing-step {t} {m} {s} l k e em f g =
+    -- the product of entry p is added at its column
+    pub placing-step : {t top′ : ℕ} {map′ sums′ : List ℕ} → p < length columns → at columns p < length sums
+        → t ≡ binaryWord op x (at vals p) → AddedAt monoid t (at columns p) map sums top′ map′ sums′
+        → Placing monoid op x columns vals old sums₀ top′ map′ sums′ (p + 1)
+    placing-step {top′ = top′} {map′} l k e g =
         let c = at columns p in
         let before : flagged map sums c ≡ old c = h .swept .rest c (omega (arith, front-at maxCols columns p l)) in
+        subst (λ (s : List ℕ). Placing monoid op x columns vals old sums₀ top′ map′ s (p + 1)) (sym (g .stored))
         record {
-          tracked = g .tracked;
-          long = length-set sums c s ∙ h .long;
+          tracked = g .marking .tracked;
+          long = length-set sums c (g .sum) ∙ h .long;
           swept = swept-step w (keeps monoid op x _ old) (h .swept) l
-              (marked-here g sums s k ∙ f ∙ rw (lookup-entry w p l, e, em, ← before))
-              (marked-other g sums s);
+              (marked-here (g .marking) sums (g .sum) k ∙ g .adds ∙ rw (lookup-entry w p l, e, ← before))
+              (marked-other (g .marking) sums (g .sum));
         }
 
     pub placing-done : length columns ≤ p → Carries (addedRow monoid op x (lookup columns vals) old) top map sums

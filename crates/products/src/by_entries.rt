@@ -5,16 +5,19 @@ use operations::WriteBack;
 use operators::BinaryOp;
 use operators::Monoid;
 ghost use mathlib.Core.Path.{_≡_};
-ghost use Prim.Native.Nat.{_≤_};
+ghost use mathlib.Core.Bool.{true};
+ghost use Prim.Native.Nat.{_≤_, _<_};
 ghost use lib.ListN.{length};
 ghost use Rattle.limits.specs.Limits.{maxCols};
 ghost use Rattle.grid.specs.declared.Cell.the-variants.{Absent};
+ghost use Rattle.operators.specs.declared.Monoid.the-variants.{Plus};
+ghost use Rattle.operators.specs.declared.BinaryOp.the-variants.{Times};
 ghost use Rattle.rows.specs.Row.{lookup, Row, Holds};
 ghost use Rattle.matrix.specs.Layout.{rows, cols, rowColumns, rowValues, cellOf};
 ghost use Rattle.matrix.specs.Facts.{Header, RowSpan, Matrix};
 ghost use Rattle.bit_rows.specs.Bits.{flagged, Tracked, Carries};
 ghost use Rattle.mask_rows.specs.Masks.{UnderMask};
-ghost use Rattle.products.specs.Products.{productRow, addedRow, insideRow};
+ghost use Rattle.products.specs.Products.{productRow, addedRow, insideRow, AddedAt};
 
 // The row of the first input times the matrix b, to the front of `oc` and `ov`; its number of entries. A row without
 // entries costs nothing.
@@ -65,10 +68,10 @@ pub fn product_row_inside(
     if columns.len() == 0 {
         return 0;
     }
-    let mut map = [0u64; MAP_WORDS];
-    let top = sum_rows(monoid, op, columns, values, b, &mut map, ov);
-    mask_rows::keep_inside(w, mc, mv, &mut map);
-    bit_rows::collect(top, &map, oc, ov)
+    let mut kept = [0u64; MAP_WORDS];
+    let top = sum_rows(monoid, op, columns, values, b, &mut kept, ov);
+    mask_rows::keep_inside(w, mc, mv, &mut kept);
+    bit_rows::collect(top, &kept, oc, ov)
 }
 
 // Adds up, for the entries of the row, each entry times the row of b that it names: the top word of the map.
@@ -127,8 +130,54 @@ fn sum_matrix_row(
     )
 }
 
-// Adds x times a row: the new top word.
+// Adds x times a row: the new top word. The loop over its entries is compiled once more for plus and times.
 fn sum_row(
+    monoid: Monoid,
+    op: BinaryOp,
+    x: u32,
+    columns: &[u32],
+    values: &[u32],
+    top: u64,
+    map: &mut [u64; MAP_WORDS],
+    sums: &mut [u32],
+) -> u64
+    requires { ⌜ Row maxCols (now columns) (now values) ⌝ ∗ ⌜ Row (length (now sums)) (now columns) (now values) ⌝ }
+    requires { ⌜ Tracked top (now map) ⌝ }
+    ensures { λ r. ⌜ Carries
+        (addedRow monoid op x (lookup (now (columns .entry)) (now (values .entry)))
+        (flagged (now (map .entry)) (now (sums .entry))))
+        r (now (map .exit)) (now (sums .exit)) ⌝ }
+{
+    if is_plus_times(monoid, op) {
+        return sum_entries(
+            Monoid::Plus,
+            BinaryOp::Times,
+            x,
+            columns,
+            values,
+            top,
+            map,
+            sums,
+        );
+    }
+    sum_entries(monoid, op, x, columns, values, top, map, sums)
+}
+
+// Whether products are multiplied by times and added up by plus.
+fn is_plus_times(monoid: Monoid, op: BinaryOp) -> bool
+    ensures { λ r. ⌜ (r ≡ true → (monoid ≡ Plus) × (op ≡ Times)) ⌝ }
+{
+    match monoid {
+        Monoid::Plus => match op {
+            BinaryOp::Times => true,
+            _ => false,
+        },
+        _ => false,
+    }
+}
+
+// Adds x times each entry of a row: the new top word.
+fn sum_entries(
     monoid: Monoid,
     op: BinaryOp,
     x: u32,
@@ -151,11 +200,31 @@ fn sum_row(
         let j = columns[p] as usize;
         let y = values[p];
         let product = operators::apply_binary(op, x, y);
-        let mark = bit_rows::mark_at(map, j);
-        let sum = crate::add_product(monoid, mark, sums[j], product);
-        used = bit_rows::mark_column(used, map, j);
-        sums[j] = sum;
+        used = add_at(monoid, product, j, used, map, sums);
         p += 1;
     }
     used
+}
+
+// Adds a product at column j, which is marked: the new top word. Where it was marked before, the map stays as it is.
+fn add_at(
+    monoid: Monoid,
+    product: u32,
+    j: usize,
+    top: u64,
+    map: &mut [u64; MAP_WORDS],
+    sums: &mut [u32],
+) -> u64
+    requires { ⌜ (j < maxCols) × (j < length (now sums)) ⌝ ∗ ⌜ Tracked top (now map) ⌝ }
+    ensures { λ r. ⌜ AddedAt monoid product j (now (map .entry)) (now (sums .entry))
+        r (now (map .exit)) (now (sums .exit)) ⌝ }
+{
+    let mark = bit_rows::mark_at(map, j);
+    if mark == 0 {
+        sums[j] = product;
+        return bit_rows::mark_column(top, map, j);
+    }
+    let sum = crate::add_product(monoid, mark, sums[j], product);
+    sums[j] = sum;
+    top
 }

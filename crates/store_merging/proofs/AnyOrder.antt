@@ -373,6 +373,7 @@ module _ (xs : List SlotMerge) (y : SlotMerge) where
     repeated = same-left xs (xs ++ (y ∷ [])) (no-other i) p same t (run-then xs y t u)
 
 pub store-any-order : StoreAnyOrder
+unfolding same-left
 store-any-order = record {
   possible = λ κ₁ κ₄ s d xs. every-run κ₁ κ₄ s (mergeCalls d xs);
   on-the-way = beginning;

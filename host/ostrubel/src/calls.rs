@@ -5,11 +5,12 @@
 //! mutably. Any numbers and any words may be passed.
 
 mod c {
-    extern "C" {
+    unsafe extern "C" {
         pub fn ostrubel_check(words: *const u32, n: usize) -> u64;
         pub fn ostrubel_new_empty(rows: u32, cols: u32, buffer: *mut u32, n: usize) -> u64;
         pub fn ostrubel_read_cell(i: u32, j: u32, words: *const u32, n: usize) -> u64;
         pub fn ostrubel_reduce(monoid: u32, words: *const u32, n: usize) -> u64;
+        pub fn ostrubel_revision(words: *const u32, n: usize) -> u64;
         pub fn ostrubel_row_view(
             i: u32,
             values: u32,
@@ -61,6 +62,11 @@ pub fn read_cell(i: u32, j: u32, words: &[u32]) -> u64 {
 /// All values of the matrix added up with a monoid.
 pub fn reduce(monoid: u32, words: &[u32]) -> u64 {
     unsafe { c::ostrubel_reduce(monoid, words.as_ptr(), words.len()) }
+}
+
+/// The revision of the matrix.
+pub fn revision(words: &[u32]) -> u64 {
+    unsafe { c::ostrubel_revision(words.as_ptr(), words.len()) }
 }
 
 /// Where row i over two matrices lies: its column numbers where `values` is 0, else its values. The answer has no code:
@@ -122,7 +128,7 @@ macro_rules! operation {
         $(#[$about:meta])* $lent:ident $c_lent:ident $store:ident $c_store:ident,
         [$($number:ident),*], [$($input:ident $count:ident),*], [$($slot:ident),*], [$($list:ident $length:ident),*]
     ) => {
-        extern "C" {
+        unsafe extern "C" {
             fn $c_lent(
                 flags: u32, has_mask: u32, has_accumulator: u32, accumulator: u32, $($number: u32,)*
                 $($input: *const u32, $count: usize,)* $($list: *const u32, $length: usize,)*
@@ -184,7 +190,7 @@ operation!(
 /// A product by the first of the library's two engines, on lent matrices: the C function and a safe function.
 macro_rules! product_by_places {
     ($(#[$about:meta])* $lent:ident $c_lent:ident) => {
-        extern "C" {
+        unsafe extern "C" {
             fn $c_lent(
                 flags: u32, has_mask: u32, has_accumulator: u32, accumulator: u32, monoid: u32, op: u32,
                 a: *const u32, a_n: usize, b: *const u32, b_n: usize,
@@ -235,7 +241,7 @@ operation!(
     extract ostrubel_extract store_extract ostrubel_store_extract, [], [a a_n], [a], [is is_n, js js_n]
 );
 
-extern "C" {
+unsafe extern "C" {
     fn ostrubel_open_doors(
         allowance: u32,
         locks: *const u32,
@@ -286,7 +292,7 @@ operation!(
     reduce_rows ostrubel_reduce_rows store_reduce_rows ostrubel_store_reduce_rows, [monoid], [a a_n], [a], []
 );
 
-extern "C" {
+unsafe extern "C" {
     fn ostrubel_day_rewrite(
         i: u32,
         row: *const u32,

@@ -56,7 +56,7 @@ mod workspace;
 
 pub use day_over::DayOver;
 pub use descriptor::Descriptor;
-pub use entries::Entries;
+pub use entries::{Entries, IntoEntries};
 pub use error::Error;
 pub use limits::{
     MAX_ALLOWANCE, MAX_COLS, MAX_ENTRIES, MAX_FILE_BYTES, MAX_INDEXES, MAX_MATRIX_WORDS, MAX_ROWS, MAX_STORE_WORDS,

@@ -14,6 +14,7 @@ use Rattle.plain_results.proofs.Rows.{
   sum-fits,
   passed-full,
   passed-next,
+  passed-skip,
   passed-all,
 }
 use borrow.Author.Needs.{needs}
@@ -28,12 +29,16 @@ Inv-loop operation a b c is js starts₀ oc₀ ov₀ engine total n₀ i₀ star
 abbrev μ-loop : tie.MeasureT-loop
 μ-loop operation a b c is js starts₀ oc₀ ov₀ engine total n₀ i₀ starts oc ov n i = total - i
 
+-- the rows without entries before the loop, and what is known from then on
+abbrev first : tie.At-loop Inv-loop μ-loop → tie.After-skip-rows Inv-loop μ-loop
+first c = c .before .before .before
+
 -- the turn of the loop, from where its row is worked out
 abbrev turn : tie.After-result-row Inv-loop μ-loop → tie.In-loop Inv-loop μ-loop
 turn c = c .before .before .before
 
 -- the row, from where its entries are counted
-abbrev worked : tie.After-slice-known5 Inv-loop μ-loop → tie.After-result-row Inv-loop μ-loop
+abbrev worked : tie.After-slice-known6 Inv-loop μ-loop → tie.After-result-row Inv-loop μ-loop
 worked c = c .before .before .before .before
 
 row-count-requires : tie.Need-row-count-requires Inv-loop μ-loop
@@ -42,10 +47,19 @@ row-count-requires c κs = c .before .before .before .before .before .before .be
 cast-total : tie.Need-cast-total Inv-loop μ-loop
 cast-total c = search needs
 
+skip-rows-requires : tie.Need-skip-rows-requires Inv-loop μ-loop
+skip-rows-requires c κs =
+    let p = c .before .before .before .before .before .before .before .before .before .before .pre in
+    (p .0, ((omega arith, omega arith), p .1 .starts))
+
 loop-holds : tie.Need-loop-holds Inv-loop μ-loop
 loop-holds c =
-    let p = c .before .before .before .before .before .before .before .before .before .pre in
-    (passed-none _ _ _ _ _ _ (p .0) (p .1) (c .row-count .ensures), (refl, refl, refl))
+    let s = c .before .before in
+    let k = s .before .before in
+    let p = k .before .before .before .before .before .before .before .before .before .pre in (
+      passed-skip _ _ _ _ _ _ (passed-none _ _ _ _ _ _ (p .0) (p .1) (k .row-count .ensures)) (s .skip-rows .ensures),
+      (refl, refl, refl),
+    )
 
 cast-starts : tie.Need-cast-starts Inv-loop μ-loop
 cast-starts c = search needs
@@ -92,6 +106,7 @@ cast-if1 c = search needs
 same-length : tie.Need-same-length Inv-loop μ-loop
 same-length c = let t = turn (worked (c .before)) in
     length-set (t .before .loop .starts) (t .before .loop .i) (t .before .loop .n) ∙ t .before .loop .inv .1 .0
+    ∙ first (t .before) .skip-rows .ensures .size
 
 same-length-2 : tie.Need-same-length-2 Inv-loop μ-loop
 same-length-2 c =
@@ -113,29 +128,48 @@ returns c =
     let t = turn q in
     passed-full _ _ _ _ _ _ (t .before .loop .inv .0) (q .result-row .ensures) (t .loop-test .taken) (c .if1 .taken) _ _ _
 
-add-i : tie.Need-add-i Inv-loop μ-loop
-add-i c = let t = turn (worked (c .before)) in counter-fits _ _ _ _ _ _ (t .before .loop .inv .0) (t .loop-test .taken)
+add-skip-rows : tie.Need-add-skip-rows Inv-loop μ-loop
+add-skip-rows c =
+    let t = turn (worked (c .before .before)) in
+    counter-fits _ _ _ _ _ _ (t .before .loop .inv .0) (t .loop-test .taken)
+
+skip-rows-requires-2 : tie.Need-skip-rows-requires-2 Inv-loop μ-loop
+skip-rows-requires-2 c κs =
+    let q = worked (c .before .before) in
+    let t = turn q in
+    let k = q .result-row .kept .1 .1 .1 .1 .1 .1 .1 .1 in
+    let m = passed-next _ _ _ _ _ _ (t .before .loop .inv .0) (q .result-row .ensures) (t .loop-test .taken)
+    (c .before .if1 .left) (k .0) (k .1 .0) in
+    (m .inputs, ((omega (arith, m .within, m .rows-are), m .few), m .space .starts))
 
 loop-less : tie.Need-loop-less Inv-loop μ-loop
-loop-less c = let h = c .before .before .before .before .before .before .before .before .loop-test .taken in omega arith
+loop-less c =
+    let s = c .before .before in
+    let h = turn (worked (s .before .before .before)) .loop-test .taken in
+    omega (arith, s .skip-rows2 .ensures .rises)
 
 loop-again : tie.Need-loop-again Inv-loop μ-loop
 loop-again c =
-    let q = worked (c .before) in
+    let s = c .before .before in
+    let l = s .before .before in
+    let q = worked (l .before) in
     let t = turn q in
     let v = t .before .loop .inv in
     let x = q .result-row .last .1 .1 .1 .1 .1 .1 .1 .1 in
-    let k = q .result-row .kept .1 .1 .1 .1 .1 .1 .1 .1 in (
-      passed-next _ _ _ _ _ _ (v .0) (q .result-row .ensures) (t .loop-test .taken) (c .if1 .left) (k .0) (k .1 .0),
+    let k = q .result-row .kept .1 .1 .1 .1 .1 .1 .1 .1 in
+    let m = passed-next _ _ _ _ _ _ (v .0) (q .result-row .ensures) (t .loop-test .taken) (l .if1 .left) (k .0)
+    (k .1 .0) in (
+      passed-skip _ _ _ _ _ _ m (s .skip-rows2 .ensures),
       (
-        length-set (t .before .loop .starts) (t .before .loop .i) (t .before .loop .n) ∙ v .1 .0,
+        s .skip-rows2 .ensures .size
+            ∙ length-set (t .before .loop .starts) (t .before .loop .i) (t .before .loop .n) ∙ v .1 .0,
         back-length (t .before .loop .n) (t .before .loop .oc) (x .0) (columns-room _ _ _ _ _ _ (v .0)) (k .0) ∙ v .1 .1,
         back-length (t .before .loop .n) (t .before .loop .ov) (x .1 .0) (values-room _ _ _ _ _ _ (v .0)) (k .1 .0) ∙ v .1 .2,
       ),
     )
 
 same-length-4 : tie.Need-same-length-4 Inv-loop μ-loop
-same-length-4 c = c .before .loop .inv .1 .0
+same-length-4 c = c .before .loop .inv .1 .0 ∙ first (c .before) .skip-rows .ensures .size
 
 same-length-5 : tie.Need-same-length-5 Inv-loop μ-loop
 same-length-5 c = c .before .loop .inv .1 .1
@@ -154,6 +188,7 @@ all-rows-spec =
     μ-loop
     row-count-requires
     cast-total
+    skip-rows-requires
     loop-holds
     cast-starts
     mul-starts
@@ -173,7 +208,8 @@ all-rows-spec =
     same-length-2
     same-length-3
     returns
-    add-i
+    add-skip-rows
+    skip-rows-requires-2
     loop-less
     loop-again
     same-length-4

@@ -1,133 +1,41 @@
--- `sum_row` adds x times the row: the entries before p are added.
-use Prim.Native.Nat.{_-_, _<_}
-use native.Mathlib.Omega.{arith}
-use mathlib.Core.Path.{refl}
-use denote.Ref.{now}
-use lib.ListN.{length}
-use Rattle.limits.specs.Limits.{maxCols}
-use Rattle.words.specs.Words.{at}
-use Rattle.bit_rows.specs.Bits.{flagged}
-use Rattle.products.proofs.ByEntries.{Placing, placing-start, placing-step, placing-done}
+-- `sum_row` adds x times the row, by the loop for the operators that it has.
+use borrow.Author.Needs.{needs}
 use Rattle.products.proofs.by_entries.sum_row.Statement.{statement}
 use Rattle.products.proofs.by_entries.sum_row.Tie as tie
 
-abbrev Inv-loop : tie.InvT-loop
-Inv-loop monoid op x columns values top map₀ sums₀ used₀ p₀ map sums used p =
-    Placing monoid op x columns values (flagged map₀ sums₀) sums₀ used map sums p
+is-plus-times-requires : tie.Need-is-plus-times-requires
+is-plus-times-requires c κs = search needs
 
-abbrev μ-loop : tie.MeasureT-loop
-μ-loop monoid op x columns values top map₀ sums₀ used₀ p₀ map sums used p = length columns - p
+sum-entries-requires : tie.Need-sum-entries-requires
+sum-entries-requires c κs = search needs
 
--- the function's entry, seen from the loop, and the loop's turn, seen from behind the calls
-abbrev start : tie.At-loop Inv-loop μ-loop → tie.Start Inv-loop μ-loop
-start q = q .before .before .before .before
+same-length : tie.Need-same-length
+same-length c = search needs
 
-abbrev multiplied : tie.After-mark-at Inv-loop μ-loop → tie.After-apply-binary Inv-loop μ-loop
-multiplied c = c .before .before
+returns : tie.Need-returns
+returns c =
+    let q = c .before .before in
+    let test = q .before .before .before in
+    let e = test .before .is-plus-times .ensures (test .if1 .taken) in
+    rw (e .0, e .1) (q .sum-entries .ensures)
 
-abbrev looked : tie.After-mark-column Inv-loop μ-loop → tie.After-mark-at Inv-loop μ-loop
-looked c = c .before .before .before .before
+sum-entries-requires-2 : tie.Need-sum-entries-requires-2
+sum-entries-requires-2 c κs = search needs
 
-abbrev turn : tie.After-apply-binary Inv-loop μ-loop → tie.In-loop Inv-loop μ-loop
-turn c = c .before .before .before
+same-length-2 : tie.Need-same-length-2
+same-length-2 c = search needs
 
--- the column at p is a place of a row, and of the sums
-place : (c : tie.In-loop Inv-loop μ-loop) → at (now (start (c .before) .args .columns)) (c .before .loop .p) < maxCols
-place c = start (c .before) .pre .0 .small (c .before .loop .p) (c .loop-test .taken)
-
-in-sums : (c : tie.In-loop Inv-loop μ-loop)
-    → at (now (start (c .before) .args .columns)) (c .before .loop .p) < length (c .before .loop .sums)
-in-sums c =
-    let room = start (c .before) .pre .1 .0 .small (c .before .loop .p) (c .loop-test .taken) in
-    omega (arith, room, c .before .loop .inv .long)
-
-loop-holds : tie.Need-loop-holds Inv-loop μ-loop
-loop-holds c =
-    let p = c .before .before .before .pre in placing-start (p .0) (p .1 .1) (λ j. refl)
-
-mul-j : tie.Need-mul-j Inv-loop μ-loop
-mul-j c = omega arith
-
-shared-slice-read-j : tie.Need-shared-slice-read-j Inv-loop μ-loop
-shared-slice-read-j c = omega arith
-
-cast-j : tie.Need-cast-j Inv-loop μ-loop
-cast-j c = omega (arith, place (c .before))
-
-mul-y : tie.Need-mul-y Inv-loop μ-loop
-mul-y c = omega (arith, start (c .before .before) .pre .0 .even)
-
-shared-slice-read-y : tie.Need-shared-slice-read-y Inv-loop μ-loop
-shared-slice-read-y c = omega (arith, start (c .before .before .before) .pre .0 .even)
-
-apply-binary-requires : tie.Need-apply-binary-requires Inv-loop μ-loop
-apply-binary-requires c κs = tt
-
-mark-at-requires : tie.Need-mark-at-requires Inv-loop μ-loop
-mark-at-requires c κs = place (turn (c .before))
-
-mul-add-product : tie.Need-mul-add-product Inv-loop μ-loop
-mul-add-product c = omega (arith, place (turn (multiplied c)))
-
-slice-read-add-product : tie.Need-slice-read-add-product Inv-loop μ-loop
-slice-read-add-product c = in-sums (turn (multiplied (c .before)))
-
-add-product-requires : tie.Need-add-product-requires Inv-loop μ-loop
-add-product-requires c κs = tt
-
-mark-column-requires : tie.Need-mark-column-requires Inv-loop μ-loop
-mark-column-requires c κs =
-    let t = turn (multiplied (c .before .before .before)) in (place t, t .before .loop .inv .tracked)
-
-mul-sums : tie.Need-mul-sums Inv-loop μ-loop
-mul-sums c = omega (arith, place (turn (multiplied (looked c))))
-
-slice-write-sums : tie.Need-slice-write-sums Inv-loop μ-loop
-slice-write-sums c = in-sums (turn (multiplied (looked c)))
-
-add-p : tie.Need-add-p Inv-loop μ-loop
-add-p c = omega (arith, turn (multiplied (looked c)) .loop-test .taken)
-
-loop-less : tie.Need-loop-less Inv-loop μ-loop
-loop-less c = omega (arith, turn (multiplied (looked c)) .loop-test .taken)
-
-loop-again : tie.Need-loop-again Inv-loop μ-loop
-loop-again c =
-    let seen = looked c in
-    let product = multiplied seen in
-    let t = turn product in
-    placing-step (start (t .before) .pre .0) (t .before .loop .inv) (t .loop-test .taken) (in-sums t)
-    (product .apply-binary .ensures) (seen .mark-at .ensures) (c .before .before .add-product .ensures)
-    (c .mark-column .ensures)
-
-same-length : tie.Need-same-length Inv-loop μ-loop
-same-length c = c .before .loop .inv .long
-
-returns : tie.Need-returns Inv-loop μ-loop
-returns c = placing-done (start (c .before) .pre .0) (c .before .loop .inv) (c .loop-test .left)
+returns-2 : tie.Need-returns-2
+returns-2 c = search needs
 
 pub sum-row-spec : {M : Type 1} → statement M
 sum-row-spec =
     tie.close
     (tie.spec
-    Inv-loop
-    μ-loop
-    loop-holds
-    mul-j
-    shared-slice-read-j
-    cast-j
-    mul-y
-    shared-slice-read-y
-    apply-binary-requires
-    mark-at-requires
-    mul-add-product
-    slice-read-add-product
-    add-product-requires
-    mark-column-requires
-    mul-sums
-    slice-write-sums
-    add-p
-    loop-less
-    loop-again
+    is-plus-times-requires
+    sum-entries-requires
     same-length
-    returns)
+    returns
+    sum-entries-requires-2
+    same-length-2
+    returns-2)
