@@ -1,7 +1,7 @@
-//! Document 02, A7: a day sheet over a base sheet, by its sentences one after another, with A11's positions. The answer
-//! and every word of every lent buffer are held against the library's.
+//! Document 02, A7: a day sheet over a base sheet, by its sentences one after another, with A11's positions and A12's
+//! revisions. The answer and every word of every lent buffer are held against the library's.
 
-use crate::calls::{counted, part_answer, present_or_absent};
+use crate::calls::{code_of, counted, part_answer, present_or_absent};
 use crate::fault::Fault;
 use crate::generate::{damage, entries_near_limit, grid, grid_of, random_words, side};
 use crate::grid::{Grid, MAX_ENTRIES};
@@ -26,6 +26,9 @@ pub enum Slip {
     SpareWordsLost,
     UnmarkedEntriesFree,
     ShowOtherSection,
+    RevisionKept,
+    UnmarkedRevisionKept,
+    FoldedRevision,
 }
 
 #[derive(Clone, Copy, Debug, PartialEq, Eq)]
@@ -81,8 +84,15 @@ fn in_day(day: &Grid, marks: &Grid, row: u32, slip: Slip) -> bool {
     marks_row(marks, row, slip) && (slip != Slip::EmptyRowFromBase || day.in_row(row) > 0)
 }
 
+/// A12: "Each accepted call that writes into a sheet adds one to that sheet's revision"
+fn touch(grid: &mut Grid, slip: Slip) {
+    grid.revision = grid.revision.wrapping_add(u32::from(slip != Slip::RevisionKept));
+}
+
+/// A12: "Sheets made by recipes or folding start at 0"
 fn folded(base: &Grid, day: &Grid, marks: &Grid, slip: Slip) -> Grid {
     let mut grid = Grid::empty(base.rows, base.cols);
+    grid.revision = if slip == Slip::FoldedRevision { base.revision } else { 0 };
     for row in 0..base.rows {
         let shown = if in_day(day, marks, row, slip) { day } else { base };
         grid.cells.extend(shown.cells.range((row, 0)..(row + 1, 0)));
@@ -131,6 +141,8 @@ impl DayCall {
         unless(new.shape() == (1, day.cols) || (slip == Slip::AnyShapeOfRow && new.cols == day.cols), 8)?;
         day.cells.retain(|(row, _), _| *row != self.row);
         day.cells.extend(new.cells.range((0, 0)..(1, 0)).map(|((_, column), value)| ((self.row, *column), *value)));
+        touch(&mut day, slip);
+        touch(&mut marks, slip);
         match slip {
             Slip::MarkKept => {
                 marks.cells.entry((0, self.row)).or_insert(1);
@@ -158,7 +170,10 @@ impl DayCall {
         if slip != Slip::UnmarkedRowKept || marks.get(0, self.row).is_some() {
             day.cells.retain(|(row, _), _| *row != self.row);
         }
-        marks.cells.remove(&(0, self.row));
+        touch(&mut day, slip);
+        if marks.cells.remove(&(0, self.row)).is_some() || slip != Slip::UnmarkedRevisionKept {
+            touch(&mut marks, slip);
+        }
         Ok((day, marks))
     }
 
@@ -232,8 +247,8 @@ impl DayCall {
         After { answer, day, marks, out }
     }
 
-    /// The name of the call and its answer; what goes wrong is the error.
-    pub fn judge(&self) -> Result<(&'static str, u64), String> {
+    /// The name of the call and its code; what goes wrong is the error.
+    pub fn judge(&self) -> Result<(&'static str, u32), String> {
         let (expected, seen) = (self.expected(Slip::None), self.seen());
         if expected != seen {
             return Err(format!("{self:?}: expected {expected:?}, seen {seen:?}"));
@@ -243,9 +258,9 @@ impl DayCall {
             Verb::Back => "back",
             Verb::Read { .. } => "read",
             Verb::Fold => "fold",
-            Verb::Show { .. } => "show",
+            Verb::Show { .. } => return Ok(("show", 0)),
         };
-        Ok((name, seen.answer))
+        Ok((name, code_of(seen.answer)))
     }
 }
 
@@ -271,7 +286,7 @@ fn pair(rng: &mut Rng) -> [Grid; 3] {
     let base = if large && rng.percent(50) { grid_of(rng, rows, cols, entries) } else { grid(rng, rows, cols) };
     let day = if large && rng.percent(70) { grid_of(rng, rows, cols, entries) } else { grid(rng, rows, cols) };
     let marks = grid(rng, 1, rows);
-    [base, day, marks]
+    [base, day, marks].map(|sheet| Grid { revision: rng.pick(&[0, 1, 7, u32::MAX - 1, u32::MAX]), ..sheet })
 }
 
 /// A call whose sheets fit, mostly; one in three is spoilt.
@@ -341,7 +356,7 @@ fn spoil(rng: &mut Rng, call: &mut DayCall) {
 /// the same list: the row that was written, or the base sheet's again.
 pub fn list(rng: &mut Rng) -> Result<(), String> {
     let (rows, cols) = (rng.between(1, 6), rng.between(1, 6));
-    let base = grid(rng, rows, cols);
+    let base = Grid { revision: 0, ..grid(rng, rows, cols) };
     let (mut plain, base_words) = (base.clone(), base.words());
     let mut day = Grid::empty(rows, cols).words();
     let mut marks = Grid::empty(1, rows).words();
@@ -381,7 +396,7 @@ pub fn list(rng: &mut Rng) -> Result<(), String> {
 mod tests {
     use super::*;
 
-    const SLIPS: [Slip; 15] = [
+    const SLIPS: [Slip; 18] = [
         Slip::EmptyRowFromBase,
         Slip::ZeroDoesNotMark,
         Slip::MarkKept,
@@ -397,12 +412,15 @@ mod tests {
         Slip::SpareWordsLost,
         Slip::UnmarkedEntriesFree,
         Slip::ShowOtherSection,
+        Slip::RevisionKept,
+        Slip::UnmarkedRevisionKept,
+        Slip::FoldedRevision,
     ];
 
     #[test]
     fn each_slip_is_noticed() {
         for slip in SLIPS {
-            let mut calls = (0..100_000).map(|number| day_call(&mut Rng::of_case(1, 5, number)));
+            let mut calls = (0..100_000).map(|number| day_call(&mut Rng::of_case(1, 7, number)));
             assert!(calls.any(|call| call.expected(slip) != call.seen()), "{slip:?}");
         }
     }

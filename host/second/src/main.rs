@@ -282,22 +282,23 @@ fn compare_revisions(run: &Run) -> Result<(), Disagreement> {
     Ok(())
 }
 
-/// A day sheet over a base sheet: calls, and lists of rewrites held against a plain grid; as many as calls of keys.
+/// A day sheet over a base sheet: calls, and lists of rewrites held against a plain grid; as many as lists of calls.
 fn compare_days(run: &Run) -> Result<(), Disagreement> {
     let &Run { seed, lists, .. } = run;
     let mut codes: BTreeMap<&'static str, BTreeMap<u32, u64>> = BTreeMap::new();
     for number in 0..lists {
-        let judged = days::day_call(&mut Rng::of_case(seed, 5, number)).judge();
-        let listed = days::list(&mut Rng::of_case(seed, 6, number));
-        match judged.and_then(|judged| listed.map(|()| judged)) {
-            Ok((name, answer)) => {
-                let code = if name == "show" { 0 } else { code_of(answer) };
-                *codes.entry(name).or_default().entry(code).or_default() += 1;
-            }
-            Err(text) => {
-                println!("seed {seed}, day {number}: {text}");
+        let rng = || Rng::of_case(seed, 7, number);
+        match days::day_call(&mut rng()).judge() {
+            Ok((name, code)) => *codes.entry(name).or_default().entry(code).or_default() += 1,
+            Err(_) => {
+                let small = shrink(rng(), days::day_call, |case| case.judge().is_err());
+                println!("seed {seed}, day {number}, made small: {}", small.judge().unwrap_err());
                 return Err(Disagreement);
             }
+        }
+        if let Err(text) = days::list(&mut Rng::of_case(seed, 8, number)) {
+            println!("seed {seed}, days {number}: {text}");
+            return Err(Disagreement);
         }
     }
     println!("seed {seed}: {lists} calls and {lists} lists on a day sheet, by codes {codes:?}: no disagreement");
