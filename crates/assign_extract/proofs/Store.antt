@@ -10,11 +10,12 @@ use borrow.Author.Tests.{not-false, leb-false}
 use Rattle.limits.specs.Limits.{slotCount}
 use Rattle.words.specs.Words.{at}
 use Rattle.grid.specs.Grid.{Same}
+use Rattle.grid.specs.Revision.{updating, revisionAfter}
 use Rattle.grid.proofs.Same.{same-refl, same-trans}
 use Rattle.operations.specs.Calls.{indexesValid, shapesAgree}
 use Rattle.slots.specs.Valid.{storeValid}
 use Rattle.slots.proofs.Facts.{store-facts}
-use Rattle.model.specs.Model.{vacant, holding, Model, put, gridIn, gridAt}
+use Rattle.model.specs.Model.{Slot, vacant, holding, Model, put, gridIn, gridAt, revisionAt}
 use Rattle.model.specs.Effects.{Reply, codeOf, refusalOf}
 use Rattle.model.specs.Calls.{
   StoreCall,
@@ -84,16 +85,19 @@ module _ (n : ℕ) (m : Model) (f : Fitting n m) (x : OperationCall) (z : refusa
   unfolding effect
   agrees = agreed n m (operateOf x) z
 
-  model-is : next n m (operation x) ≡ put m (operateOf x .roles .output) (holding (operated m (operateOf x)))
+  -- C's slot holds the final C, with the next revision
+  abbrev left : Slot
+  left =
+      holding (revisionAfter updating (revisionAt m (operateOf x .roles .output))) (operated m (operateOf x))
+
+  model-is : next n m (operation x) ≡ put m (operateOf x .roles .output) left
   unfolding effect
   model-is = next-accepted (effect (operation x)) n m z
 
-  -- C's slot holds the final C
   grid-is : gridAt (next n m (operation x)) (operateOf x .roles .output) ≡ operated m (operateOf x)
   grid-is =
       ap (λ (w : Model). gridAt w (operateOf x .roles .output)) model-is
-      ∙ ap gridIn (getD-set-same m (operateOf x .roles .output) (holding (operated m (operateOf x))) vacant
-      (omega (arith, agrees .slot, f .slots)))
+      ∙ ap gridIn (getD-set-same m (operateOf x .roles .output) left vacant (omega (arith, agrees .slot, f .slots)))
 
   fits-next : Fitting n (next n m (operation x))
   fits-next = next-fits (effect (operation x)) n m f (effect-fits n m f (operation x))
