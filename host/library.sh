@@ -1,10 +1,27 @@
 #!/bin/sh
-# Makes target/staticlib/libexports.a, the proved library for hosts, where it is missing or older than the crates.
+# Makes target/staticlib/libostrubel.a, the proved library for hosts, where it is missing or older than the crates, and
+# beside it ostrubel.pc, by which pkg-config tells how to compile and link with it.
 # Only a proved crate is built: the first time all crates below it are proved, and a line is shown for each.
 set -e
 cd "$(dirname "$0")/.."
-archive=target/staticlib/libexports.a
+folder=target/staticlib
+archive=$folder/libostrubel.a
+built=$folder/libexports.a # the name that rt gives it
 log=target/library.log
+
+# Paths from where the file is, so that the folder may be reached by any name.
+mkdir -p "$folder"
+cat > "$folder/ostrubel.pc.$$" << EOF
+libdir=\${pcfiledir}
+includedir=\${pcfiledir}/../../include
+
+Name: ostrubel
+Description: sparse whole-number matrices with GraphBLAS operations, proved
+Version: $(sed -n 's/^version = "\(.*\)"$/\1/p' host/ostrubel/Cargo.toml)
+Cflags: -I\${includedir}
+Libs: -L\${libdir} -lostrubel
+EOF
+mv "$folder/ostrubel.pc.$$" "$folder/ostrubel.pc"
 
 if [ -f "$archive" ] && [ -z "$(find crates crates.txt -newer "$archive" -print -quit)" ]; then
     exit 0
@@ -29,7 +46,6 @@ count=$(awk -F: '
         print count
     }' crates.txt)
 
-mkdir -p target
 : > "$log"
 stamp=$(mktemp)
 trap 'rm -f "$stamp"' EXIT
@@ -43,11 +59,11 @@ echo "Proving the library: $count crates, about seven minutes on two free cores 
 } | {
     while IFS= read -r line; do
         case $line in
-        "rt: "*" proved ("* | "rt: $archive has "*)
+        "rt: "*" proved ("* | "rt: $built has "*)
             proved=$((proved + 1))
             name=${line#rt: }
             name=${name%% *}
-            [ "$name" = "$archive" ] && name=exports
+            [ "$name" = "$built" ] && name=exports
             echo "  crate $proved of $count: $name proved, $(($(date +%s) - begin)) s so far"
             ;;
         "rt ended with 0") exit 0 ;;
@@ -59,4 +75,6 @@ echo "Proving the library: $count crates, about seven minutes on two free cores 
     exit 1
 }
 # What was changed while it was being proved is newer than the archive.
-touch -r "$stamp" "$archive"
+cp "$built" "$archive.$$"
+touch -r "$stamp" "$archive.$$"
+mv "$archive.$$" "$archive"

@@ -6,16 +6,19 @@
  * to that many words also where a call does not look at them; with a count of 0 it is any aligned address but not null.
  * A buffer that a call writes (not const) may not overlap another buffer of the same call; those that are only read may.
  *
- * A matrix of R rows, C columns and N entries takes R + 2N + 7 words: 2, R, C; R+1 and the row starts; N and the column
- * numbers; N and the values, in two's complement (-5 is 4294967291). R and C are 1 to 1,000, N is 0 to 2,048. Words
- * after it are spare, and an accepted call leaves those that it does not need as they were.
+ * A matrix of R rows, C columns and N entries takes R + 2N + 9 words: 1 and the revision; 2, R, C; R+1 and the row starts;
+ * N and the column numbers; N and the values, in two's complement (-5 is 4294967291). R and C are 1 to 1,000, N is 0 to
+ * 2,048. Words after it are spare, and an accepted call leaves those that it does not need as they were.
+ *
+ * The revision tells whether a matrix was written: a new matrix has 0, and each accepted call that writes into a matrix
+ * adds one, even where no cell changes; after 4294967295 comes 0. A matrix that is read from a file has the file's.
  *
  * A store has eight slots, 0 to 7, each empty or with a matrix, in one buffer of 8 to 16,384 words: slot by slot a
  * count of words and the matrix, then zeros. All zeros is a store with eight empty slots. A write needs room for 8 words
  * and all matrices as they are after the call.
  *
  * Answers. Each call returns one number: take it apart by the functions below. A call that is accepted has the code 0;
- * only ostrubel_row_view has no code.
+ * only ostrubel_row_view and ostrubel_day_show have no code.
  * A refused call has the lowest code that applies (on a store 12 comes first, and 13 between 2 and 7; of a file 15 comes
  * before 11), changes no word but the workspace's, and its entries, value, position or number are 0. The workspace is all
  * zeros after every call that has one.
@@ -34,9 +37,12 @@
 extern "C" {
 #endif
 
+/* A number of words or bytes, or a slot: 64 bits on every target, also where ostrubel_size has 32 (wasm32). */
+typedef uint64_t ostrubel_size;
+
 /* Sizes, in words of 32 bits. */
-#define OSTRUBEL_MAX_MATRIX_WORDS 5103 /* the largest matrix: 1,000 rows, 2,048 entries */
-#define OSTRUBEL_MIN_WORKSPACE_WORDS 15309
+#define OSTRUBEL_MAX_MATRIX_WORDS 5105 /* the largest matrix: 1,000 rows, 2,048 entries */
+#define OSTRUBEL_MIN_WORKSPACE_WORDS 15315
 #define OSTRUBEL_MIN_STORE_WORDS 8
 #define OSTRUBEL_MAX_STORE_WORDS 16384
 
@@ -44,7 +50,7 @@ extern "C" {
 #define OSTRUBEL_STACK_BYTES 49152
 
 /* Sizes, in bytes: the largest file, four for each word of the largest matrix, and the largest text. */
-#define OSTRUBEL_MAX_FILE_BYTES 20412
+#define OSTRUBEL_MAX_FILE_BYTES 20420
 #define OSTRUBEL_MAX_TEXT_BYTES 40975
 
 /* Limits. An index list has 1 to 1,000 indexes. */
@@ -70,7 +76,7 @@ enum {
                                           an allowance above 1,000 */
     OSTRUBEL_INVALID_SHAPE = 8,        /* rows or columns outside 1 to 1,000; shapes of inputs, mask, C and result
                                           disagree; no vector (one row) where one is due */
-    OSTRUBEL_WORKSPACE_TOO_SHORT = 9,  /* a workspace under 15,309 words */
+    OSTRUBEL_WORKSPACE_TOO_SHORT = 9,  /* a workspace under 15,315 words */
     OSTRUBEL_TOO_MANY_ENTRIES = 10,    /* the final C, or the matrix a cell is set in, would have over 2,048 entries */
     OSTRUBEL_INSUFFICIENT_SPACE = 11,  /* the final C, a new matrix or the store does not fit its buffer */
     OSTRUBEL_INVALID_STORE = 12,       /* the length or the words are no store's, or a slot above 7 */
@@ -157,6 +163,9 @@ static inline uint32_t ostrubel_position(uint64_t answer) { return (uint32_t)((a
 /* Of a reduction to a number: its word; 0 where it was refused. */
 static inline uint32_t ostrubel_number(uint64_t answer) { return (uint32_t)(answer >> 32); }
 
+/* Of a look at the revision: the revision; 0 where it was refused. */
+static inline uint32_t ostrubel_revision_number(uint64_t answer) { return (uint32_t)(answer >> 32); }
+
 /* Of a row view: 1 where the part lies in the second matrix, 0 where it lies in the first. */
 static inline int ostrubel_in_second(uint64_t answer) { return (int)(answer & 1); }
 
@@ -167,20 +176,23 @@ static inline uint32_t ostrubel_part_count(uint64_t answer) { return (uint32_t)(
 /* ---- Matrices in buffers of their own ---- */
 
 /* Whether the words begin with a valid matrix. Refused by 3. */
-uint64_t ostrubel_check(const uint32_t *words, size_t words_len);
+uint64_t ostrubel_check(const uint32_t *words, ostrubel_size words_len);
 
-/* An empty matrix at the front of the buffer, whatever was there: rows + 7 words. Refused by 8, 11. */
-uint64_t ostrubel_new_empty(uint32_t rows, uint32_t cols, uint32_t *buffer, size_t buffer_len);
+/* An empty matrix at the front of the buffer, whatever was there: rows + 9 words, revision 0. Refused by 8, 11. */
+uint64_t ostrubel_new_empty(uint32_t rows, uint32_t cols, uint32_t *buffer, ostrubel_size buffer_len);
 
 /* The cell at row i and column j, and its position. Refused by 3, 7. */
-uint64_t ostrubel_read_cell(uint32_t i, uint32_t j, const uint32_t *words, size_t words_len);
+uint64_t ostrubel_read_cell(uint32_t i, uint32_t j, const uint32_t *words, ostrubel_size words_len);
+
+/* The revision of the matrix. Take the answer apart by ostrubel_code and ostrubel_revision_number. Refused by 3. */
+uint64_t ostrubel_revision(const uint32_t *words, ostrubel_size words_len);
 
 /*
  * All values of the matrix added up with a monoid. Of a matrix with no entries it is the monoid's identity: 0 for PLUS, 1
  * for TIMES, 2147483647 for MIN, -2147483648 for MAX. Take the answer apart by ostrubel_code and ostrubel_number. Refused by
  * 2, 3.
  */
-uint64_t ostrubel_reduce(uint32_t monoid, const uint32_t *words, size_t words_len);
+uint64_t ostrubel_reduce(uint32_t monoid, const uint32_t *words, ostrubel_size words_len);
 
 /*
  * Row i over two matrices of one shape: where the part lies that is shown. It lies in the first matrix where that row has
@@ -188,8 +200,8 @@ uint64_t ostrubel_reduce(uint32_t monoid, const uint32_t *words, size_t words_le
  * take it apart by ostrubel_in_second, ostrubel_part_from and ostrubel_part_count. Where either matrix is not valid, the
  * shapes differ or there is no row i, the answer is 0: no words.
  */
-uint64_t ostrubel_row_view(uint32_t i, uint32_t values, const uint32_t *first, size_t first_len,
-                           const uint32_t *second, size_t second_len);
+uint64_t ostrubel_row_view(uint32_t i, uint32_t values, const uint32_t *first, ostrubel_size first_len,
+                           const uint32_t *second, ostrubel_size second_len);
 
 /*
  * The operations that write C. Each works out a result T and writes it back: with an accumulator Z is the union of old C and T
@@ -199,107 +211,112 @@ uint64_t ostrubel_row_view(uint32_t i, uint32_t values, const uint32_t *first, s
  *   has_mask         0: no mask, and its words are not looked at; else there is one
  *   has_accumulator  0: no accumulator, and its number is not looked at; else there is one
  *   accumulator      a binary operator
- *   c                a valid matrix in a buffer that may be longer; at most 5,103 words are needed
- *   work             at least 15,309 words, any words; all zeros after the call
+ *   c                a valid matrix in a buffer that may be longer; at most 5,105 words are needed
+ *   work             at least 15,315 words, any words; all zeros after the call
  * The answer's entries are those of the final C. Refused by 1 to 11: 4 only with a second input, 5 only with a mask, 7
  * only by extract.
  */
 
 /* C gets A times B: op multiplies, the monoid adds up. */
 uint64_t ostrubel_mxm(uint32_t flags, uint32_t has_mask, uint32_t has_accumulator, uint32_t accumulator,
-                      uint32_t monoid, uint32_t op, const uint32_t *a, size_t a_len, const uint32_t *b, size_t b_len,
-                      const uint32_t *mask, size_t mask_len, uint32_t *c, size_t c_len, uint32_t *work,
-                      size_t work_len);
+                      uint32_t monoid, uint32_t op, const uint32_t *a, ostrubel_size a_len, const uint32_t *b,
+                      ostrubel_size b_len, const uint32_t *mask, ostrubel_size mask_len, uint32_t *c,
+                      ostrubel_size c_len, uint32_t *work, ostrubel_size work_len);
 
 /* C gets u times A, where u has one row. */
 uint64_t ostrubel_vxm(uint32_t flags, uint32_t has_mask, uint32_t has_accumulator, uint32_t accumulator,
-                      uint32_t monoid, uint32_t op, const uint32_t *u, size_t u_len, const uint32_t *a, size_t a_len,
-                      const uint32_t *mask, size_t mask_len, uint32_t *c, size_t c_len, uint32_t *work,
-                      size_t work_len);
+                      uint32_t monoid, uint32_t op, const uint32_t *u, ostrubel_size u_len, const uint32_t *a,
+                      ostrubel_size a_len, const uint32_t *mask, ostrubel_size mask_len, uint32_t *c,
+                      ostrubel_size c_len, uint32_t *work, ostrubel_size work_len);
 
 /* ostrubel_mxm and ostrubel_vxm by the first of the library's two engines of the product, for comparison: the same answers
  * and the same words, in more time. */
 uint64_t ostrubel_mxm_by_places(uint32_t flags, uint32_t has_mask, uint32_t has_accumulator, uint32_t accumulator,
-                                uint32_t monoid, uint32_t op, const uint32_t *a, size_t a_len, const uint32_t *b,
-                                size_t b_len, const uint32_t *mask, size_t mask_len, uint32_t *c, size_t c_len,
-                                uint32_t *work, size_t work_len);
+                                uint32_t monoid, uint32_t op, const uint32_t *a, ostrubel_size a_len, const uint32_t *b,
+                                ostrubel_size b_len, const uint32_t *mask, ostrubel_size mask_len, uint32_t *c,
+                                ostrubel_size c_len, uint32_t *work, ostrubel_size work_len);
 
 uint64_t ostrubel_vxm_by_places(uint32_t flags, uint32_t has_mask, uint32_t has_accumulator, uint32_t accumulator,
-                                uint32_t monoid, uint32_t op, const uint32_t *u, size_t u_len, const uint32_t *a,
-                                size_t a_len, const uint32_t *mask, size_t mask_len, uint32_t *c, size_t c_len,
-                                uint32_t *work, size_t work_len);
+                                uint32_t monoid, uint32_t op, const uint32_t *u, ostrubel_size u_len, const uint32_t *a,
+                                ostrubel_size a_len, const uint32_t *mask, ostrubel_size mask_len, uint32_t *c,
+                                ostrubel_size c_len, uint32_t *work, ostrubel_size work_len);
 
 /* Where both A and B have an entry: op of the two. */
 uint64_t ostrubel_ewise_mult(uint32_t flags, uint32_t has_mask, uint32_t has_accumulator, uint32_t accumulator,
-                             uint32_t op, const uint32_t *a, size_t a_len, const uint32_t *b, size_t b_len,
-                             const uint32_t *mask, size_t mask_len, uint32_t *c, size_t c_len, uint32_t *work,
-                             size_t work_len);
+                             uint32_t op, const uint32_t *a, ostrubel_size a_len, const uint32_t *b,
+                             ostrubel_size b_len, const uint32_t *mask, ostrubel_size mask_len, uint32_t *c,
+                             ostrubel_size c_len, uint32_t *work, ostrubel_size work_len);
 
 /* Where both A and B have an entry: op of the two; where one has: its value. */
 uint64_t ostrubel_ewise_add(uint32_t flags, uint32_t has_mask, uint32_t has_accumulator, uint32_t accumulator,
-                            uint32_t op, const uint32_t *a, size_t a_len, const uint32_t *b, size_t b_len,
-                            const uint32_t *mask, size_t mask_len, uint32_t *c, size_t c_len, uint32_t *work,
-                            size_t work_len);
+                            uint32_t op, const uint32_t *a, ostrubel_size a_len, const uint32_t *b, ostrubel_size b_len,
+                            const uint32_t *mask, ostrubel_size mask_len, uint32_t *c, ostrubel_size c_len,
+                            uint32_t *work, ostrubel_size work_len);
 
 /* An operator of a kind, with a scalar, on every entry of A. */
 uint64_t ostrubel_apply(uint32_t flags, uint32_t has_mask, uint32_t has_accumulator, uint32_t accumulator,
-                        uint32_t kind, uint32_t op, uint32_t scalar, const uint32_t *a, size_t a_len,
-                        const uint32_t *mask, size_t mask_len, uint32_t *c, size_t c_len, uint32_t *work,
-                        size_t work_len);
+                        uint32_t kind, uint32_t op, uint32_t scalar, const uint32_t *a, ostrubel_size a_len,
+                        const uint32_t *mask, ostrubel_size mask_len, uint32_t *c, ostrubel_size c_len, uint32_t *work,
+                        ostrubel_size work_len);
 
 /* At (i, j) the cell of A at row is[i] and column js[j]. The lists have no count in front. No index may occur twice in
    one list; the same index in both is fine. */
 uint64_t ostrubel_extract(uint32_t flags, uint32_t has_mask, uint32_t has_accumulator, uint32_t accumulator,
-                          const uint32_t *a, size_t a_len, const uint32_t *is, size_t is_len, const uint32_t *js,
-                          size_t js_len, const uint32_t *mask, size_t mask_len, uint32_t *c, size_t c_len,
-                          uint32_t *work, size_t work_len);
+                          const uint32_t *a, ostrubel_size a_len, const uint32_t *is, ostrubel_size is_len,
+                          const uint32_t *js, ostrubel_size js_len, const uint32_t *mask, ostrubel_size mask_len,
+                          uint32_t *c, ostrubel_size c_len, uint32_t *work, ostrubel_size work_len);
 
 /* The entries of A for which a condition with a scalar holds, as they are. */
-uint64_t ostrubel_select(uint32_t flags, uint32_t has_mask, uint32_t has_accumulator, uint32_t accumulator,
-                         uint32_t op, uint32_t scalar, const uint32_t *a, size_t a_len, const uint32_t *mask,
-                         size_t mask_len, uint32_t *c, size_t c_len, uint32_t *work, size_t work_len);
+uint64_t ostrubel_select(uint32_t flags, uint32_t has_mask, uint32_t has_accumulator, uint32_t accumulator, uint32_t op,
+                         uint32_t scalar, const uint32_t *a, ostrubel_size a_len, const uint32_t *mask,
+                         ostrubel_size mask_len, uint32_t *c, ostrubel_size c_len, uint32_t *work,
+                         ostrubel_size work_len);
 
 /* In one row, at column j, the values of A's row j added up with the monoid; nothing where that row has no entries. C and
    the mask have one row, and a column for each row of A (as transposed). */
 uint64_t ostrubel_reduce_rows(uint32_t flags, uint32_t has_mask, uint32_t has_accumulator, uint32_t accumulator,
-                              uint32_t monoid, const uint32_t *a, size_t a_len, const uint32_t *mask, size_t mask_len,
-                              uint32_t *c, size_t c_len, uint32_t *work, size_t work_len);
+                              uint32_t monoid, const uint32_t *a, ostrubel_size a_len, const uint32_t *mask,
+                              ostrubel_size mask_len, uint32_t *c, ostrubel_size c_len, uint32_t *work,
+                              ostrubel_size work_len);
 
 /* A written into C: at row is[k] and column js[l] the cell of A at row k and column l, empty ones too; with an accumulator
    the union of C's and A's. The other cells of C stay, as far as the mask lets them, which has C's shape. A (as transposed)
    has as many rows and columns as the lists have indexes; these are held against C, and none may occur twice in one list. */
 uint64_t ostrubel_assign(uint32_t flags, uint32_t has_mask, uint32_t has_accumulator, uint32_t accumulator,
-                         const uint32_t *a, size_t a_len, const uint32_t *is, size_t is_len, const uint32_t *js,
-                         size_t js_len, const uint32_t *mask, size_t mask_len, uint32_t *c, size_t c_len,
-                         uint32_t *work, size_t work_len);
+                         const uint32_t *a, ostrubel_size a_len, const uint32_t *is, ostrubel_size is_len, const uint32_t *js,
+                         ostrubel_size js_len, const uint32_t *mask, ostrubel_size mask_len, uint32_t *c, ostrubel_size c_len,
+                         uint32_t *work, ostrubel_size work_len);
 
 /* The Kronecker product: at (i p + k, j q + l) op of A's value at (i, j) and B's at (k, l), where B (as transposed) has p
    rows and q columns. Refused by 8 where it would have more than 1,000 rows or columns. */
 uint64_t ostrubel_kronecker(uint32_t flags, uint32_t has_mask, uint32_t has_accumulator, uint32_t accumulator,
-                            uint32_t op, const uint32_t *a, size_t a_len, const uint32_t *b, size_t b_len,
-                            const uint32_t *mask, size_t mask_len, uint32_t *c, size_t c_len, uint32_t *work,
-                            size_t work_len);
+                            uint32_t op, const uint32_t *a, ostrubel_size a_len, const uint32_t *b, ostrubel_size b_len,
+                            const uint32_t *mask, ostrubel_size mask_len, uint32_t *c, ostrubel_size c_len, uint32_t *work,
+                            ostrubel_size work_len);
 
 /* ---- Matrices in the slots of a store ---- */
 
 /* An empty matrix in a slot, whatever was there. Refused by 12, 8, 11. */
-uint64_t ostrubel_store_new_empty(size_t slot, uint32_t rows, uint32_t cols, uint32_t *store, size_t store_len);
+uint64_t ostrubel_store_new_empty(ostrubel_size slot, uint32_t rows, uint32_t cols, uint32_t *store,
+                                  ostrubel_size store_len);
 
 /* A slot becomes empty; its words serve others. Answers 0 entries. Refused by 12. */
-uint64_t ostrubel_store_drop(size_t slot, uint32_t *store, size_t store_len);
+uint64_t ostrubel_store_drop(ostrubel_size slot, uint32_t *store, ostrubel_size store_len);
 
 /* The cell at row i and column j takes a value. Answers the matrix's entries. Refused by 12, 13, 7, 10, 11. */
-uint64_t ostrubel_store_set_cell(size_t slot, uint32_t i, uint32_t j, uint32_t value, uint32_t *store,
-                                 size_t store_len);
+uint64_t ostrubel_store_set_cell(ostrubel_size slot, uint32_t i, uint32_t j, uint32_t value, uint32_t *store,
+                                 ostrubel_size store_len);
 
 /* The cell becomes absent, or stays so. Answers the matrix's entries. Refused by 12, 13, 7. */
-uint64_t ostrubel_store_clear_cell(size_t slot, uint32_t i, uint32_t j, uint32_t *store, size_t store_len);
+uint64_t ostrubel_store_clear_cell(ostrubel_size slot, uint32_t i, uint32_t j, uint32_t *store,
+                                   ostrubel_size store_len);
 
 /* The cell at row i and column j, and its position. Refused by 12, 13, 7. */
-uint64_t ostrubel_store_read_cell(size_t slot, uint32_t i, uint32_t j, const uint32_t *store, size_t store_len);
+uint64_t ostrubel_store_read_cell(ostrubel_size slot, uint32_t i, uint32_t j, const uint32_t *store,
+                                  ostrubel_size store_len);
 
 /* All values of a slot's matrix added up with a monoid, as by ostrubel_reduce. Refused by 12, 2, 13. */
-uint64_t ostrubel_store_reduce(size_t slot, uint32_t monoid, const uint32_t *store, size_t store_len);
+uint64_t ostrubel_store_reduce(ostrubel_size slot, uint32_t monoid, const uint32_t *store, ostrubel_size store_len);
 
 /*
  * The operations by slots, with options, operators and workspace as above. One slot may have several roles: all are
@@ -308,46 +325,49 @@ uint64_t ostrubel_store_reduce(size_t slot, uint32_t monoid, const uint32_t *sto
  */
 
 uint64_t ostrubel_store_mxm(uint32_t flags, uint32_t has_mask, uint32_t has_accumulator, uint32_t accumulator,
-                            uint32_t monoid, uint32_t op, size_t a, size_t b, size_t mask, size_t c, uint32_t *store,
-                            size_t store_len, uint32_t *work, size_t work_len);
+                            uint32_t monoid, uint32_t op, ostrubel_size a, ostrubel_size b, ostrubel_size mask,
+                            ostrubel_size c, uint32_t *store, ostrubel_size store_len, uint32_t *work,
+                            ostrubel_size work_len);
 
 uint64_t ostrubel_store_vxm(uint32_t flags, uint32_t has_mask, uint32_t has_accumulator, uint32_t accumulator,
-                            uint32_t monoid, uint32_t op, size_t u, size_t a, size_t mask, size_t c, uint32_t *store,
-                            size_t store_len, uint32_t *work, size_t work_len);
+                            uint32_t monoid, uint32_t op, ostrubel_size u, ostrubel_size a, ostrubel_size mask,
+                            ostrubel_size c, uint32_t *store, ostrubel_size store_len, uint32_t *work,
+                            ostrubel_size work_len);
 
 uint64_t ostrubel_store_ewise_mult(uint32_t flags, uint32_t has_mask, uint32_t has_accumulator, uint32_t accumulator,
-                                   uint32_t op, size_t a, size_t b, size_t mask, size_t c, uint32_t *store,
-                                   size_t store_len, uint32_t *work, size_t work_len);
+                                   uint32_t op, ostrubel_size a, ostrubel_size b, ostrubel_size mask, ostrubel_size c,
+                                   uint32_t *store, ostrubel_size store_len, uint32_t *work, ostrubel_size work_len);
 
 uint64_t ostrubel_store_ewise_add(uint32_t flags, uint32_t has_mask, uint32_t has_accumulator, uint32_t accumulator,
-                                  uint32_t op, size_t a, size_t b, size_t mask, size_t c, uint32_t *store,
-                                  size_t store_len, uint32_t *work, size_t work_len);
+                                  uint32_t op, ostrubel_size a, ostrubel_size b, ostrubel_size mask, ostrubel_size c,
+                                  uint32_t *store, ostrubel_size store_len, uint32_t *work, ostrubel_size work_len);
 
 uint64_t ostrubel_store_apply(uint32_t flags, uint32_t has_mask, uint32_t has_accumulator, uint32_t accumulator,
-                              uint32_t kind, uint32_t op, uint32_t scalar, size_t a, size_t mask, size_t c,
-                              uint32_t *store, size_t store_len, uint32_t *work, size_t work_len);
+                              uint32_t kind, uint32_t op, uint32_t scalar, ostrubel_size a, ostrubel_size mask,
+                              ostrubel_size c, uint32_t *store, ostrubel_size store_len, uint32_t *work,
+                              ostrubel_size work_len);
 
 uint64_t ostrubel_store_extract(uint32_t flags, uint32_t has_mask, uint32_t has_accumulator, uint32_t accumulator,
-                                size_t a, size_t mask, size_t c, uint32_t *store, size_t store_len,
-                                const uint32_t *is, size_t is_len, const uint32_t *js, size_t js_len, uint32_t *work,
-                                size_t work_len);
+                                ostrubel_size a, ostrubel_size mask, ostrubel_size c, uint32_t *store,
+                                ostrubel_size store_len, const uint32_t *is, ostrubel_size is_len, const uint32_t *js,
+                                ostrubel_size js_len, uint32_t *work, ostrubel_size work_len);
 
 uint64_t ostrubel_store_select(uint32_t flags, uint32_t has_mask, uint32_t has_accumulator, uint32_t accumulator,
-                               uint32_t op, uint32_t scalar, size_t a, size_t mask, size_t c, uint32_t *store,
-                               size_t store_len, uint32_t *work, size_t work_len);
+                               uint32_t op, uint32_t scalar, ostrubel_size a, ostrubel_size mask, ostrubel_size c,
+                               uint32_t *store, ostrubel_size store_len, uint32_t *work, ostrubel_size work_len);
 
-uint64_t ostrubel_store_reduce_rows(uint32_t flags, uint32_t has_mask, uint32_t has_accumulator,
-                                    uint32_t accumulator, uint32_t monoid, size_t a, size_t mask, size_t c,
-                                    uint32_t *store, size_t store_len, uint32_t *work, size_t work_len);
+uint64_t ostrubel_store_reduce_rows(uint32_t flags, uint32_t has_mask, uint32_t has_accumulator, uint32_t accumulator,
+                                    uint32_t monoid, ostrubel_size a, ostrubel_size mask, ostrubel_size c,
+                                    uint32_t *store, ostrubel_size store_len, uint32_t *work, ostrubel_size work_len);
 
 uint64_t ostrubel_store_assign(uint32_t flags, uint32_t has_mask, uint32_t has_accumulator, uint32_t accumulator,
-                               size_t a, size_t mask, size_t c, uint32_t *store, size_t store_len,
-                               const uint32_t *is, size_t is_len, const uint32_t *js, size_t js_len, uint32_t *work,
-                               size_t work_len);
+                               ostrubel_size a, ostrubel_size mask, ostrubel_size c, uint32_t *store, ostrubel_size store_len,
+                               const uint32_t *is, ostrubel_size is_len, const uint32_t *js, ostrubel_size js_len, uint32_t *work,
+                               ostrubel_size work_len);
 
 uint64_t ostrubel_store_kronecker(uint32_t flags, uint32_t has_mask, uint32_t has_accumulator, uint32_t accumulator,
-                                  uint32_t op, size_t a, size_t b, size_t mask, size_t c, uint32_t *store,
-                                  size_t store_len, uint32_t *work, size_t work_len);
+                                  uint32_t op, ostrubel_size a, ostrubel_size b, ostrubel_size mask, ostrubel_size c, uint32_t *store,
+                                  ostrubel_size store_len, uint32_t *work, ostrubel_size work_len);
 
 /* ---- Files and texts: bytes that the caller owns, passed as a pointer and their number ---- */
 
@@ -357,17 +377,17 @@ uint64_t ostrubel_store_kronecker(uint32_t flags, uint32_t has_mask, uint32_t ha
  */
 
 /* The matrix of a file at the front of the words. Answers its entries. Refused by 15, 11. */
-uint64_t ostrubel_read_file(const uint8_t *bytes, size_t bytes_len, uint32_t *words, size_t words_len);
+uint64_t ostrubel_read_file(const uint8_t *bytes, ostrubel_size bytes_len, uint32_t *words, ostrubel_size words_len);
 
 /* The file of a matrix at the front of the bytes; the matrix's spare words are not written. Refused by 3, 11. */
-uint64_t ostrubel_write_file(const uint32_t *words, size_t words_len, uint8_t *bytes, size_t bytes_len);
+uint64_t ostrubel_write_file(const uint32_t *words, ostrubel_size words_len, uint8_t *bytes, ostrubel_size bytes_len);
 
 /*
  * The matrix as text at the front of the bytes: a line "R C N", then a line "row column value" for each entry, row by row
  * and from left to right, in signed decimals, each line ended by a newline byte. Answers how many bytes were written; take
  * it by ostrubel_text_length. Refused by 3, and by 11 where there are fewer than OSTRUBEL_MAX_TEXT_BYTES bytes.
  */
-uint64_t ostrubel_write_text(const uint32_t *words, size_t words_len, uint8_t *bytes, size_t bytes_len);
+uint64_t ostrubel_write_text(const uint32_t *words, ostrubel_size words_len, uint8_t *bytes, ostrubel_size bytes_len);
 
 /* ---- Keys behind doors ---- */
 
@@ -379,14 +399,60 @@ uint64_t ostrubel_write_text(const uint32_t *words, size_t words_len, uint8_t *b
  *   cabinets   doors by keys: the key is behind the door
  *   hand       1 by keys: the keys in hand
  *   out        2 times the doors that open and 8 words are needed
- *   work       at least 15,309 words, any words; all zeros after the call
+ *   work       at least 15,315 words, any words; all zeros after the call
  * In round 0 the keys in hand open doors; in each later round those, and the keys behind doors that were open in the
  * round before. The answer's entries are the doors. Refused by 3 (locks), 4 (cabinets), 5 (hand), 7 (an allowance above
  * 1,000), 8, 9, 11.
  */
-uint64_t ostrubel_open_doors(uint32_t allowance, const uint32_t *locks, size_t locks_len, const uint32_t *cabinets,
-                             size_t cabinets_len, const uint32_t *hand, size_t hand_len, uint32_t *out,
-                             size_t out_len, uint32_t *work, size_t work_len);
+uint64_t ostrubel_open_doors(uint32_t allowance, const uint32_t *locks, ostrubel_size locks_len,
+                             const uint32_t *cabinets, ostrubel_size cabinets_len, const uint32_t *hand,
+                             ostrubel_size hand_len, uint32_t *out, ostrubel_size out_len, uint32_t *work,
+                             ostrubel_size work_len);
+
+/* ---- A day matrix over a base matrix ---- */
+
+/*
+ * During a day whole rows are rewritten. They are kept in a day matrix beside the base matrix, both of one shape R by C,
+ * with marks, a 1 by R matrix whose entries, whatever their value, mark the rewritten rows. A row is shown from the day
+ * matrix where it is marked, even if it is empty there, otherwise from the base matrix. None of these calls has a
+ * workspace, and both matrices that a call writes are looked at before either is written.
+ */
+
+/*
+ * Row i of the day matrix becomes the row of the 1 by C matrix row, and is marked with 1. The answer's entries are the day
+ * matrix's. The day matrix and the marks must fit their buffers afterwards. Refused by 4 (day), 5 (marks), 6 (row), 7 (no
+ * row i in the day matrix), 8, 10, 11.
+ */
+uint64_t ostrubel_day_rewrite(uint32_t i, const uint32_t *row, ostrubel_size row_len, uint32_t *day, ostrubel_size day_len,
+                              uint32_t *marks, ostrubel_size marks_len);
+
+/*
+ * A rewrite is taken back: row i of the day matrix becomes empty, marked or not, and its mark goes, if there is one. The
+ * answer's entries are the day matrix's. Refused by 4 (day), 5 (marks), 7 (no row i in the day matrix), 8.
+ */
+uint64_t ostrubel_day_back(uint32_t i, uint32_t *day, ostrubel_size day_len, uint32_t *marks, ostrubel_size marks_len);
+
+/*
+ * The cell at row i and column j as it is shown. Take the answer apart as that of ostrubel_read_cell; the position is
+ * counted in the matrix that the row is shown from. Refused by 3 (base), 4 (day), 5 (marks), 7 (past the base matrix), 8.
+ */
+uint64_t ostrubel_day_read(uint32_t i, uint32_t j, const uint32_t *base, ostrubel_size base_len, const uint32_t *day,
+                           ostrubel_size day_len, const uint32_t *marks, ostrubel_size marks_len);
+
+/*
+ * A new matrix at the front of out, whatever was there, with all rows as they are shown. Refused by 3 (base), 4 (day), 5
+ * (marks), 8, 10, 11.
+ */
+uint64_t ostrubel_day_fold(const uint32_t *base, ostrubel_size base_len, const uint32_t *day, ostrubel_size day_len,
+                           const uint32_t *marks, ostrubel_size marks_len, uint32_t *out, ostrubel_size out_len);
+
+/*
+ * Where row i lies as it is shown: as ostrubel_row_view, with the day matrix as the second. values: 0 for the row's
+ * column numbers, else for its values. Where a matrix is not valid, the shapes differ or there is no row i, the answer is
+ * 0: no words.
+ */
+uint64_t ostrubel_day_show(uint32_t i, uint32_t values, const uint32_t *base, ostrubel_size base_len, const uint32_t *day,
+                           ostrubel_size day_len, const uint32_t *marks, ostrubel_size marks_len);
 
 #ifdef __cplusplus
 }

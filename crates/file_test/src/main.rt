@@ -10,49 +10,61 @@ fn main() {
     largest();
 }
 
-// Document 01's strip: 14 words, 56 bytes.
+// Document 01's strip: 16 words, 64 bytes; 14 words, 56 bytes in the old form.
 fn strip() {
-    let words: [u32; 16] = [2, 1, 4, 2, 0, 3, 3, 0, 1, 3, 3, 10, 20, 40, 7, 8];
-    let mut bytes = [9u8; 64];
+    let words: [u32; 18] = [1, 5, 2, 1, 4, 2, 0, 3, 3, 0, 1, 3, 3, 10, 20, 40, 7, 8];
+    let mut bytes = [9u8; 72];
     test_support::heading(b"strip");
     writes(&words, &mut bytes);
-    let mut held = [5u32; 16];
+    let mut held = [5u32; 18];
     refused_reads(&bytes, &mut held);
     reads(&bytes, &mut held);
+    old_reads(&bytes[8..], &mut held);
     texts(&held);
 }
 
 fn writes(words: &[u32], bytes: &mut [u8]) {
-    write(words, 13, bytes, 0);
-    write(words, 16, bytes, 55);
-    write(words, 16, bytes, 64);
+    write(words, 15, bytes, 0);
+    write(words, 18, bytes, 63);
+    write(words, 18, bytes, 72);
     show_byte(&bytes[..], 0);
-    show_byte(&bytes[..], 44);
-    show_byte(&bytes[..], 55);
-    show_byte(&bytes[..], 56);
+    show_byte(&bytes[..], 4);
+    show_byte(&bytes[..], 52);
+    show_byte(&bytes[..], 63);
+    show_byte(&bytes[..], 64);
 }
 
 fn refused_reads(bytes: &[u8], held: &mut [u32]) {
     read(bytes, 0, held, 0);
-    read(bytes, 3, held, 16);
-    read(bytes, 52, held, 16);
-    read(bytes, 55, held, 16);
-    read(bytes, 57, held, 16);
+    read(bytes, 3, held, 18);
+    read(bytes, 60, held, 18);
+    read(bytes, 63, held, 18);
+    read(bytes, 65, held, 18);
 }
 
 fn reads(bytes: &[u8], held: &mut [u32]) {
-    read(bytes, 60, held, 16);
-    read(bytes, 56, held, 13);
+    read(bytes, 68, held, 18);
+    read(bytes, 64, held, 15);
+    test_support::show(b"untouched", &held[..]);
+    read(bytes, 64, held, 18);
+    test_support::show(b"read", &held[..]);
+}
+
+// The same file in the old form, with no revision: read, it has the revision 0 and takes two words more.
+fn old_reads(bytes: &[u8], held: &mut [u32]) {
+    read(bytes, 52, held, 18);
+    read(bytes, 57, held, 18);
+    read(bytes, 56, held, 15);
     test_support::show(b"untouched", &held[..]);
     read(bytes, 56, held, 16);
-    test_support::show(b"read", &held[..]);
+    test_support::show(b"read, old form", &held[..]);
 }
 
 fn texts(held: &[u32]) {
     let mut out = [0u8; MAX_TEXT_BYTES];
-    print_text(held, 16, &mut out, MAX_TEXT_BYTES);
-    print_text(held, 16, &mut out, MAX_TEXT_BYTES - 1);
-    print_text(held, 13, &mut out, 0);
+    print_text(held, 18, &mut out, MAX_TEXT_BYTES);
+    print_text(held, 18, &mut out, MAX_TEXT_BYTES - 1);
+    print_text(held, 15, &mut out, 0);
 }
 
 // 1,000 by 1,000 with 2,048 entries, all in rows and columns of three digits, all values the smallest: the largest file
@@ -61,9 +73,9 @@ fn largest() {
     let mut words = [0u32; MAX_MATRIX_WORDS];
     test_support::heading(b"largest");
     test_support::build(&mut words, 1000, 1000, 2048, 4);
-    add(&mut words, 1006, 2048, 100);
-    test_support::put_run(&mut words, 3055, 2048, 0, 1);
-    add(&mut words, 3055, 2048, 2147483648);
+    add(&mut words, 1008, 2048, 100);
+    test_support::put_run(&mut words, 3057, 2048, 0, 1);
+    add(&mut words, 3057, 2048, 2147483648);
     let mut bytes = [0u8; MAX_FILE_BYTES + 4];
     write(&words, MAX_MATRIX_WORDS, &mut bytes, MAX_FILE_BYTES - 1);
     write(&words, MAX_MATRIX_WORDS, &mut bytes, MAX_FILE_BYTES);

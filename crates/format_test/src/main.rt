@@ -13,95 +13,103 @@ fn main() {
 
 // Document 01's strip, whole, with two spare words; then damage, a word at a time, and a careless sum's wrapping.
 fn strip() {
-    let mut words: [u32; 16] = [2, 1, 4, 2, 0, 3, 3, 0, 1, 3, 3, 10, 20, 40, 7, 8];
+    let mut words: [u32; 18] = [1, 0, 2, 1, 4, 2, 0, 3, 3, 0, 1, 3, 3, 10, 20, 40, 7, 8];
     test_support::heading(b"strip");
-    prefixes(&words, &[16, 14, 13, 0]);
+    prefixes(&words, &[18, 16, 15, 0]);
     reads(&words, &[0, 0, 0, 1, 0, 2, 0, 3, 0, 4, 1, 0]);
-    reads(&words[..13], &[0, 0, 9, 9]);
+    reads(&words[..15], &[0, 0, 9, 9]);
     damage(
         &mut words,
         &[
             // the counts of the sections
             0,
-            1,
             0,
-            3,
-            3,
+            0,
+            2,
+            2,
             1,
-            3,
-            3,
-            6,
             2,
-            6,
+            3,
+            5,
+            1,
+            5,
+            3,
+            8,
+            2,
+            8,
             4,
-            10,
+            12,
             2,
-            10,
+            12,
             4,
             // rows and columns
-            1,
+            3,
             0,
-            1,
-            2,
-            1,
-            1001,
-            2,
-            0,
-            2,
             3,
             2,
+            3,
+            1001,
+            4,
+            0,
+            4,
+            3,
+            4,
             1000,
-            2,
+            4,
             1001,
             // the last start, a column twice, columns that fall, a column past the end
-            5,
-            2,
-            5,
-            4,
-            8,
-            0,
             7,
             2,
-            9,
+            7,
             4,
-            // a value and a spare word are free
-            12,
+            10,
+            0,
+            9,
+            2,
+            11,
+            4,
+            // the revision, a value and a spare word are free
+            1,
+            5,
+            1,
             4294967295,
             14,
             4294967295,
+            16,
+            4294967295,
         ],
     );
-    words[1] = 4294967295;
-    damage(&mut words, &[3, 0]);
+    words[3] = 4294967295;
+    damage(&mut words, &[5, 0]);
 }
 
 // A 2 by 3 matrix: 1 at (0, 2), a stored zero at (1, 0), -5 at (1, 2).
 fn two_rows() {
-    let mut words: [u32; 15] = [2, 2, 3, 3, 0, 1, 3, 3, 2, 0, 2, 3, 1, 0, 4294967291];
+    let mut words: [u32; 17] = [1, 0, 2, 2, 3, 3, 0, 1, 3, 3, 2, 0, 2, 3, 1, 0, 4294967291];
     test_support::heading(b"two rows");
     test_support::print_word(b"-5 is stored as", twos_complement::from_signed(-5));
-    prefixes(&words, &[15, 14]);
+    prefixes(&words, &[17, 16]);
     reads(&words, &[0, 0, 0, 1, 0, 2, 1, 0, 1, 1, 1, 2]);
     // starts that begin above 0, fall, end below and above N, and leave rows whose columns do not rise
-    damage(&mut words, &[4, 1, 5, 4, 6, 2, 6, 4, 5, 0, 5, 3]);
+    damage(&mut words, &[6, 1, 7, 4, 8, 2, 8, 4, 7, 0, 7, 3]);
     // counts and starts near the ends of the range
     damage(
         &mut words,
         &[
-            7,
+            9,
             2049,
-            7,
+            9,
             2147483648,
+            9,
+            4294967295,
+            13,
+            4294967295,
             7,
-            4294967295,
-            11,
-            4294967295,
-            5,
             4294967295,
         ],
     );
-    words[7] = 2147483648;
-    damage(&mut words, &[6, 2147483648]);
+    words[9] = 2147483648;
+    damage(&mut words, &[8, 2147483648]);
 }
 
 // 1,000 rows and columns with 2,048 entries, and one more of each.
@@ -110,7 +118,7 @@ fn largest() {
     let words: &mut [u32] = &mut space;
     test_support::heading(b"1000 by 1000 with 2048 entries");
     test_support::build(words, 1000, 1000, 2048, 4);
-    prefixes(words, &[5200, 5103, 5102]);
+    prefixes(words, &[5200, 5105, 5104]);
     reads(words, &[999, 3, 999, 4, 1000, 0, 0, 1000]);
     test_support::heading(b"1001 by 1000");
     test_support::build(words, 1001, 1000, 2048, 4);
@@ -125,33 +133,33 @@ fn largest() {
 
 // Empty matrices over words that are all 9: length, rows, columns.
 fn empty() {
-    let mut space = [9u32; 1008];
+    let mut space = [9u32; 1010];
     let buffer: &mut [u32] = &mut space;
     test_support::heading(b"empty");
-    creates(buffer, &[1008, 1000, 1000]);
-    prefixes(buffer, &[1008, 1007, 1006]);
+    creates(buffer, &[1010, 1000, 1000]);
+    prefixes(buffer, &[1010, 1009, 1008]);
     reads(buffer, &[999, 999, 1000, 999]);
     creates(
         buffer,
-        &[1008, 0, 1, 1008, 1001, 1, 1008, 1, 0, 1008, 1, 1001],
+        &[1010, 0, 1, 1010, 1001, 1, 1010, 1, 0, 1010, 1, 1001],
     );
-    prefixes(buffer, &[1008]);
+    prefixes(buffer, &[1010]);
     creates(
         buffer,
         &[
-            1007,
+            1009,
             1000,
             1,
-            1006,
+            1008,
             1000,
             1,
-            1006,
+            1008,
             1001,
             1,
-            8,
+            10,
             1,
             1,
-            7,
+            9,
             1,
             1,
             0,
@@ -160,14 +168,14 @@ fn empty() {
         ],
     );
     let words = &buffer[..];
-    test_support::show(b"the first words", &words[..12]);
-    test_support::show(b"the last words", &words[1004..]);
+    test_support::show(b"the first words", &words[..14]);
+    test_support::show(b"the last words", &words[1006..]);
 }
 
 fn row_views() {
-    let first: [u32; 11] = [2, 2, 3, 3, 0, 0, 1, 1, 1, 1, 70];
-    let second: [u32; 15] = [2, 2, 3, 3, 0, 1, 3, 3, 2, 0, 2, 3, 1, 0, 4294967291];
-    let wide: [u32; 9] = [2, 2, 4, 3, 0, 0, 0, 0, 0];
+    let first: [u32; 13] = [1, 0, 2, 2, 3, 3, 0, 0, 1, 1, 1, 1, 70];
+    let second: [u32; 17] = [1, 0, 2, 2, 3, 3, 0, 1, 3, 3, 2, 0, 2, 3, 1, 0, 4294967291];
+    let wide: [u32; 11] = [1, 0, 2, 2, 4, 3, 0, 0, 0, 0, 0];
     test_support::heading(b"row views: first, then second");
     views(&first, &second);
     test_support::heading(b"second, then first");
@@ -177,9 +185,9 @@ fn row_views() {
     test_support::heading(b"other shapes");
     views(&second, &wide);
     test_support::heading(b"the first damaged");
-    views(&first[..10], &second);
+    views(&first[..12], &second);
     test_support::heading(b"the second damaged");
-    views(&first, &second[..14]);
+    views(&first, &second[..16]);
 }
 
 // Checks the first words of each of the lengths.

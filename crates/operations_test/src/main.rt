@@ -12,10 +12,10 @@ use operation_runs::plain;
 use operation_runs::vxm;
 
 // One word more than a call needs.
-type Workspace = [u32; 15310];
+type Workspace = [u32; 15316];
 
 fn main() {
-    let mut work: Workspace = [7; 15310];
+    let mut work: Workspace = [7; 15316];
     matrix_product(&mut work);
     vector_products(&mut work);
     reductions(&mut work);
@@ -29,9 +29,9 @@ fn main() {
 
 // MIN with PLUS, scaled by 4: 5.5 at (2, 1) is 22.
 fn matrix_product(work: &mut Workspace) {
-    let mut a = [0u32; 21];
-    let mut b = [0u32; 27];
-    let mut c = [9u32; 30];
+    let mut a = [0u32; 23];
+    let mut b = [0u32; 29];
+    let mut c = [9u32; 32];
     let starts: &[u32] = &[0, 2, 4, 5, 5];
     let columns: &[u32] = &[1, 2, 2, 3, 3];
     test_support::store(&mut a, 4, 4, starts, columns, &[8, 20, 6, 17, 2]);
@@ -46,10 +46,10 @@ fn matrix_product(work: &mut Workspace) {
 
 // A matrix times a vector with PLUS and TIMES, the matrix scaled by 4: the vector times its transpose. PLUS with PLUS.
 fn vector_products(work: &mut Workspace) {
-    let v: &[u32] = &[2, 1, 4, 2, 0, 3, 3, 0, 1, 3, 3, 10, 20, 40];
-    let mut a = [0u32; 21];
-    let mut b = [0u32; 27];
-    let mut c = [9u32; 16];
+    let v: &[u32] = &[1, 0, 2, 1, 4, 2, 0, 3, 3, 0, 1, 3, 3, 10, 20, 40];
+    let mut a = [0u32; 23];
+    let mut b = [0u32; 29];
+    let mut c = [9u32; 18];
     let starts: &[u32] = &[0, 2, 4, 5, 5];
     let columns: &[u32] = &[1, 2, 2, 3, 3];
     test_support::store(&mut a, 4, 4, starts, columns, &[8, 20, 6, 17, 2]);
@@ -68,11 +68,11 @@ fn vector_products(work: &mut Workspace) {
 
 // By columns with TIMES, and to one value with MAX, scaled by 2: products with a vector of ones.
 fn reductions(work: &mut Workspace) {
-    let ones: &[u32] = &[2, 1, 3, 2, 0, 3, 3, 0, 1, 2, 3, 1, 1, 1];
-    let more: &[u32] = &[2, 1, 4, 2, 0, 4, 4, 0, 1, 2, 3, 4, 1, 1, 1, 1];
-    let mut a = [0u32; 22];
-    let mut c = [9u32; 14];
-    let mut s = [9u32; 12];
+    let ones: &[u32] = &[1, 0, 2, 1, 3, 2, 0, 3, 3, 0, 1, 2, 3, 1, 1, 1];
+    let more: &[u32] = &[1, 0, 2, 1, 4, 2, 0, 4, 4, 0, 1, 2, 3, 4, 1, 1, 1, 1];
+    let mut a = [0u32; 24];
+    let mut c = [9u32; 16];
+    let mut s = [9u32; 14];
     let columns: &[u32] = &[1, 3, 0, 1, 0, 1];
     let values: &[u32] = &[4, 10, 3, 8, 1, 4294967282];
     test_support::store(&mut a, 3, 4, &[0, 2, 4, 6], columns, values);
@@ -88,9 +88,9 @@ fn reductions(work: &mut Workspace) {
 
 // MIN, scaled by 2.
 fn intersection(work: &mut Workspace) {
-    let mut a = [0u32; 20];
-    let mut b = [0u32; 22];
-    let mut c = [9u32; 28];
+    let mut a = [0u32; 22];
+    let mut b = [0u32; 24];
+    let mut c = [9u32; 30];
     let columns: &[u32] = &[1, 2, 0, 2, 1];
     let values: &[u32] = &[4, 10, 3, 8, 1];
     test_support::store(&mut a, 3, 3, &[0, 2, 4, 5], columns, values);
@@ -104,9 +104,9 @@ fn intersection(work: &mut Workspace) {
 
 // MINUS, scaled by 2: a value on one side alone stays as it is.
 fn union(work: &mut Workspace) {
-    let mut a = [0u32; 20];
-    let mut b = [0u32; 22];
-    let mut c = [9u32; 28];
+    let mut a = [0u32; 22];
+    let mut b = [0u32; 24];
+    let mut c = [9u32; 30];
     let columns: &[u32] = &[0, 1, 2, 0, 2];
     let values: &[u32] = &[18, 4, 10, 3, 8];
     test_support::store(&mut a, 3, 3, &[0, 3, 5, 5], columns, values);
@@ -122,6 +122,8 @@ fn union(work: &mut Workspace) {
 // order.
 fn extracts(work: &mut Workspace) {
     let v: &[u32] = &[
+        1,
+        0,
         2,
         1,
         7,
@@ -141,9 +143,9 @@ fn extracts(work: &mut Workspace) {
         4294967291,
         24,
     ];
-    let mut a = [0u32; 22];
-    let mut w = [9u32; 16];
-    let mut c = [9u32; 19];
+    let mut a = [0u32; 24];
+    let mut w = [9u32; 18];
+    let mut c = [9u32; 21];
     let columns: &[u32] = &[1, 2, 0, 1, 0, 2];
     let values: &[u32] = &[4, 10, 3, 8, 1, 4294967282];
     test_support::store(&mut a, 3, 3, &[0, 2, 4, 6], columns, values);
@@ -159,9 +161,9 @@ fn extracts(work: &mut Workspace) {
 
 // The four kinds: unary, on the smallest value, 0 and -5; MINUS with 15 first and second; COLINDEX.
 fn applies(work: &mut Workspace) {
-    let u: &[u32] = &[2, 1, 4, 2, 0, 3, 3, 0, 1, 3, 3, 2147483648, 0, 4294967291];
-    let v: &[u32] = &[2, 1, 4, 2, 0, 3, 3, 0, 1, 3, 3, 10, 20, 40];
-    let mut c = [9u32; 16];
+    let u: &[u32] = &[1, 0, 2, 1, 4, 2, 0, 3, 3, 0, 1, 3, 3, 2147483648, 0, 4294967291];
+    let v: &[u32] = &[1, 0, 2, 1, 4, 2, 0, 3, 3, 0, 1, 3, 3, 10, 20, 40];
+    let mut c = [9u32; 18];
     create::new_empty(&mut c, 1, 4);
     test_support::heading(b"apply");
     apply(b"unary, ainv", plain(0), 0, 1, 0, u, u, &mut c, work);
@@ -174,8 +176,8 @@ fn applies(work: &mut Workspace) {
 
 // The transpose, scaled by 2; ROWINDEX and DIAGINDEX with 100, by the row and column after transposing.
 fn transposed(work: &mut Workspace) {
-    let mut a = [0u32; 22];
-    let mut c = [9u32; 25];
+    let mut a = [0u32; 24];
+    let mut c = [9u32; 27];
     let columns: &[u32] = &[1, 3, 0, 1, 0, 2];
     let values: &[u32] = &[4, 10, 3, 8, 1, 4294967282];
     test_support::store(&mut a, 3, 4, &[0, 2, 4, 6], columns, values);
@@ -202,8 +204,8 @@ fn write_backs(work: &mut Workspace) {
 }
 
 fn write_back(label: &[u8], options: Options, work: &mut [u32]) {
-    let mut c: [u32; 17] = [2, 1, 4, 2, 0, 3, 3, 0, 1, 2, 3, 1, 2, 3, 9, 9, 9];
-    let t: [u32; 12] = [2, 1, 4, 2, 0, 2, 2, 1, 3, 2, 9, 9];
-    let mask: [u32; 14] = [2, 1, 4, 2, 0, 3, 3, 0, 1, 3, 3, 1, 0, 5];
+    let mut c: [u32; 19] = [1, 0, 2, 1, 4, 2, 0, 3, 3, 0, 1, 2, 3, 1, 2, 3, 9, 9, 9];
+    let t: [u32; 14] = [1, 0, 2, 1, 4, 2, 0, 2, 2, 1, 3, 2, 9, 9];
+    let mask: [u32; 16] = [1, 0, 2, 1, 4, 2, 0, 3, 3, 0, 1, 3, 3, 1, 0, 5];
     apply(label, options, 0, 0, 0, &t, &mask, &mut c, work);
 }

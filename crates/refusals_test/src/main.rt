@@ -8,10 +8,10 @@ use operation_runs::plain;
 use operation_runs::vxm;
 
 // One word more than a call needs.
-type Workspace = [u32; 15310];
+type Workspace = [u32; 15316];
 
 fn main() {
-    let mut work: Workspace = [7; 15310];
+    let mut work: Workspace = [7; 15316];
     early_refusals();
     late_refusals(&mut work);
     index_refusals(&mut work);
@@ -20,10 +20,10 @@ fn main() {
 
 // Everything wrong at first, the workspace too; then the lowest refusal is mended, call by call.
 fn early_refusals() {
-    let good: &[u32] = &[2, 1, 2, 2, 0, 1, 1, 0, 1, 5];
-    let wide: &[u32] = &[2, 1, 3, 2, 0, 1, 1, 2, 1, 5];
-    let bad: &[u32] = &[2, 1, 2, 2, 0, 1, 1, 2, 1, 5];
-    let mut c = [9u32; 9];
+    let good: &[u32] = &[1, 0, 2, 1, 2, 2, 0, 1, 1, 0, 1, 5];
+    let wide: &[u32] = &[1, 0, 2, 1, 3, 2, 0, 1, 1, 2, 1, 5];
+    let bad: &[u32] = &[1, 0, 2, 1, 2, 2, 0, 1, 1, 2, 1, 5];
+    let mut c = [9u32; 11];
     let mut w = [7u32; 100];
     test_support::heading(b"refusals in their order");
     ewise_add(b"flags", wrong(32), 8, bad, bad, bad, &mut c, &mut w);
@@ -40,9 +40,9 @@ fn early_refusals() {
 
 // C's buffer is one word short, and then long enough.
 fn late_refusals(work: &mut Workspace) {
-    let good: &[u32] = &[2, 1, 2, 2, 0, 1, 1, 0, 1, 5];
-    let mut short = [9u32; 9];
-    let mut c = [9u32; 10];
+    let good: &[u32] = &[1, 0, 2, 1, 2, 2, 0, 1, 1, 0, 1, 5];
+    let mut short = [9u32; 11];
+    let mut c = [9u32; 12];
     create::new_empty(&mut short, 1, 2);
     create::new_empty(&mut c, 1, 2);
     ewise_add(b"fit", masked(0), 3, good, good, good, &mut short, work);
@@ -61,8 +61,8 @@ fn wrong(flags: u32) -> Options {
 
 // 7 stands between 6 and 8, looks at A as transposed, and is given where an index stands twice in one list.
 fn index_refusals(work: &mut Workspace) {
-    let v: &[u32] = &[2, 1, 4, 2, 0, 3, 3, 0, 1, 3, 3, 10, 20, 40];
-    let mut c = [9u32; 12];
+    let v: &[u32] = &[1, 0, 2, 1, 4, 2, 0, 3, 3, 0, 1, 3, 3, 10, 20, 40];
+    let mut c = [9u32; 14];
     test_support::heading(b"indexes and shapes");
     extract(b"C, column 4", plain(0), v, &[0], &[4, 3], &mut c, work);
     create::new_empty(&mut c, 1, 1);
@@ -79,9 +79,9 @@ fn index_refusals(work: &mut Workspace) {
 
 // A vector is due in vxm, and as many rows as it has columns.
 fn shape_refusals(work: &mut Workspace) {
-    let v: &[u32] = &[2, 1, 4, 2, 0, 3, 3, 0, 1, 3, 3, 10, 20, 40];
-    let m: &[u32] = &[2, 2, 2, 3, 0, 0, 0, 0, 0];
-    let mut c = [9u32; 12];
+    let v: &[u32] = &[1, 0, 2, 1, 4, 2, 0, 3, 3, 0, 1, 3, 3, 10, 20, 40];
+    let m: &[u32] = &[1, 0, 2, 2, 2, 3, 0, 0, 0, 0, 0];
+    let mut c = [9u32; 14];
     create::new_empty(&mut c, 2, 2);
     mxm(b"mxm, two rows", plain(0), 3, 5, m, m, &mut c, work);
     vxm(b"vxm, two rows", plain(0), 3, 5, m, m, &mut c, work);

@@ -59,12 +59,13 @@ fn row_plan(entries: u32, first: u32, step: u32) -> RowPlan {
 // The words of the matrix: six rows.
 fn build(words: &mut [u32]) {
     let n = 406 + MAX_COLS;
-    test_support::put(words, 0, 2);
-    test_support::put(words, 1, 6);
-    test_support::put(words, 2, MAX_COLS);
-    test_support::put(words, 3, 7);
-    test_support::put(words, 11, n);
-    test_support::put(words, 12 + n as usize, n);
+    test_support::put(words, 0, 1);
+    test_support::put(words, 2, 2);
+    test_support::put(words, 3, 6);
+    test_support::put(words, 4, MAX_COLS);
+    test_support::put(words, 5, 7);
+    test_support::put(words, 13, n);
+    test_support::put(words, 14 + n as usize, n);
     let mut start: u32 = 0;
     let mut i: u32 = 0;
     while i < 6 {
@@ -76,10 +77,10 @@ fn build(words: &mut [u32]) {
 // The start of row i, its columns and its values; then the start of the next row.
 fn build_row(words: &mut [u32], i: u32, start: u32, row: RowPlan) -> u32 {
     let entries = row.entries as usize;
-    let columns_at = test_support::past(12, start as usize);
+    let columns_at = test_support::past(14, start as usize);
     let end = std::num::wrapping_add_u32(start, row.entries);
-    test_support::put(words, test_support::past(4, i as usize), start);
-    test_support::put(words, test_support::past(5, i as usize), end);
+    test_support::put(words, test_support::past(6, i as usize), start);
+    test_support::put(words, test_support::past(7, i as usize), end);
     put_steps(words, columns_at, entries, row.first, row.step);
     put_steps(
         words,
@@ -150,7 +151,7 @@ fn read(words: &[u32], i: u32, j: u32, row: RowPlan, seen: Tally) -> Tally {
 
 // How many entries the rows before row i have.
 fn row_start(words: &[u32], i: u32) -> u32 {
-    test_support::word(words, test_support::past(4, i as usize))
+    test_support::word(words, test_support::past(6, i as usize))
 }
 
 // 1 where the answer is another one.

@@ -17,8 +17,8 @@ fn main() {
 
 // Lengths that a matrix and the counts fill, and one word less.
 fn room_to_the_word() {
-    let mut exact = [0u32; 18];
-    let mut short = [0u32; 17];
+    let mut exact = [0u32; 20];
+    let mut short = [0u32; 19];
     test_support::heading(b"room to the word");
     lay(&mut exact, 3, 1, 1);
     lay(&mut short, 3, 1, 1);
@@ -32,20 +32,21 @@ fn room_to_the_word() {
 
 // Words that are no store: a count that is too large or too small, a matrix that is none, a word behind the sections.
 fn damage() {
-    let mut words = [0u32; 20];
+    let mut words = [0u32; 22];
     test_support::heading(b"damage");
     lay(&mut words, 1, 2, 1);
     set(&mut words, 1, 1, 0, 4);
     damaged(&mut words, 0, 1);
-    damaged(&mut words, 1, 10);
     damaged(&mut words, 1, 12);
+    damaged(&mut words, 1, 14);
     damaged(&mut words, 1, 4294967295);
-    damaged(&mut words, 2, 3);
-    damaged(&mut words, 19, 1);
+    damaged(&mut words, 2, 2);
+    damaged(&mut words, 4, 3);
+    damaged(&mut words, 21, 1);
 }
 
 // One word changed: every call is refused, and changes nothing. Then the word is put back.
-fn damaged(words: &mut [u32; 20], at: usize, word: u32) {
+fn damaged(words: &mut [u32; 22], at: usize, word: u32) {
     let old = test_support::word(words, at);
     test_support::put(words, at, word);
     test_support::print_pair(b"word: ", word, 0);
@@ -100,8 +101,8 @@ fn too_long() {
 
 // 2,048 entries, one more, and a value in place of another.
 fn entries_at_limit() {
-    let mut words = [0u32; 5111];
-    test_support::heading(b"2048 entries in 5111 words");
+    let mut words = [0u32; 5113];
+    test_support::heading(b"2048 entries in 5113 words");
     lay(&mut words, 1, 1000, 1000);
     fill(&mut words, 1, 2047);
     set(&mut words, 1, 999, 3, 9);

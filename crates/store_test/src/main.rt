@@ -10,10 +10,10 @@ use store_runs::read;
 use store_runs::set;
 
 // What an operation needs.
-type Workspace = [u32; 15309];
+type Workspace = [u32; 15315];
 
 fn main() {
-    let mut work: Workspace = [7; 15309];
+    let mut work: Workspace = [7; 15315];
     one_list(&mut work);
     several_roles(&mut work);
     refusals_in_order(&mut work);
@@ -154,10 +154,10 @@ fn done(label: &[u8], code: u32, entries: u32, store: &[u32], work: &[u32]) {
     }
 }
 
-// A list of calls in 40 words: cells come and go before others, slots are dropped and laid again.
+// A list of calls in 46 words: cells come and go before others, slots are dropped and laid again.
 fn one_list(work: &mut Workspace) {
-    let mut words = [0u32; 40];
-    test_support::heading(b"a list of calls in 40 words");
+    let mut words = [0u32; 46];
+    test_support::heading(b"a list of calls in 46 words");
     lay(&mut words, 2, 1, 2);
     lay(&mut words, 0, 2, 2);
     set(&mut words, 2, 0, 1, 5);
@@ -180,7 +180,7 @@ fn one_list(work: &mut Workspace) {
 
 // One slot as both inputs, mask and C: all are read before C is written.
 fn several_roles(work: &mut Workspace) {
-    let mut words = [0u32; 40];
+    let mut words = [0u32; 46];
     test_support::heading(b"one slot in every role");
     lay(&mut words, 7, 2, 2);
     set(&mut words, 7, 0, 1, 2);
@@ -194,7 +194,7 @@ fn several_roles(work: &mut Workspace) {
 
 // Several refusals apply to each call; the first of 12, 1, 2, 13, 7, 8, 9, 10, 11 is given.
 fn refusals_in_order(work: &mut Workspace) {
-    let mut words = [0u32; 27];
+    let mut words = [0u32; 31];
     test_support::heading(b"refusals in their order");
     lay(&mut words, 0, 2, 2);
     set(&mut words, 0, 0, 0, 1);
@@ -206,7 +206,7 @@ fn refusals_in_order(work: &mut Workspace) {
     extract_in(&mut words, 0, &[2], &[], 0, 9, work);
     extract_in(&mut words, 0, &[1, 0], &[1, 1], 0, 9, work);
     extract_in(&mut words, 0, &[1], &[1], 0, 9, work);
-    extract_in(&mut words, 0, &[1], &[1], 1, 15308, work);
+    extract_in(&mut words, 0, &[1], &[1], 1, 15314, work);
     extract(&mut words, 0, &[0], &[0], 1, work);
     set(&mut words, 8, 9, 9, 1);
     set(&mut words, 2, 9, 9, 1);

@@ -11,11 +11,11 @@ pub fn build(words: &mut [u32], r: u32, c: u32, n: u32, last_row: usize) {
     build_shape(words, r, c);
     let rows = r as usize;
     let entries = n as usize;
-    put(words, past(rows, 4), n);
-    put(words, past(rows, 5), n);
-    build_columns(words, past(rows, 6), entries, last_row);
-    put(words, past(past(rows, 6), entries), n);
-    put_run(words, past(past(rows, 7), entries), entries, 1, 4294967295);
+    put(words, past(rows, 6), n);
+    put(words, past(rows, 7), n);
+    build_columns(words, past(rows, 8), entries, last_row);
+    put(words, past(past(rows, 8), entries), n);
+    put_run(words, past(past(rows, 9), entries), entries, 1, 4294967295);
 }
 
 fn build_columns(words: &mut [u32], at: usize, entries: usize, last_row: usize) {
@@ -24,22 +24,20 @@ fn build_columns(words: &mut [u32], at: usize, entries: usize, last_row: usize) 
 }
 
 fn build_shape(words: &mut [u32], r: u32, c: u32) {
-    put(words, 0, 2);
-    put(words, 1, r);
-    put(words, 2, c);
-    put(words, 3, std::num::wrapping_add_u32(r, 1));
+    put_words(words, 0, &[1, 0, 2, r, c]);
+    put(words, 5, std::num::wrapping_add_u32(r, 1));
     let rows = r as usize;
-    put_run(words, 4, rows, 0, 4294967295);
+    put_run(words, 6, rows, 0, 4294967295);
     put_run(
         words,
-        std::num::wrapping_sub_usize(rows, 508),
+        std::num::wrapping_sub_usize(rows, 506),
         512,
         4,
         4294967295,
     );
 }
 
-// The words of a matrix, from its shape and its three lists.
+// The words of a matrix of revision 0, from its shape and its three lists.
 pub fn store(
     words: &mut [u32],
     rows: u32,
@@ -48,11 +46,9 @@ pub fn store(
     columns: &[u32],
     values: &[u32],
 ) {
-    put(words, 0, 2);
-    put(words, 1, rows);
-    put(words, 2, cols);
-    put_list(words, 3, starts);
-    let columns_at = past(starts.len(), 4);
+    put_words(words, 0, &[1, 0, 2, rows, cols]);
+    put_list(words, 5, starts);
+    let columns_at = past(starts.len(), 6);
     put_list(words, columns_at, columns);
     put_list(words, past(columns_at, past(columns.len(), 1)), values);
 }

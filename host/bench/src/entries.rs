@@ -1,6 +1,6 @@
 //! Matrices as lists of entries, and as words.
 
-use crate::rng::Rng;
+use second::rng::Rng;
 use std::collections::BTreeMap;
 
 /// A shape, and the values of the present cells by row and column.
@@ -69,7 +69,7 @@ impl Entries {
     /// The matrix in the library's words.
     pub fn words(&self) -> Vec<u32> {
         let count = self.cells.len() as u32;
-        let mut words = vec![2, self.rows as u32, self.cols as u32, self.rows as u32 + 1];
+        let mut words = vec![1, 0, 2, self.rows as u32, self.cols as u32, self.rows as u32 + 1];
         let mut rows = self.cells.keys().map(|position| position.0 as usize).peekable();
         let mut start = 0;
         for i in 0..=self.rows {
@@ -87,13 +87,14 @@ impl Entries {
 
     /// The matrix at the front of words that are known to be valid.
     pub fn read(words: &[u32]) -> Self {
-        let (rows, cols) = (words[1] as usize, words[2] as usize);
-        let count = words[rows + 5] as usize;
-        let columns = &words[rows + 6..rows + 6 + count];
-        let values = &words[rows + 7 + count..rows + 7 + 2 * count];
+        let (rows, cols) = (words[3] as usize, words[4] as usize);
+        let starts = &words[6..];
+        let count = starts[rows + 1] as usize;
+        let columns = &starts[rows + 2..rows + 2 + count];
+        let values = &starts[rows + 3 + count..rows + 3 + 2 * count];
         let mut entries = Entries::new(rows, cols);
         for i in 0..rows {
-            for at in words[i + 4] as usize..words[i + 5] as usize {
+            for at in starts[i] as usize..starts[i + 1] as usize {
                 entries.cells.insert((i as u32, columns[at]), values[at] as i32);
             }
         }

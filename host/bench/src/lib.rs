@@ -11,7 +11,6 @@ pub mod jobs;
 pub mod machine;
 pub mod ordinary;
 pub mod peer;
-pub mod rng;
 pub mod rounds;
 pub mod scene;
 pub mod table;

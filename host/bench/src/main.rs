@@ -4,6 +4,7 @@ use bench::cases::{all_cases, Case};
 use bench::instructions::{self, COUNTED};
 use bench::rounds::measure;
 use bench::table::{insert, report};
+use second::arguments::{self, Arguments};
 use std::fs;
 use std::process::ExitCode;
 use std::time::Duration;
@@ -18,32 +19,6 @@ their instructions by valgrind, where it is there.
   --write FILE  puts the tables between the two marks in the file
   --counted     only carries the cases out, for valgrind";
 
-struct Arguments {
-    seconds: u64,
-    only: String,
-    write: Option<String>,
-    counted: bool,
-}
-
-fn arguments() -> Result<Arguments, String> {
-    let mut arguments = Arguments { seconds: 120, only: String::new(), write: None, counted: false };
-    let mut given = std::env::args().skip(1);
-    while let Some(name) = given.next() {
-        let mut value = || given.next().ok_or(format!("{name} wants a value"));
-        match name.as_str() {
-            "--seconds" => {
-                let text = value()?;
-                arguments.seconds = text.parse().map_err(|_| format!("--seconds wants a number and not {text}"))?;
-            }
-            "--only" => arguments.only = value()?,
-            "--write" => arguments.write = Some(value()?),
-            COUNTED => arguments.counted = true,
-            _ => return Err(USAGE.to_string()),
-        }
-    }
-    Ok(arguments)
-}
-
 /// The document to be written, which has to have its marks before anything is measured.
 fn document(file: &str) -> Result<String, String> {
     let text = fs::read_to_string(file).map_err(|error| format!("{file}: {error}"))?;
@@ -51,45 +26,37 @@ fn document(file: &str) -> Result<String, String> {
     Ok(text)
 }
 
-fn run() -> Result<(), String> {
-    let Arguments { seconds, only, write, counted } = arguments()?;
+fn run(arguments: &Arguments) -> Result<(), String> {
+    let seconds = arguments.number("--seconds")?.unwrap_or(120);
+    let only = arguments.text("--only").unwrap_or_default();
+    let write = arguments.text("--write");
     if write.is_some() && !only.is_empty() {
         return Err("--write wants all cases, and so no --only".to_string());
     }
     let target = match write {
-        Some(file) => Some((document(&file)?, file)),
+        Some(file) => Some((document(file)?, file)),
         None => None,
     };
     let mut cases = all_cases()?;
-    cases.retain(|Case { call, variant, .. }| format!("{}, {variant}", call.trim_matches('`')).contains(&only));
+    cases.retain(|Case { call, variant, .. }| format!("{}, {variant}", call.trim_matches('`')).contains(only));
     if cases.is_empty() {
         return Err(format!("no case has \"{only}\" in it"));
     }
-    if counted {
+    if arguments.has(COUNTED) {
         instructions::carry_out(&mut cases);
         return Ok(());
     }
     eprintln!("The sides agree on {} cases; measuring for about {seconds} s.", cases.len());
     let measured = measure(&mut cases, Duration::from_secs(seconds));
-    let counts = instructions::count(&cases, &only);
+    let counts = instructions::count(&cases, only);
     let report = report(&cases, &measured, &counts);
     print!("{report}");
     if let Some((document, file)) = target {
-        fs::write(&file, insert(&document, &report)?).map_err(|error| format!("{file}: {error}"))?;
+        fs::write(file, insert(&document, &report)?).map_err(|error| format!("{file}: {error}"))?;
     }
     Ok(())
 }
 
 fn main() -> ExitCode {
-    if std::env::args().skip(1).any(|argument| argument == "--help") {
-        println!("{USAGE}");
-        return ExitCode::SUCCESS;
-    }
-    match run() {
-        Ok(()) => ExitCode::SUCCESS,
-        Err(text) => {
-            eprintln!("{text}");
-            ExitCode::FAILURE
-        }
-    }
+    arguments::run(USAGE, |arguments| run(arguments).map(|()| ExitCode::SUCCESS))
 }

@@ -1,8 +1,8 @@
 //! The matrices of one size, by a fixed seed.
 
 use crate::entries::{blocks, Entries};
-use crate::rng::Rng;
 use ostrubel::MAX_ENTRIES;
+use second::rng::Rng;
 
 /// The entries and the sides of the square matrices that are measured.
 #[derive(Clone, Copy, Debug, PartialEq, Eq)]

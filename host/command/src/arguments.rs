@@ -8,10 +8,42 @@ use crate::names::Whole;
 use std::ffi::{OsStr, OsString};
 use std::path::PathBuf;
 
-const WITH_VALUE: [&str; 10] =
-    ["--mask", "--accum", "--semiring", "--monoid", "--op", "--first", "--second", "--scalar", "--rows", "--cols"];
-const WITHOUT_VALUE: [&str; 6] =
-    ["--replace", "--complement", "--structural", "--transpose-a", "--transpose-b", "--position"];
+const WITH_VALUE: [&str; 17] = [
+    "--mask",
+    "--accum",
+    "--semiring",
+    "--monoid",
+    "--op",
+    "--first",
+    "--second",
+    "--scalar",
+    "--rows",
+    "--cols",
+    "--wait",
+    "--names",
+    "--svg",
+    "--html",
+    "--format",
+    "--places",
+    "--to",
+];
+const WITHOUT_VALUE: [&str; 10] = [
+    "--replace",
+    "--complement",
+    "--structural",
+    "--transpose-a",
+    "--transpose-b",
+    "--position",
+    "--json",
+    "--picture",
+    "--revision",
+    "--dry-run",
+];
+
+/// Whether a value stands behind an option.
+pub fn has_value(option: &str) -> bool {
+    WITH_VALUE.contains(&option)
+}
 
 #[derive(Debug)]
 pub struct Arguments {
@@ -19,7 +51,7 @@ pub struct Arguments {
     /// Those after FILE.
     plain: Vec<OsString>,
     /// Those that have not been taken yet. One without a value has no text.
-    options: Vec<(String, String)>,
+    options: Vec<(String, OsString)>,
 }
 
 impl Arguments {
@@ -35,7 +67,7 @@ impl Arguments {
     pub fn split_with_file(command: Command, words: &[OsString]) -> Result<(PathBuf, Arguments), Usage> {
         let mut arguments = Arguments::collect(command, words)?;
         if arguments.plain.is_empty() {
-            let name = if command == Command::Print { "SHEET" } else { "FILE" };
+            let name = command.file().unwrap_or_default();
             return Err(arguments.wrong_form(format!("{name} is missing")));
         }
         let file = PathBuf::from(arguments.plain.remove(0));
@@ -65,19 +97,19 @@ impl Arguments {
         &self,
         word: &str,
         rest: &mut impl Iterator<Item = &'a OsString>,
-    ) -> Result<(String, String), Usage> {
+    ) -> Result<(String, OsString), Usage> {
         let (name, joined) = match word.split_once('=') {
-            Some((name, value)) => (name, Some(value.to_string())),
+            Some((name, value)) => (name, Some(OsString::from(value))),
             None => (word, None),
         };
         if WITHOUT_VALUE.contains(&name) {
             match joined {
-                None => Ok((name.to_string(), String::new())),
+                None => Ok((name.to_string(), OsString::new())),
                 Some(_) => Err(self.wrong(format!("{name} takes no value"))),
             }
         } else if WITH_VALUE.contains(&name) {
-            let mut next = || rest.next().map(|value| value.to_string_lossy().into_owned());
-            match joined.or_else(|| next().filter(|value| !value.starts_with("--"))) {
+            let is_option = |value: &&OsString| value.to_string_lossy().starts_with("--");
+            match joined.or_else(|| rest.next().filter(|value| !is_option(value)).cloned()) {
                 Some(value) => Ok((name.to_string(), value)),
                 None => Err(self.wrong(format!("{name} wants a value behind it"))),
             }
@@ -86,7 +118,7 @@ impl Arguments {
         }
     }
 
-    fn add_option(&mut self, option: (String, String)) -> Result<(), Usage> {
+    fn add_option(&mut self, option: (String, OsString)) -> Result<(), Usage> {
         if self.options.iter().any(|(name, _)| *name == option.0) {
             return Err(self.wrong(format!("{} is given twice", option.0)));
         }
@@ -96,7 +128,8 @@ impl Arguments {
 
     fn check_count(&self) -> Result<(), Usage> {
         let names = self.command.arguments();
-        match (names.get(self.plain.len()), self.plain.get(names.len())) {
+        let most = if names.last().is_some_and(|name| name.ends_with("..")) { usize::MAX } else { names.len() };
+        match (names.get(self.plain.len()), self.plain.get(most)) {
             (Some(missing), _) => Err(self.wrong_form(format!("{missing} is missing"))),
             (None, Some(word)) => Err(self.wrong_form(format!("{word:?} is one word too many"))),
             (None, None) => Ok(()),
@@ -135,6 +168,11 @@ impl Arguments {
         Ok(self.plain_at(position)?.1.to_os_string())
     }
 
+    /// The plain arguments from one on.
+    pub fn words_from(&self, position: usize) -> Vec<OsString> {
+        self.plain.iter().skip(position).cloned().collect()
+    }
+
     fn plain_at(&self, position: usize) -> Result<(&'static str, &OsStr), Usage> {
         match (self.command.arguments().get(position), self.plain.get(position)) {
             (Some(name), Some(word)) => Ok((name, word)),
@@ -151,8 +189,13 @@ impl Arguments {
         text.parse().map_err(|_| self.wrong(format!("{range}, and not {text:?}")))
     }
 
-    /// Takes an option's value.
+    /// Takes an option's value, as text.
     pub fn option(&mut self, name: &str) -> Option<String> {
+        Some(self.file_option(name)?.to_string_lossy().into_owned())
+    }
+
+    /// Takes an option's value, which is a file's name.
+    pub fn file_option(&mut self, name: &str) -> Option<OsString> {
         let position = self.options.iter().position(|(given, _)| given == name)?;
         Some(self.options.remove(position).1)
     }

@@ -15,8 +15,10 @@ pub enum Call {
     Set { cell: Cell, value: i32 },
     Clear { cell: Cell },
     Read { cell: Cell, position: bool },
-    Show { slot: Whole },
+    Show { slot: Whole, revision: bool },
+    Revision { slot: Whole },
     List,
+    Diff { old: Whole, new: Whole, picture: bool },
     Reduce { slot: Whole, monoid: Monoid },
     Operation(Operation),
     Doors(Doors),
@@ -109,27 +111,38 @@ pub struct Role<'a> {
 }
 
 impl Call {
-    /// The call of a command by its arguments.
+    /// The call of a command by its arguments, which have nothing else.
     pub fn parse(command: Command, mut arguments: Arguments) -> Result<Call, Usage> {
-        let call = call_of(command, &mut arguments)?;
+        let call = Call::take(command, &mut arguments)?;
         arguments.finish()?;
         Ok(call)
     }
 
+    /// The same, where options may be left.
+    pub fn take(command: Command, arguments: &mut Arguments) -> Result<Call, Usage> {
+        call_of(command, arguments)
+    }
+
     /// Whether the call can change the store.
     pub fn writes(&self) -> bool {
-        !matches!(self, Call::Read { .. } | Call::Show { .. } | Call::List | Call::Reduce { .. } | Call::Doors(_))
+        use Call::{Diff, Doors, List, Read, Reduce, Revision, Show};
+        !matches!(self, Revision { .. } | Read { .. } | Show { .. } | List | Diff { .. } | Reduce { .. } | Doors(_))
     }
 
     /// The slots that the call names, inputs first.
     pub fn roles(&self) -> Vec<Role<'_>> {
         let plain = |slot| vec![Role { name: "", slot, transposed: false }];
         match self {
-            Call::Lay { slot, .. } | Call::Drop { slot } | Call::Show { slot } | Call::Reduce { slot, .. } => {
-                plain(slot)
-            }
+            Call::Lay { slot, .. }
+            | Call::Drop { slot }
+            | Call::Show { slot, .. }
+            | Call::Revision { slot }
+            | Call::Reduce { slot, .. } => plain(slot),
             Call::Set { cell, .. } | Call::Clear { cell } | Call::Read { cell, .. } => plain(&cell.slot),
             Call::List => Vec::new(),
+            Call::Diff { old, new, .. } => {
+                vec![Role { name: "P", slot: old, transposed: false }, Role { name: "Q", slot: new, transposed: false }]
+            }
             Call::Operation(operation) => operation.roles(),
             Call::Doors(doors) => doors.roles(),
         }
@@ -176,8 +189,12 @@ fn call_of(command: Command, arguments: &mut Arguments) -> Result<Call, Usage> {
         Command::Set => Ok(Call::Set { cell: cell(arguments)?, value: arguments.value(3)? }),
         Command::Clear => Ok(Call::Clear { cell: cell(arguments)? }),
         Command::Read => Ok(Call::Read { cell: cell(arguments)?, position: arguments.flag("--position") }),
-        Command::Show => Ok(Call::Show { slot: arguments.whole(0)? }),
+        Command::Show => Ok(Call::Show { slot: arguments.whole(0)?, revision: arguments.flag("--revision") }),
+        Command::Revision => Ok(Call::Revision { slot: arguments.whole(0)? }),
         Command::List => Ok(Call::List),
+        Command::Diff => {
+            Ok(Call::Diff { old: arguments.whole(0)?, new: arguments.whole(1)?, picture: arguments.flag("--picture") })
+        }
         Command::Doors => Ok(Call::Doors(Doors {
             locks: arguments.whole(0)?,
             cabinets: arguments.whole(1)?,

@@ -1,17 +1,20 @@
 //! A call carried out on a store in memory.
 
 use crate::call::{Call, Doors, Kind, Operation};
+use crate::form;
+use crate::look::Look;
 use crate::names::{IndexList, Whole};
 use crate::refusal::Refusal;
-use ostrubel::{Error, Found, Matrix, Store, SLOTS};
+use crate::view;
+use ostrubel::{Error, Matrix, Store, SLOTS};
 use std::collections::BTreeMap;
 
 /// Carries out the call and answers what it prints. A refused call leaves the store as it was.
-pub fn carry_out(call: &Call, store: &mut Store) -> Result<String, Refusal> {
-    attempt(call, store).map_err(|error| Refusal::of_call(error, call, store))
+pub fn carry_out(call: &Call, store: &mut Store, look: &Look) -> Result<String, Refusal> {
+    attempt(call, store, look).map_err(|error| Refusal::of_call(error, call, store))
 }
 
-fn attempt(call: &Call, store: &mut Store) -> Result<String, Error> {
+fn attempt(call: &Call, store: &mut Store, look: &Look) -> Result<String, Error> {
     match call {
         Call::Lay { slot, rows, cols } => {
             store.new_empty(slot.size(), rows.index(), cols.index())?;
@@ -30,15 +33,20 @@ fn attempt(call: &Call, store: &mut Store) -> Result<String, Error> {
             Ok(written(&cell.slot, entries))
         }
         Call::Read { cell, position } => {
-            let found = store.find(cell.slot.size(), cell.row.index(), cell.col.index())?;
-            let (text, at) = match found {
-                Found::Present { value, position } => (value.to_string(), position),
-                Found::Absent { position } => ("empty".to_string(), position),
-            };
-            Ok(if *position { format!("{text} {at}") } else { text })
+            let (row, col) = (cell.row.index(), cell.col.index());
+            let found = store.find(cell.slot.size(), row, col)?;
+            Ok(view::cell(found, cell.slot.size(), (row, col), *position, look))
         }
-        Call::Show { slot } => Ok(store.matrix(slot.size())?.to_string()),
-        Call::List => list(store),
+        Call::Show { slot, revision } => Ok(view::sheet(&store.matrix(slot.size())?, slot.size(), *revision, look)),
+        Call::Revision { slot } => Ok(form::revision(&store.matrix(slot.size())?).unwrap_or(0).to_string()),
+        Call::List => view::list(store, look),
+        Call::Diff { old, new, picture } => {
+            if [old, new].iter().any(|slot| slot.size() >= SLOTS) {
+                return Err(Error::InvalidStore);
+            }
+            let (old, new) = (store.matrix(old.size())?, store.matrix(new.size())?);
+            Ok(view::difference(&old, &new, *picture, look))
+        }
         Call::Reduce { slot, monoid } => Ok(store.reduce(slot.size(), *monoid)?.to_string()),
         Call::Operation(operation) => {
             let entries = operate(operation, store)?;
@@ -92,24 +100,6 @@ fn indexes(list: &IndexList, all: u32) -> Vec<u32> {
         IndexList::All => (0..all).collect(),
         IndexList::Listed(indexes) => indexes.iter().map(|index| index.index()).collect(),
     }
-}
-
-/// A line for each slot, and one for the words.
-fn list(store: &Store) -> Result<String, Error> {
-    let mut lines = Vec::new();
-    for slot in 0..SLOTS {
-        if store.occupied(slot) {
-            let matrix = store.matrix(slot)?;
-            let entries = counted(matrix.entries(), "entry", "entries");
-            let words = matrix.words().len();
-            lines.push(format!("place {slot}: {} by {}, {entries}, {words} words", matrix.rows(), matrix.cols()));
-        } else {
-            lines.push(format!("place {slot}: empty"));
-        }
-    }
-    let (used, all) = (store.used_words(), store.words().len());
-    lines.push(format!("words: {used} used, {} free, {all} in all", all.saturating_sub(used)));
-    Ok(lines.join("\n"))
 }
 
 /// A line for each round in which doors open for the first time, and one for how many they are.

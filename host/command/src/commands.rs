@@ -26,11 +26,23 @@ pub enum Command {
     Kronecker,
     Reduce,
     Run,
+    Merge,
+    Diff,
+    Copy,
+    Resize,
+    Convert,
+    Revision,
+    Completions,
+    Man,
     Help,
 }
 
+/// The options that all operations share.
+const WRITE_BACK: [&str; 7] =
+    ["--mask", "--structural", "--complement", "--replace", "--accum", "--transpose-a", "--transpose-b"];
+
 impl Command {
-    pub const ALL: [Command; 25] = [
+    pub const ALL: [Command; 33] = [
         Command::New,
         Command::Lay,
         Command::Drop,
@@ -55,6 +67,14 @@ impl Command {
         Command::Kronecker,
         Command::Reduce,
         Command::Run,
+        Command::Merge,
+        Command::Diff,
+        Command::Copy,
+        Command::Resize,
+        Command::Convert,
+        Command::Revision,
+        Command::Completions,
+        Command::Man,
         Command::Help,
     ];
 
@@ -84,26 +104,98 @@ impl Command {
             Command::Kronecker => "kronecker",
             Command::Reduce => "reduce",
             Command::Run => "run",
+            Command::Merge => "merge",
+            Command::Diff => "diff",
+            Command::Copy => "copy",
+            Command::Resize => "resize",
+            Command::Convert => "convert",
+            Command::Revision => "revision",
+            Command::Completions => "completions",
+            Command::Man => "man",
             Command::Help => "help",
         }
     }
 
-    /// The plain arguments after FILE, which all commands but `help` have; of `print` it is the sheet's file.
+    /// The first plain argument, which is a file.
+    pub fn file(self) -> Option<&'static str> {
+        match self {
+            Command::Help | Command::Completions | Command::Man => None,
+            Command::Print => Some("SHEET"),
+            _ => Some("FILE"),
+        }
+    }
+
+    /// The plain arguments after that. One that ends with two dots may come several times.
     pub fn arguments(self) -> &'static [&'static str] {
         match self {
-            Command::New => &["WORDS"],
+            Command::New | Command::Resize => &["WORDS"],
             Command::Lay => &["PLACE", "ROWS", "COLS"],
-            Command::Drop | Command::Show | Command::Reduce => &["PLACE"],
+            Command::Drop | Command::Show | Command::Reduce | Command::Revision => &["PLACE"],
             Command::Set => &["PLACE", "ROW", "COL", "VALUE"],
             Command::Clear | Command::Read => &["PLACE", "ROW", "COL"],
-            Command::List | Command::Print | Command::Help => &[],
+            Command::List | Command::Print | Command::Convert | Command::Man | Command::Help => &[],
             Command::Import | Command::Export => &["PLACE", "SHEET"],
             Command::Mxm | Command::EwiseMult | Command::EwiseAdd | Command::Kronecker => &["C", "A", "B"],
             Command::Vxm => &["C", "U", "A"],
             Command::Apply | Command::Extract | Command::Select | Command::ReduceRows | Command::Assign => &["C", "A"],
             Command::Doors => &["LOCKS", "CABINETS", "HAND", "ALLOWANCE"],
             Command::Run => &["SCRIPT"],
+            Command::Merge => &["PLACE", "SHEET.."],
+            Command::Diff => &["P", "Q"],
+            Command::Copy => &["PLACE", "OTHER", "PLACE"],
+            Command::Completions => &["SHELL"],
         }
+    }
+
+    /// The options that it takes.
+    pub fn options(self) -> Vec<&'static str> {
+        let mut options: Vec<&str> = match self {
+            Command::Read => vec!["--position", "--json"],
+            Command::Show => vec!["--json", "--svg", "--html", "--revision"],
+            Command::List => vec!["--json"],
+            Command::Mxm | Command::Vxm => vec!["--semiring"],
+            Command::EwiseMult | Command::EwiseAdd => vec!["--op"],
+            Command::Apply => vec!["--op", "--first", "--second", "--scalar"],
+            Command::Extract => vec!["--rows", "--cols"],
+            Command::Select => vec!["--op", "--scalar"],
+            Command::ReduceRows | Command::Reduce => vec!["--monoid"],
+            Command::Import | Command::Export => vec!["--format"],
+            Command::Merge => vec!["--mask", "--format"],
+            Command::Diff => vec!["--picture"],
+            Command::Convert => vec!["--places", "--to"],
+            _ => Vec::new(),
+        };
+        if self.is_operation() {
+            options.extend(WRITE_BACK);
+        }
+        if self.writes() {
+            options.extend(["--dry-run", "--wait"]);
+        }
+        if self.shows_cells() {
+            options.push("--names");
+        }
+        options
+    }
+
+    /// Whether it can write a file.
+    pub fn writes(self) -> bool {
+        use Command::{Completions, Diff, Doors, Help, List, Man, Print, Read, Reduce, Revision, Show};
+        !matches!(self, Revision | Read | Show | List | Reduce | Doors | Diff | Print | Completions | Man | Help)
+    }
+
+    /// Whether it has rows, columns or places to call by their names.
+    pub fn shows_cells(self) -> bool {
+        use Command::{Completions, Convert, Doors, Help, Man, New, Print, Reduce, Resize, Revision};
+        !matches!(self, Revision | New | Reduce | Doors | Print | Resize | Convert | Completions | Man | Help)
+    }
+
+    /// Whether a script may have it in a line.
+    pub fn is_for_scripts(self) -> bool {
+        use Command::{Completions, Convert, Copy, Export, Help, Import, Man, Merge, New, Print, Resize, Run};
+        !matches!(
+            self,
+            New | Import | Export | Print | Run | Merge | Copy | Resize | Convert | Completions | Man | Help
+        )
     }
 
     /// Whether it is one of the operations that write a sheet.

@@ -1,6 +1,7 @@
 //! Why a command was not carried out, its message and its exit status.
 
 use crate::refusal::Refusal;
+use crate::text::shown_path;
 use std::fmt;
 use std::io;
 use std::path::Path;
@@ -59,19 +60,33 @@ pub enum Failure {
     Refused(Refusal),
     /// What could not be read or written, and the reason.
     Io(String),
+    /// Nobody reads what was to be printed.
+    Unread,
     /// A failure in a line of a script, counted from 1.
     AtLine(usize, Box<Failure>),
 }
 
 impl Failure {
     pub fn io(path: &Path, reason: impl fmt::Display) -> Failure {
-        Failure::Io(format!("{}: {reason}", path.display()))
+        Failure::Io(format!("{}: {reason}", shown_path(path)))
     }
 
-    /// A failure of standard output, after the shelf was saved or where there was nothing to save.
-    pub fn output(saved: bool, error: &io::Error) -> Failure {
-        let done = if saved { "the call was carried out, but " } else { "" };
-        Failure::Io(format!("{done}standard output cannot be written: {error}"))
+    /// A failure of standard output, after the shelf was saved or where there was nothing to save. That nobody reads on, as
+    /// with `ostrubel show .. | head -1`, is told by the exit status alone, and is none where the call was a saving one.
+    pub fn output(saved: bool, error: &io::Error) -> Result<(), Failure> {
+        match (error.kind(), saved) {
+            (io::ErrorKind::BrokenPipe, true) => Ok(()),
+            (io::ErrorKind::BrokenPipe, false) => Err(Failure::Unread),
+            _ => {
+                let done = if saved { "the call was carried out, but " } else { "" };
+                Err(Failure::Io(format!("{done}standard output cannot be written: {error}")))
+            }
+        }
+    }
+
+    /// Whether the exit status says all.
+    pub fn is_silent(&self) -> bool {
+        matches!(self, Failure::Unread)
     }
 
     /// Whether it is the failure of a script's line.
@@ -87,7 +102,7 @@ impl Failure {
         match self {
             Failure::Usage(_) => WRONG_USAGE,
             Failure::Refused(_) => REFUSED,
-            Failure::Io(_) => IO_FAILED,
+            Failure::Io(_) | Failure::Unread => IO_FAILED,
             Failure::AtLine(_, failure) => failure.exit_status(),
         }
     }
@@ -97,6 +112,7 @@ impl Failure {
             Failure::Usage(usage) => usage.to_string(),
             Failure::Refused(refusal) => refusal.to_string(),
             Failure::Io(message) => message.clone(),
+            Failure::Unread => "nobody reads the output".to_string(),
             Failure::AtLine(number, failure) => format!("line {number}: {}", failure.message()),
         }
     }
@@ -111,7 +127,7 @@ impl fmt::Display for Failure {
             Failure::AtLine(..) => {
                 write!(f, "{}\nNothing of this script was saved; the shelf is as it was.", self.message())
             }
-            Failure::Usage(_) | Failure::Io(_) => write!(f, "ostrubel: {}", self.message()),
+            Failure::Usage(_) | Failure::Io(_) | Failure::Unread => write!(f, "ostrubel: {}", self.message()),
         }
     }
 }

@@ -1,16 +1,24 @@
 //! The pages of the help, which are the texts in the folder `help`.
 
 use crate::commands::Command;
-use crate::{script, shelf_file};
+use crate::{guard, labels, script};
 use ostrubel::{
-    Error, MAX_ALLOWANCE, MAX_COLS, MAX_ENTRIES, MAX_FILE_BYTES, MAX_INDEXES, MAX_ROWS, MAX_STORE_WORDS,
-    MIN_STORE_WORDS, SLOTS,
+    Error, MAX_ALLOWANCE, MAX_COLS, MAX_ENTRIES, MAX_FILE_BYTES, MAX_INDEXES, MAX_MATRIX_WORDS, MAX_ROWS,
+    MAX_STORE_WORDS, MIN_STORE_WORDS, SLOTS,
 };
 
 const PAGE_WIDTH: usize = 98;
 
-/// What the pages of the operations end with.
+/// What the pages of the operations end with, those of all that write a file, and those of all that show cells.
 const OPTIONS: &str = include_str!("help/options.txt");
+const SHARED: &str = include_str!("help/shared.txt");
+const NAMES_OPTION: &str = include_str!("help/names_option.txt");
+
+/// The pages that are about no command.
+pub const TOPICS: [&str; 6] = ["options", "operators", "refusals", "shared", "names", "example"];
+
+/// The words of a sheet beside its rows and twice its values.
+const FIXED_WORDS: usize = MAX_MATRIX_WORDS - MAX_ROWS as usize - 2 * MAX_ENTRIES;
 
 /// The text with its limits: no page has one of its own.
 fn filled(text: &str) -> String {
@@ -23,9 +31,12 @@ fn filled(text: &str) -> String {
         ("{LAST_PLACE}", SLOTS - 1),
         ("{MIN_WORDS}", MIN_STORE_WORDS),
         ("{MAX_WORDS}", MAX_STORE_WORDS),
-        ("{MAX_BYTES}", shelf_file::MAX_BYTES),
+        ("{GUARD_BYTES}", guard::GUARD_BYTES),
+        ("{FIXED_WORDS}", FIXED_WORDS),
+        ("{EXAMPLE_WORDS}", MIN_STORE_WORDS + 2 * (50 + 400 + FIXED_WORDS)),
+        ("{MAX_NAMES_BYTES}", labels::MAX_BYTES),
         ("{MAX_SHEET_BYTES}", MAX_FILE_BYTES),
-        ("{MAX_SCRIPT_BYTES}", script::MAX_BYTES as usize),
+        ("{MAX_SCRIPT_BYTES}", script::MAX_BYTES),
         ("{MAX_PRINTED_BYTES}", script::MAX_PRINTED_BYTES),
     ];
     limits.iter().fold(text.to_string(), |text, (name, limit)| text.replace(name, &limit.to_string()))
@@ -45,6 +56,11 @@ pub fn page(topic: &str) -> Option<String> {
         "options" => Some(format!("Options of the operations that write a sheet\n\n{OPTIONS}")),
         "operators" => Some(include_str!("help/operators.txt").to_string()),
         "refusals" => Some(refusals()),
+        "shared" => Some(format!(
+            "Options of all commands that write a file, and of those that show cells\n\n{SHARED}{NAMES_OPTION}"
+        )),
+        "names" => Some(filled(include_str!("help/names.txt"))),
+        "example" => Some(include_str!("help/example.txt").to_string()),
         _ => None,
     }
 }
@@ -54,13 +70,42 @@ pub fn form(command: Command) -> &'static str {
     command_text(command).lines().next().unwrap_or_default()
 }
 
+/// The page about a command, without what it shares with others.
+pub fn own_page(command: Command) -> String {
+    filled(command_text(command))
+}
+
 fn command_page(command: Command) -> String {
-    let text = filled(command_text(command));
+    let mut page = own_page(command);
     if command.is_operation() {
-        format!("{text}\n{OPTIONS}")
-    } else {
-        text
+        page.push_str(&format!("\n{OPTIONS}"));
     }
+    let shared = if command.writes() { SHARED } else { "" };
+    let names = if command.shows_cells() { NAMES_OPTION } else { "" };
+    if !shared.is_empty() || !names.is_empty() {
+        page.push_str(&format!("\n{shared}{names}"));
+    }
+    page
+}
+
+/// What the first page says about a command.
+pub fn summary(command: Command) -> String {
+    let lines = command_text(Command::Help).lines();
+    let mut lines =
+        lines.filter(|line| line.strip_prefix("  ").is_some_and(|line| line.split(' ').next() == Some(command.name())));
+    lines.next().map(|line| part_behind(line.trim_start())).unwrap_or_default()
+}
+
+/// What a command's page says about an option, in its first line there.
+pub fn option_summary(command: Command, option: &str) -> String {
+    let page = command_page(command);
+    let mut lines = page.lines().filter(|line| line.split_whitespace().next() == Some(option));
+    lines.next().map(|line| part_behind(line.trim_start())).unwrap_or_default()
+}
+
+/// The second of the parts that are two blanks or more apart.
+fn part_behind(line: &str) -> String {
+    line.split("  ").filter(|part| !part.is_empty()).nth(1).unwrap_or_default().trim().to_string()
 }
 
 fn command_text(command: Command) -> &'static str {
@@ -89,6 +134,14 @@ fn command_text(command: Command) -> &'static str {
         Command::Kronecker => include_str!("help/kronecker.txt"),
         Command::Reduce => include_str!("help/reduce.txt"),
         Command::Run => include_str!("help/run.txt"),
+        Command::Merge => include_str!("help/merge.txt"),
+        Command::Diff => include_str!("help/diff.txt"),
+        Command::Copy => include_str!("help/copy.txt"),
+        Command::Resize => include_str!("help/resize.txt"),
+        Command::Convert => include_str!("help/convert.txt"),
+        Command::Revision => include_str!("help/revision.txt"),
+        Command::Completions => include_str!("help/completions.txt"),
+        Command::Man => include_str!("help/man.txt"),
         Command::Help => include_str!("help/overview.txt"),
     }
 }
@@ -128,7 +181,7 @@ mod tests {
     use std::ffi::OsString;
 
     fn pages() -> Vec<String> {
-        let topics = Command::ALL.map(Command::name).into_iter().chain(["options", "operators", "refusals"]);
+        let topics = Command::ALL.map(Command::name).into_iter().chain(TOPICS);
         topics.map(|topic| page(topic).unwrap_or_else(|| panic!("no page {topic}"))).collect()
     }
 
@@ -149,8 +202,9 @@ mod tests {
 
     #[test]
     fn limits_are_filled_in() {
-        let limits = numbers(&filled("{MAX_ROWS} {MAX_COLS} {MAX_ENTRIES} {MAX_INDEXES} {MAX_WORDS} {MAX_BYTES}"));
-        assert_eq!(limits, [1_000, 1_000, 2_048, 1_000, 16_384, 65_536]);
+        let limits =
+            numbers(&filled("{MAX_ROWS} {MAX_COLS} {MAX_ENTRIES} {MAX_INDEXES} {MAX_WORDS} {MAX_NAMES_BYTES}"));
+        assert_eq!(limits, [1_000, 1_000, 2_048, 1_000, 16_384, 262_144]);
         for page in pages() {
             assert!(!page.contains('{') && !page.contains('}'), "{page}");
         }
@@ -164,6 +218,7 @@ mod tests {
     fn each_example_is_a_command() {
         for page in pages() {
             for line in page.lines().filter_map(|line| line.strip_prefix("    ostrubel ")) {
+                let line = line.split(['|', '>']).next().unwrap_or_default().trim_end();
                 let words: Vec<OsString> = line.split(' ').map(OsString::from).collect();
                 assert!(Task::parse(&words).is_ok(), "{line}");
             }
@@ -175,8 +230,28 @@ mod tests {
         for command in Command::ALL {
             assert!(overview().lines().any(|line| line.starts_with(&format!("  {} ", command.name()))), "{command:?}");
             let first = command_page(command);
-            let file = if command == Command::Print { "SHEET" } else { "FILE" };
-            assert!(command == Command::Help || first.starts_with(&format!("ostrubel {} {file}", command.name())));
+            let file = command.file().map_or_else(String::new, |file| format!(" {file}"));
+            assert!(command == Command::Help || first.starts_with(&format!("ostrubel {}{file}", command.name())));
+            assert!(!summary(command).is_empty(), "{command:?}");
         }
+    }
+
+    /// The options that a page explains are those that the command takes.
+    #[test]
+    fn each_option_is_on_its_page() {
+        for command in Command::ALL.into_iter().filter(|command| *command != Command::Help) {
+            let (page, options) = (command_page(command), command.options());
+            for option in &options {
+                assert!(page.contains(option), "{command:?} {option}");
+            }
+            for word in form(command).split([' ', '[', ']']).filter(|word| word.starts_with("--")) {
+                assert!(options.contains(&word), "{command:?} {word}");
+            }
+        }
+        assert_eq!(
+            option_summary(Command::Set, "--dry-run"),
+            "shows which cells would change, with their old and new values, and saves nothing"
+        );
+        assert_eq!(summary(Command::Reduce), "prints all values added up");
     }
 }

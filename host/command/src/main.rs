@@ -8,26 +8,53 @@
 //! The exit status is 0, or 1 for a refused call, 2 for wrong usage, 3 where a file or the output cannot be read or
 //! written.
 
-#![forbid(unsafe_code)]
+#![deny(unsafe_code)]
 
 mod arguments;
 mod call;
 mod carry_out;
+mod changes;
 mod commands;
+mod completions;
+mod csv;
+mod drawing;
 mod failure;
+mod form;
+mod format;
+mod guard;
 mod help;
+mod json;
+mod labels;
+mod locked_file;
+mod look;
+mod manual;
+mod matrix_market;
+mod merge;
 mod names;
+mod new_file;
 mod output;
+mod picture;
 mod refusal;
+mod replacing;
 mod script;
+mod settings;
 mod sheet_file;
 mod shelf_file;
+#[cfg(target_os = "linux")]
+#[allow(unsafe_code)]
+mod system;
+#[cfg(not(target_os = "linux"))]
+#[path = "system_elsewhere.rs"]
+mod system;
 mod task;
+#[cfg(test)]
+mod test_folder;
+mod text;
+mod view;
 
 use failure::{Failure, WRONG_USAGE};
-use output::Output;
+use output::{complain, Output};
 use std::ffi::OsString;
-use std::io::Write;
 use std::process::ExitCode;
 use task::Task;
 
@@ -40,7 +67,9 @@ fn main() -> ExitCode {
     match carry_out(&words) {
         Ok(()) => ExitCode::SUCCESS,
         Err(failure) => {
-            complain(&failure.to_string());
+            if !failure.is_silent() {
+                complain(&failure.to_string());
+            }
             ExitCode::from(failure.exit_status())
         }
     }
@@ -50,7 +79,7 @@ fn carry_out(words: &[OsString]) -> Result<(), Failure> {
     let task = Task::parse(words)?;
     let mut output = Output::new();
     match task.carry_out(&mut output) {
-        Ok(saved) => output.write().map_err(|error| Failure::output(saved, &error)),
+        Ok(saved) => output.write().or_else(|error| Failure::output(saved, &error)),
         Err(failure) => {
             // A script tells how far it came. The failure is more important than one of the output.
             if failure.is_at_line() {
@@ -59,9 +88,4 @@ fn carry_out(words: &[OsString]) -> Result<(), Failure> {
             Err(failure)
         }
     }
-}
-
-/// Writes to standard error. Where that is closed, there is nobody to tell.
-fn complain(text: &str) {
-    let _ = writeln!(std::io::stderr(), "{}", text.trim_end());
 }

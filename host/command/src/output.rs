@@ -1,6 +1,8 @@
 //! What a command prints. It is collected in memory and written at the end, when the shelf is saved and no lock is held:
 //! whoever reads it may run another command on the same shelf.
 
+use crate::system;
+use crate::text::shown_lines;
 use std::io::{self, ErrorKind, Write};
 
 pub struct Output {
@@ -12,12 +14,18 @@ impl Output {
         Output { bytes: Vec::new() }
     }
 
-    /// Adds the text and ends its last line.
+    /// Adds the text, whose control characters are written out, and ends its last line.
     pub fn print(&mut self, text: &str) {
-        self.add(text.as_bytes());
+        self.add(shown_lines(text).as_bytes());
         if !text.ends_with('\n') {
             self.add(b"\n");
         }
+    }
+
+    /// Adds a text that has no control characters but those of colours, and ends its last line.
+    pub fn show(&mut self, text: &str) {
+        self.add(text.as_bytes());
+        self.add(b"\n");
     }
 
     /// Adds bytes as they are.
@@ -30,13 +38,17 @@ impl Output {
         self.bytes.len()
     }
 
-    /// Writes all to standard output. Where that is closed, as by `ostrubel show .. | head -1`, the rest is left out
-    /// without a word.
+    /// Writes all to standard output.
     pub fn write(&self) -> io::Result<()> {
-        let mut out = io::stdout().lock();
-        match out.write_all(&self.bytes).and_then(|()| out.flush()) {
-            Err(error) if error.kind() == ErrorKind::BrokenPipe => Ok(()),
-            result => result,
+        if system::output_is_closed() && !self.bytes.is_empty() {
+            return Err(io::Error::new(ErrorKind::NotConnected, "it is closed"));
         }
+        let mut out = io::stdout().lock();
+        out.write_all(&self.bytes).and_then(|()| out.flush())
     }
+}
+
+/// Writes to standard error. Where that is closed, there is nobody to tell.
+pub fn complain(text: &str) {
+    let _ = writeln!(io::stderr(), "{}", shown_lines(text).trim_end());
 }

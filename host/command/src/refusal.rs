@@ -2,8 +2,14 @@
 
 use crate::call::{Call, Doors, Kind, Operation, Role};
 use crate::carry_out::{self, counted};
+use crate::guard::Damage;
 use crate::names::{IndexList, Whole};
-use ostrubel::{Error, Store, MAX_ALLOWANCE, MAX_COLS, MAX_INDEXES, MAX_ROWS, MAX_STORE_WORDS, MIN_STORE_WORDS, SLOTS};
+use crate::shelf_file;
+use crate::text::shown_path;
+use ostrubel::{
+    Error, Store, MAX_ALLOWANCE, MAX_COLS, MAX_FILE_BYTES, MAX_INDEXES, MAX_ROWS, MAX_STORE_WORDS, MIN_STORE_WORDS,
+    SLOTS,
+};
 use std::collections::BTreeSet;
 use std::fmt;
 use std::path::Path;
@@ -30,21 +36,56 @@ impl fmt::Display for Refusal {
 impl Refusal {
     /// Of a new shelf of so many words.
     pub fn of_length(error: Error, words: &Whole) -> Refusal {
-        let sentence = format!("A shelf has {MIN_STORE_WORDS} to {MAX_STORE_WORDS} words, and not {words}.");
-        Refusal { error, sentence, about: Vec::new() }
+        Refusal::of(error, format!("A shelf has {MIN_STORE_WORDS} to {MAX_STORE_WORDS} words, and not {words}."))
     }
 
-    /// Of a file that holds no shelf. `size` is its length, as a text.
-    pub fn of_file(error: Error, path: &Path, size: &str) -> Refusal {
-        let name = path.display();
-        let sentence = format!("{name} is not a shelf, or is damaged ({size}): check the name, or take a sound copy.");
-        Refusal { error, sentence, about: Vec::new() }
+    /// Of a file of so many bytes that holds no shelf.
+    pub fn of_file(path: &Path, bytes: usize) -> Refusal {
+        let error = Error::InvalidStore;
+        let (name, size) = (shown_path(path), size(bytes, shelf_file::MAX_BYTES));
+        Refusal::of(
+            error,
+            format!("{name} is not a shelf, or is damaged ({size}): check the name, or take a sound copy."),
+        )
     }
 
-    /// Of bytes that are no sheet's file. `size` is their number, as a text.
-    pub fn of_sheet(error: Error, name: &str, size: &str) -> Refusal {
+    /// Of a shelf's file that is damaged.
+    pub fn of_damage(path: &Path, damage: Damage, bytes: usize) -> Refusal {
+        let (name, size) = (shown_path(path), size(bytes, shelf_file::MAX_BYTES));
+        let what = match damage {
+            Damage::Checksum => "its checksum does not fit its words",
+            Damage::Length | Damage::NoWords => "it has bytes too many or too few",
+        };
+        Refusal::of(Error::InvalidStore, format!("{name} is a damaged shelf: {what} ({size}); take a sound copy."))
+    }
+
+    /// Of a shelf's file that a later command has written.
+    pub fn of_version(path: &Path, version: u32) -> Refusal {
+        let name = shown_path(path);
         let sentence =
-            format!("{name} is no sheet file, or is damaged ({size}): check the name, or take a sound copy.");
+            format!("{name} is a shelf of version {version}, which this command does not know: take a later one.");
+        Refusal::of(Error::InvalidStore, sentence)
+    }
+
+    /// Of a shelf of an earlier form whose sheets, as they are now, do not fit any shelf. `name` is a word of the shell.
+    pub fn of_full_shelf(error: Error, name: &str) -> Refusal {
+        let sentence =
+            format!("This shelf has an earlier form, and its sheets do not fit {MAX_STORE_WORDS} words in today's.");
+        let convert = format!("ostrubel convert {name} --places 0..3 --to OTHER");
+        Refusal::of(error, format!("{sentence} Convert some places at a time, each time into another file: {convert}"))
+    }
+
+    /// Of so many bytes that are no sheet's file.
+    pub fn of_sheet(error: Error, name: &str, bytes: usize) -> Refusal {
+        let size = size(bytes, MAX_FILE_BYTES);
+        Refusal::of(
+            error,
+            format!("{name} is no sheet file, or is damaged ({size}): check the name, or take a sound copy."),
+        )
+    }
+
+    /// With a sentence that says all.
+    pub fn of(error: Error, sentence: String) -> Refusal {
         Refusal { error, sentence, about: Vec::new() }
     }
 
@@ -70,6 +111,12 @@ impl Refusal {
         };
         Refusal { error, sentence: sentence.unwrap_or_else(|| error.to_string()), about }
     }
+}
+
+/// A number of bytes, of which no more than `most` and one were read.
+fn size(bytes: usize, most: usize) -> String {
+    let more = if bytes > most { "more than " } else { "" };
+    format!("{more}{}", counted(bytes.min(most), "byte", "bytes"))
 }
 
 /// The place, and in an operation what it is there for.

@@ -7,15 +7,15 @@ use crate::call::Call;
 use crate::carry_out::carry_out;
 use crate::commands::Command;
 use crate::failure::{Failure, Usage};
+use crate::look::Look;
 use crate::output::Output;
+use crate::settings;
+use crate::sheet_file;
 use ostrubel::Store;
 use std::ffi::{OsStr, OsString};
-use std::fs::File;
-use std::io::{self, Read};
-use std::path::Path;
 
 /// The longest script: some 50,000 calls.
-pub const MAX_BYTES: u64 = 1 << 20;
+pub const MAX_BYTES: usize = 1 << 20;
 
 /// The most that a script prints, which is kept in memory until the shelf is saved.
 pub const MAX_PRINTED_BYTES: usize = 16 << 20;
@@ -41,11 +41,8 @@ enum Step {
 impl Script {
     /// Reads a file, or standard input where the name is `-`.
     pub fn read(source: &OsStr) -> Result<Script, Failure> {
-        let path = Path::new(source);
-        let bytes = if source == "-" { read_bounded(io::stdin()) } else { File::open(path).and_then(read_bounded) };
-        let name = if source == "-" { Path::new("standard input") } else { path };
-        let bytes = bytes.map_err(|error| Failure::io(name, error))?;
-        if bytes.len() as u64 > MAX_BYTES {
+        let (_, bytes) = sheet_file::bytes(source, MAX_BYTES)?;
+        if bytes.len() > MAX_BYTES {
             return Err(Usage::new("run", format!("run: a script has at most {MAX_BYTES} bytes")).into());
         }
         match String::from_utf8(bytes) {
@@ -71,21 +68,21 @@ impl Script {
     }
 
     /// Carries out the calls on a store in memory, and stops at the first that is refused or wrong.
-    pub fn carry_out(&self, store: &mut Store, output: &mut Output) -> Result<(), Failure> {
+    pub fn carry_out(&self, store: &mut Store, look: &Look, output: &mut Output) -> Result<(), Failure> {
         for line in &self.lines {
-            line.carry_out(store, output).map_err(|failure| failure.at_line(line.number))?;
+            line.carry_out(store, look, output).map_err(|failure| failure.at_line(line.number))?;
         }
         Ok(())
     }
 }
 
 impl Line {
-    fn carry_out(&self, store: &mut Store, output: &mut Output) -> Result<(), Failure> {
+    fn carry_out(&self, store: &mut Store, look: &Look, output: &mut Output) -> Result<(), Failure> {
         match &self.step {
             Step::Comment => output.print(&self.text),
             Step::Call(call) => {
                 self.echo(output);
-                output.print(&carry_out(call, store)?);
+                output.show(&carry_out(call, store, look)?);
             }
             Step::Wrong(usage) => {
                 self.echo(output);
@@ -103,12 +100,6 @@ impl Line {
     }
 }
 
-fn read_bounded(input: impl Read) -> io::Result<Vec<u8>> {
-    let mut bytes = Vec::new();
-    input.take(MAX_BYTES + 1).read_to_end(&mut bytes)?;
-    Ok(bytes)
-}
-
 fn parse_line(line: &str) -> Step {
     if line.starts_with('#') {
         return Step::Comment;
@@ -116,11 +107,14 @@ fn parse_line(line: &str) -> Step {
     let mut words = line.split_whitespace();
     let name = words.next().unwrap_or_default();
     let call = match Command::find(name) {
-        Some(Command::New | Command::Import | Command::Export | Command::Print | Command::Run | Command::Help) => {
-            Err(Usage::new("run", format!("{name} is not for scripts")))
-        }
+        Some(command) if !command.is_for_scripts() => Err(Usage::new("run", format!("{name} is not for scripts"))),
         Some(command) => {
             let words: Vec<OsString> = words.map(OsString::from).collect();
+            let is_setting = |word: &&OsString| settings::NOT_FOR_LINES.iter().any(|name| *word == name);
+            if let Some(option) = words.iter().find(is_setting) {
+                let option = option.to_string_lossy();
+                return Step::Wrong(Usage::new("run", format!("{option} is not for a line of a script")));
+            }
             let arguments = Arguments::split(command, &words);
             arguments.and_then(|arguments| Call::parse(command, arguments)).map_err(Usage::in_script)
         }

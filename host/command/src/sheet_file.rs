@@ -1,50 +1,72 @@
-//! One matrix in a file of its own: its words, each as four bytes with the lowest first, and nothing else.
+//! One matrix in a file of its own, in one of the formats.
 
 use crate::carry_out::counted;
 use crate::failure::Failure;
+use crate::format::Format;
+use crate::labels::Labels;
+use crate::locked_file::Patience;
+use crate::merge::Sheet;
 use crate::output::Output;
-use crate::refusal::Refusal;
-use crate::shelf_file;
-use ostrubel::{Matrix, MAX_FILE_BYTES};
+use crate::replacing::{read_at_most, write_over};
+use crate::text::shown_path;
+use ostrubel::Matrix;
 use std::ffi::OsStr;
 use std::fs::File;
-use std::io::{self, Read};
+use std::io::{self, IsTerminal};
 use std::path::Path;
 
-/// The matrix in a file, or in standard input where the name is `-`. It is read to its end, and may come in pieces.
-pub fn read(source: &OsStr) -> Result<Matrix, Failure> {
-    let path = Path::new(source);
-    let (name, bytes) = if source == "-" {
-        (Path::new("standard input"), read_bounded(io::stdin()))
+/// The bytes of a file, or of standard input where the name is `-`, and a name for it. It is read to its end, and may come
+/// in pieces, but of a longer one only a byte more than `most` is read.
+pub fn bytes(source: &OsStr, most: usize) -> Result<(String, Vec<u8>), Failure> {
+    let path = Path::new(if source == "-" { OsStr::new("standard input") } else { source });
+    let bytes = if source == "-" {
+        read_at_most(io::stdin(), most)
     } else {
-        (path, File::open(path).and_then(read_bounded))
+        File::open(path).and_then(|file| read_at_most(file, most))
     };
-    let bytes = bytes.map_err(|error| Failure::io(name, error))?;
-    Matrix::from_bytes(&bytes).map_err(|error| {
-        let size = counted(bytes.len().min(MAX_FILE_BYTES), "byte", "bytes");
-        let more = if bytes.len() > MAX_FILE_BYTES { "more than " } else { "" };
-        Failure::from(Refusal::of_sheet(error, &name.display().to_string(), &format!("{more}{size}")))
-    })
+    Ok((shown_path(path), bytes.map_err(|error| Failure::io(path, error))?))
 }
 
-/// Of a longer source one byte more than any file has, which the library refuses.
-fn read_bounded(source: impl Read) -> io::Result<Vec<u8>> {
-    let mut bytes = Vec::new();
-    source.take(MAX_FILE_BYTES as u64 + 1).read_to_end(&mut bytes)?;
-    Ok(bytes)
+/// The matrix in a file of some format, and the file's name. Names are for comma-separated values.
+pub fn read(source: &OsStr, format: Format, labels: Option<&Labels>) -> Result<Sheet, Failure> {
+    let (name, bytes) = bytes(source, format.longest())?;
+    let matrix = format.read(&name, &bytes, labels)?;
+    Ok(Sheet { name, matrix })
 }
 
-/// Writes the matrix into a file, or to standard output where the name is `-`. Only a sheet file is replaced. Whether a
-/// file was written.
-pub fn write(target: &OsStr, matrix: &Matrix, output: &mut Output) -> Result<bool, Failure> {
-    if target == "-" {
-        output.add(&matrix.to_bytes());
-        return Ok(false);
+/// Where a matrix goes, and how.
+pub struct Target<'a> {
+    /// A file, or standard output where the name is `-`.
+    pub name: &'a OsStr,
+    pub format: Format,
+    pub patience: Patience,
+    pub dry_run: bool,
+}
+
+impl Target<'_> {
+    /// Writes the matrix. Only a file of the same format is replaced. Whether a file was written.
+    pub fn write(&self, matrix: &Matrix, labels: Option<&Labels>, output: &mut Output) -> Result<bool, Failure> {
+        let bytes = self.format.write(matrix, labels);
+        if self.name == "-" {
+            if self.format == Format::Sheet && io::stdout().is_terminal() {
+                return Err(Failure::Io(
+                    "a sheet file is not for a terminal; name a file, or --format csv".to_string(),
+                ));
+            }
+            output.add(&bytes);
+            return Ok(false);
+        }
+        let path = Path::new(self.name);
+        let described = format!("{}: {}", shown_path(path), described(matrix));
+        if self.dry_run {
+            output.print(&format!("{described}\na dry run: nothing was saved"));
+            return Ok(false);
+        }
+        let kind = (self.format.title(), self.format.longest());
+        write_over(path, &bytes, self.patience, kind, |before| self.format.read("", before, labels).is_ok())?;
+        output.print(&described);
+        Ok(true)
     }
-    let path = Path::new(target);
-    shelf_file::write_over(path, &matrix.to_bytes(), |before| Matrix::from_bytes(before).is_ok())?;
-    output.print(&format!("{}: {}", path.display(), described(matrix)));
-    Ok(true)
 }
 
 /// The shape and the entries.

@@ -3,44 +3,77 @@
 use crate::arguments::Arguments;
 use crate::call::Call;
 use crate::carry_out::carry_out;
+use crate::changes;
 use crate::commands::Command;
+use crate::completions::{self, Shell};
+use crate::drawing;
 use crate::failure::{Failure, Usage};
+use crate::format::Format;
 use crate::help;
-use crate::names::Whole;
+use crate::look::Look;
+use crate::manual;
+use crate::merge::{merge, Sheet};
+use crate::names::{IndexList, Whole};
 use crate::output::Output;
 use crate::refusal::Refusal;
+use crate::replacing::write_over;
 use crate::script::Script;
-use crate::{sheet_file, shelf_file};
-use ostrubel::{Error, Store};
-use std::ffi::OsString;
+use crate::settings::Settings;
+use crate::sheet_file::{self, Target};
+use crate::shelf_file::{self, Form};
+use crate::text::shown_path;
+use ostrubel::{Error, Matrix, Store};
+use std::ffi::{OsStr, OsString};
 use std::path::{Path, PathBuf};
 
 pub enum Task {
     /// Prints a text.
     Print(String),
+    /// Works on the shelf in a file; of `print` it is a sheet's file.
+    File { file: PathBuf, job: Job, settings: Settings },
+}
+
+pub enum Job {
     New {
-        file: PathBuf,
         words: Whole,
     },
-    Call {
-        file: PathBuf,
-        call: Call,
+    Call(Call),
+    /// Draws a sheet into files.
+    Draw {
+        slot: Whole,
+        svg: Option<OsString>,
+        html: Option<OsString>,
     },
     Import {
-        file: PathBuf,
         slot: Whole,
         sheet: OsString,
+        format: Option<Format>,
     },
     Export {
-        file: PathBuf,
         slot: Whole,
         sheet: OsString,
+        format: Option<Format>,
     },
-    PrintSheet {
-        sheet: OsString,
+    Merge {
+        slot: Whole,
+        sheets: Vec<OsString>,
+        mask: Option<Whole>,
+        format: Option<Format>,
     },
+    Copy {
+        slot: Whole,
+        other: PathBuf,
+        other_slot: Whole,
+    },
+    Resize {
+        words: Whole,
+    },
+    Convert {
+        places: Option<IndexList>,
+        to: Option<PathBuf>,
+    },
+    PrintSheet,
     Run {
-        file: PathBuf,
         script: OsString,
     },
 }
@@ -59,10 +92,9 @@ impl Task {
             (Some(page), _, None) => Ok(Task::Print(page)),
             (Some(_), _, Some(word)) => Err(Usage::new("", format!("{name}: {word:?} is one word too many"))),
             (None, None, _) => Err(Usage::new("", format!("no command {name:?}"))),
+            (None, Some(command), _) if asks_for_help(&texts[1..]) => help_task(&[command.name().to_string()]),
             (None, Some(Command::Help), _) => help_task(&texts[1..]),
-            (None, Some(command), Some("--help" | "-h")) => {
-                help_task(&[&[command.name().to_string()], &texts[2..]].concat())
-            }
+            (None, Some(command), _) if command.file().is_none() => text_task(command, &words[1..]),
             (None, Some(command), _) => file_task(command, &words[1..]),
         }
     }
@@ -74,39 +106,171 @@ impl Task {
                 output.print(text);
                 Ok(false)
             }
-            Task::New { file, words } => {
-                shelf_file::create(file, words)?;
-                output.print(&format!("{}: {words} words, all places empty", file.display()));
-                Ok(true)
+            Task::File { file, job, settings } => job.carry_out(&Shelf { file, settings }, output),
+        }
+    }
+}
+
+/// Whether `--help` stands among the words, and not behind `--`.
+fn asks_for_help(words: &[String]) -> bool {
+    words.iter().take_while(|word| *word != "--").any(|word| word == "--help" || word == "-h")
+}
+
+impl Job {
+    fn carry_out(&self, shelf: &Shelf, output: &mut Output) -> Result<bool, Failure> {
+        let Shelf { file, settings } = *shelf;
+        match self {
+            Job::New { words } => {
+                shelf_file::create(file, words, settings.dry_run)?;
+                let dry = if settings.dry_run { "\na dry run: nothing was saved" } else { "" };
+                output.print(&format!("{}: {words} words, all places empty{dry}", shown_path(file)));
+                Ok(!settings.dry_run)
             }
-            Task::Call { file, call } => on_shelf(file, call.writes(), |store| {
-                output.print(&carry_out(call, store)?);
+            Job::Call(call) => shelf.work(call.writes(), output, |store, look, output| {
+                output.show(&carry_out(call, store, look)?);
                 Ok(())
             }),
-            Task::Import { file, slot, sheet } => {
-                let matrix = sheet_file::read(sheet)?;
-                on_shelf(file, true, |store| {
-                    let put = store.put(slot.size(), &matrix);
-                    put.map_err(|error| refused(error, slot, store))?;
-                    output.print(&format!("place {slot}: {}", sheet_file::described(&matrix)));
+            Job::Draw { slot, svg, html } => {
+                let (labels, matrix) = (settings.labels()?.unwrap_or_default(), shelf.sheet(slot)?);
+                let title = format!("{}, {}", shown_path(file), labels.place_head(slot.size()));
+                let svg = svg.as_ref().map(|out| (out, drawing::svg(&matrix, &title, &labels), drawing::SVG_FRONT));
+                let html = html.as_ref().map(|out| (out, drawing::html(&matrix, &title, &labels), drawing::HTML_FRONT));
+                let mut saved = false;
+                for (out, text, front) in svg.into_iter().chain(html) {
+                    saved |= write_picture(out, &text, front, settings, output)?;
+                }
+                Ok(saved)
+            }
+            Job::Import { slot, sheet, format } => {
+                let Sheet { matrix, .. } = read_sheet(sheet, *format, settings)?;
+                shelf.put(slot, output, |_| Ok(matrix))
+            }
+            Job::Export { slot, sheet, format } => {
+                let matrix = shelf.sheet(slot)?;
+                let format = format.unwrap_or_else(|| Format::of_name(sheet));
+                let Settings { patience, dry_run, .. } = *settings;
+                Target { name: sheet, format, patience, dry_run }.write(&matrix, settings.labels()?.as_ref(), output)
+            }
+            Job::Merge { slot, sheets, mask, format } => {
+                let sheets = sheets.iter().map(|sheet| read_sheet(sheet, *format, settings));
+                let sheets: Vec<Sheet> = sheets.collect::<Result<_, Failure>>()?;
+                shelf.work(true, output, |store, _, output| {
+                    output.print(&merge(store, slot, mask.as_ref(), &sheets)?);
                     Ok(())
                 })
             }
-            Task::Export { file, slot, sheet } => {
-                let store = shelf_file::read(file)?;
-                let matrix = store.matrix(slot.size()).map_err(|error| refused(error, slot, &store))?;
-                sheet_file::write(sheet, &matrix, output)
+            Job::Copy { slot, other, other_slot } => {
+                // Read while the other is locked: it may be the same file.
+                Shelf { file: other, settings }.put(other_slot, output, |_| shelf.sheet(slot))
             }
-            Task::PrintSheet { sheet } => {
-                output.print(&sheet_file::read(sheet)?.to_text());
+            Job::Resize { words } => shelf.work(true, output, |store, _, output| {
+                let resized = shelf_file::resized(store, words)?;
+                *store = resized;
+                output.print(&format!("{}: {words} words", shown_path(file)));
+                Ok(())
+            }),
+            Job::Convert { places, to } => shelf.convert(places.as_ref(), to.as_deref(), output),
+            Job::PrintSheet => {
+                let Sheet { matrix, .. } = read_sheet(file.as_os_str(), None, settings)?;
+                output.print(&matrix.to_text());
                 Ok(false)
             }
-            Task::Run { file, script } => {
+            Job::Run { script } => {
                 let script = Script::read(script)?;
-                on_shelf(file, script.writes(), |store| script.carry_out(store, output))
+                shelf.work(script.writes(), output, |store, look, output| script.carry_out(store, look, output))
             }
         }
     }
+}
+
+/// The shelf in a file, and how it is used.
+#[derive(Clone, Copy)]
+struct Shelf<'a> {
+    file: &'a Path,
+    settings: &'a Settings,
+}
+
+impl Shelf<'_> {
+    /// Does some work on the shelf. Whether the file was written.
+    fn work(
+        &self,
+        writes: bool,
+        output: &mut Output,
+        work: impl FnOnce(&mut Store, &Look, &mut Output) -> Result<(), Failure>,
+    ) -> Result<bool, Failure> {
+        let look = self.settings.look()?;
+        if !writes {
+            work(&mut shelf_file::read(self.file)?, &look, output)?;
+            Ok(false)
+        } else if self.settings.dry_run {
+            let mut store = shelf_file::read_current(self.file)?;
+            let before = store.clone();
+            work(&mut store, &look, output)?;
+            output.show(&changes::of_store(&before, &store, &look));
+            Ok(false)
+        } else {
+            shelf_file::update(self.file, self.settings.patience, |store| work(store, &look, output))
+        }
+    }
+
+    /// A copy of a place's sheet.
+    fn sheet(&self, slot: &Whole) -> Result<Matrix, Failure> {
+        let store = shelf_file::read(self.file)?;
+        Ok(store.matrix(slot.size()).map_err(|error| refused(error, slot, &store))?)
+    }
+
+    /// Puts a sheet into a place.
+    fn put(
+        &self,
+        slot: &Whole,
+        output: &mut Output,
+        sheet: impl FnOnce(&Store) -> Result<Matrix, Failure>,
+    ) -> Result<bool, Failure> {
+        self.work(true, output, |store, _, output| {
+            let matrix = sheet(store)?;
+            store.put(slot.size(), &matrix).map_err(|error| refused(error, slot, store))?;
+            output.print(&format!("place {slot}: {}", sheet_file::described(&matrix)));
+            Ok(())
+        })
+    }
+
+    fn convert(&self, places: Option<&IndexList>, to: Option<&Path>, output: &mut Output) -> Result<bool, Failure> {
+        let name = shown_path(self.file);
+        let form = if self.settings.dry_run || to.is_some() {
+            shelf_file::convert_to(self.file, places, to.filter(|_| !self.settings.dry_run))?
+        } else {
+            shelf_file::convert(self.file, self.settings.patience)?
+        };
+        let dry = if self.settings.dry_run { "\na dry run: nothing was saved" } else { "" };
+        output.print(&match (form, to) {
+            (Form::Current, None) => format!("{name}: has the form of today, and stays as it is"),
+            (_, Some(to)) => format!("{name}: stays as it is; {} has its sheets{dry}", shown_path(to)),
+            (_, None) => format!("{name}: converted, all sheets kept{dry}"),
+        });
+        Ok(form != Form::Current && !self.settings.dry_run || to.is_some())
+    }
+}
+
+fn read_sheet(sheet: &OsStr, format: Option<Format>, settings: &Settings) -> Result<Sheet, Failure> {
+    sheet_file::read(sheet, format.unwrap_or_else(|| Format::of_name(sheet)), settings.labels()?.as_ref())
+}
+
+/// Writes a picture into a file, which is replaced only if it begins as such pictures do.
+fn write_picture(
+    out: &OsStr,
+    text: &str,
+    front: &str,
+    settings: &Settings,
+    output: &mut Output,
+) -> Result<bool, Failure> {
+    if out == "-" {
+        output.print(text);
+        return Ok(false);
+    }
+    let kind = ("picture of a sheet", front.len());
+    write_over(Path::new(out), text.as_bytes(), settings.patience, kind, |old| old.starts_with(front.as_bytes()))?;
+    output.print(&format!("{}: written", shown_path(Path::new(out))));
+    Ok(true)
 }
 
 fn help_task(topics: &[String]) -> Result<Task, Usage> {
@@ -120,47 +284,79 @@ fn help_task(topics: &[String]) -> Result<Task, Usage> {
     }
 }
 
+/// A task of a command that prints a text, and has no file.
+fn text_task(command: Command, words: &[OsString]) -> Result<Task, Usage> {
+    let arguments = Arguments::split(command, words)?;
+    let text = match command {
+        Command::Completions => {
+            let shell = arguments.word(0)?;
+            completions::script(Shell::parse(&shell.to_string_lossy()).map_err(|message| arguments.wrong(message))?)
+        }
+        _ => manual::page(),
+    };
+    arguments.finish()?;
+    Ok(Task::Print(text))
+}
+
 /// A task of a command that has FILE, by the words behind the command's name.
 fn file_task(command: Command, words: &[OsString]) -> Result<Task, Usage> {
-    let (file, arguments) = Arguments::split_with_file(command, words)?;
-    match command {
-        Command::New => {
-            let words = arguments.whole(0)?;
-            arguments.finish()?;
-            Ok(Task::New { file, words })
+    let (file, mut arguments) = Arguments::split_with_file(command, words)?;
+    let settings = Settings::take(command, &mut arguments)?;
+    let job = job(command, &mut arguments, &settings)?;
+    arguments.finish()?;
+    Ok(Task::File { file, job, settings })
+}
+
+fn job(command: Command, arguments: &mut Arguments, settings: &Settings) -> Result<Job, Usage> {
+    Ok(match command {
+        Command::New => Job::New { words: arguments.whole(0)? },
+        Command::Resize => Job::Resize { words: arguments.whole(0)? },
+        Command::Import => {
+            let format = arguments.parsed("--format", Format::parse)?;
+            Job::Import { slot: arguments.whole(0)?, sheet: arguments.word(1)?, format }
         }
-        Command::Import | Command::Export => {
-            let (slot, sheet) = (arguments.whole(0)?, arguments.word(1)?);
-            arguments.finish()?;
-            Ok(match command {
-                Command::Import => Task::Import { file, slot, sheet },
-                _ => Task::Export { file, slot, sheet },
-            })
+        Command::Export => {
+            let format = arguments.parsed("--format", Format::parse)?;
+            Job::Export { slot: arguments.whole(0)?, sheet: arguments.word(1)?, format }
         }
-        Command::Print => {
-            arguments.finish()?;
-            Ok(Task::PrintSheet { sheet: file.into_os_string() })
+        Command::Merge => {
+            let format = arguments.parsed("--format", Format::parse)?;
+            let (mask, sheets) = (arguments.whole_option("--mask")?, arguments.words_from(1));
+            if sheets.iter().filter(|sheet| *sheet == "-").count() > 1 {
+                return Err(arguments.wrong("standard input, which is -, can be read only once"));
+            }
+            Job::Merge { slot: arguments.whole(0)?, sheets, mask, format }
         }
-        Command::Run => {
-            let script = arguments.word(0)?;
-            arguments.finish()?;
-            Ok(Task::Run { file, script })
+        Command::Copy => {
+            Job::Copy { slot: arguments.whole(0)?, other: arguments.word(1)?.into(), other_slot: arguments.whole(2)? }
         }
-        _ => Ok(Task::Call { file, call: Call::parse(command, arguments)? }),
+        Command::Convert => convert(arguments)?,
+        Command::Print => Job::PrintSheet,
+        Command::Run => Job::Run { script: arguments.word(0)? },
+        Command::Show => {
+            let (svg, html) = (arguments.file_option("--svg"), arguments.file_option("--html"));
+            match (svg.is_some() || html.is_some(), settings.json) {
+                (true, true) => {
+                    return Err(arguments.wrong("--json is printed, and --svg and --html are files: one of them"))
+                }
+                (true, false) => Job::Draw { slot: arguments.whole(0)?, svg, html },
+                (false, _) => Job::Call(Call::take(command, arguments)?),
+            }
+        }
+        _ => Job::Call(Call::take(command, arguments)?),
+    })
+}
+
+fn convert(arguments: &mut Arguments) -> Result<Job, Usage> {
+    let places = arguments.parsed("--places", IndexList::parse)?;
+    let to = arguments.file_option("--to").map(PathBuf::from);
+    if places.is_some() && to.is_none() {
+        return Err(arguments.wrong("--places goes with --to: what is not chosen would be lost"));
     }
+    Ok(Job::Convert { places, to })
 }
 
 /// The refusal of a sheet that is put into a place, or taken from it.
 fn refused(error: Error, slot: &Whole, store: &Store) -> Refusal {
-    Refusal::of_call(error, &Call::Show { slot: slot.clone() }, store)
-}
-
-/// Does some work on the shelf in a file. Whether the file was written.
-fn on_shelf(file: &Path, writes: bool, work: impl FnOnce(&mut Store) -> Result<(), Failure>) -> Result<bool, Failure> {
-    if writes {
-        shelf_file::update(file, work)
-    } else {
-        work(&mut shelf_file::read(file)?)?;
-        Ok(false)
-    }
+    Refusal::of_call(error, &Call::Revision { slot: slot.clone() }, store)
 }

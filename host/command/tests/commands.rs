@@ -2,15 +2,15 @@
 
 mod common;
 
-use common::{error_text, text, Folder, OSTRUBEL};
+use common::{error_text, revision_text, revision_words, sheet_words, text, Folder, OSTRUBEL};
 
 #[test]
 fn a_new_shelf() {
     let folder = Folder::new();
     folder.prints("new s 8", "s: 8 words, all places empty\n");
-    assert_eq!(folder.bytes("s"), [0; 32]);
+    assert_eq!(folder.words("s"), [0; 32]);
     folder.prints("new t 16384", "t: 16384 words, all places empty\n");
-    assert_eq!(folder.bytes("t"), [0; 65_536]);
+    assert_eq!(folder.words("t"), [0; 65_536]);
     assert_eq!(folder.names(), ["s", "t"]);
 }
 
@@ -23,7 +23,7 @@ fn lay_and_drop() {
     folder.prints("show s 2", "   0  1\n0  .  .\n");
     folder.prints("drop s 2", "place 2: empty\n");
     folder.prints("drop s 2", "place 2: empty\n");
-    assert_eq!(folder.bytes("s"), [0; 4000]);
+    assert_eq!(folder.words("s"), [0; 4000]);
 }
 
 #[test]
@@ -51,10 +51,11 @@ fn set_clear_and_read() {
 fn the_words_in_the_file() {
     let folder = Folder::with_shelf();
     folder.script("s", "lay 1 1 4\nset 1 0 3 -5\nset 1 0 0 10\nset 1 0 1 20\n");
-    let words = [0, 14, 2, 1, 4, 2, 0, 3, 3, 0, 1, 3, 3, 10, 20, 4_294_967_291];
+    let sheet = sheet_words(3, &[2, 1, 4, 2, 0, 3, 3, 0, 1, 3, 3, 10, 20, 4_294_967_291]);
+    let words = [&[0, sheet.len() as u32], &sheet[..]].concat();
     let mut bytes: Vec<u8> = words.iter().flat_map(|word: &u32| word.to_le_bytes()).collect();
     bytes.resize(4000, 0);
-    assert_eq!(folder.bytes("s"), bytes);
+    assert_eq!(folder.words("s"), bytes);
 }
 
 #[test]
@@ -62,10 +63,16 @@ fn show_and_list() {
     let folder = Folder::with_shelf();
     folder.script("s", "lay 0 2 3\nset 0 0 0 7\nset 0 1 2 -40\nlay 6 1 1\nset 6 0 0 1\n");
     folder.prints("show s 0", "   0  1    2\n0  7  .    .\n1  .  .  -40\n");
-    let list = "place 0: 2 by 3, 2 entries, 13 words\nplace 1: empty\nplace 2: empty\nplace 3: empty\nplace 4: empty\n\
-                place 5: empty\nplace 6: 1 by 1, 1 entry, 10 words\nplace 7: empty\n\
-                words: 31 used, 969 free, 1000 in all\n";
-    folder.prints("list s", list);
+    let more = revision_words().len();
+    let first = format!("place 0: 2 by 3, 2 entries, {} words{}\n", 13 + more, revision_text(2));
+    let second = format!("place 6: 1 by 1, 1 entry, {} words{}\n", 10 + more, revision_text(1));
+    let empty = |places: [u32; 5]| places.map(|place| format!("place {place}: empty\n")).concat();
+    let words = format!("words: {} used, {} free, 1000 in all\n", 31 + 2 * more, 969 - 2 * more);
+    folder.prints("list s", &format!("{first}{}{second}place 7: empty\n{words}", empty([1, 2, 3, 4, 5])));
+    let revision = if more == 0 { 0 } else { 2 };
+    folder.prints("revision s 0", &format!("{revision}\n"));
+    folder.prints("show s 0 --revision", &format!("   0  1    2\n0  7  .    .\n1  .  .  -40\nrevision {revision}\n"));
+    folder.refuses("revision s 1", 13, "place 1");
 }
 
 #[test]
@@ -302,8 +309,8 @@ fn what_the_help_says() {
                 "A sheet is a table of up to 1000 rows and 1000 columns, counted from 0;",
                 "An entry is a cell that has a value. A sheet has at most 2048 entries.",
                 "a new shelf of WORDS words (8 to 16384; 1000 will often do)",
-                "To merge place 1 into place 0, where the larger value stays: apply FILE 0 1 --op identity --accum max",
-                "Each command works within one shelf.",
+                "merge FILE PLACE SHEET.. merges such files into a place; the larger value stays",
+                "All that write a file take --dry-run: they show which cells would change, and save nothing.",
                 "3 a file or the output cannot be read or written; the message says whether the shelf was saved.",
             ][..],
         ),
@@ -312,12 +319,19 @@ fn what_the_help_says() {
         ("apply", &["may come in any order, and one of them again: C is the same."]),
         ("mxm", &["plus.times is the ordinary product; min.plus adds the two values and keeps the smallest sum."]),
         ("options", &["Options may stand anywhere behind the command", "--mask 3 and --mask=3 are the same."]),
-        ("show", &["A sheet of more than 60 rows, or one whose picture would be wider than 120 characters,"]),
+        (
+            "show",
+            &[
+                "A sheet of more than 60 rows, or one whose picture would be wider than the terminal,",
+                "Where the output is no terminal, the width is 120 characters.",
+            ],
+        ),
         (
             "new",
             &[
-                "truncate -s BYTES FILE",
-                "at most 65536 bytes",
+                "within a guard of 20 bytes",
+                "For more words: ostrubel resize.",
+                "Permissions, access lists and other extended attributes are kept, or nothing is saved.",
                 "write permission in the folder",
                 ".ostrubel-NUMBER-NUMBER.new",
                 "A second hard link to the file keeps the old words.",
@@ -332,14 +346,29 @@ fn what_the_help_says() {
     }
 }
 
-/// As the help about `new` says.
+/// As the help about `resize` says.
 #[test]
-fn a_shelf_is_lengthened_by_zero_bytes() {
+fn a_shelf_gets_more_words_or_fewer() {
     let folder = Folder::with_shelf();
     folder.script("s", "lay 0 2 2\nset 0 0 0 7\n");
-    assert!(folder.shell("truncate -s 65536 s").status.success());
-    assert!(folder.accept("list s").ends_with("words: 19 used, 16365 free, 16384 in all\n"));
+    let used = 1000 - free_words(&folder);
+    folder.prints("resize s 16384", "s: 16384 words\n");
+    assert_eq!(free_words(&folder), 16_384 - used);
+    folder.prints(&format!("resize s {used}"), &format!("s: {used} words\n"));
+    assert_eq!(free_words(&folder), 0);
     folder.prints("read s 0 0 0", "7\n");
+    let few = used - 1;
+    let sentence = format!("{used} words are used, and do not fit {few}: drop a sheet, or take more words.");
+    assert_eq!(folder.fails(&format!("resize s {few}"), 1), format!("refused (11): {sentence}\n"));
+    folder.refuses_12("resize s 16385", "A shelf has 8 to 16384 words, and not 16385.");
+    folder.refuses_12("resize s 7", "A shelf has 8 to 16384 words, and not 7.");
+}
+
+/// The free words that `list` tells.
+fn free_words(folder: &Folder) -> usize {
+    let list = folder.accept("list s");
+    let words = list.lines().last().unwrap().split(", ").nth(1).unwrap();
+    words.strip_suffix(" free").unwrap().parse().unwrap()
 }
 
 /// As the help about `show` says.
@@ -354,7 +383,7 @@ fn a_picture_or_a_list() {
     folder.prints("show s 3", "1 by 33, 0 entries\n");
 }
 
-/// To merge place 1 into place 0, as the first page says.
+/// To merge place 1 into place 0, as the help about `apply` says.
 #[test]
 fn merging_keeps_the_larger_value() {
     let folder = Folder::with_shelf();
@@ -378,11 +407,11 @@ fn merges_come_in_any_order() {
     }
 }
 
-/// The example of the first page is run as it stands, and shows the picture that stands there.
+/// The example of the help is run as it stands, and shows the picture that stands there.
 #[test]
 fn the_example_of_the_help() {
     let folder = Folder::new();
-    let help = folder.accept("help");
+    let help = folder.accept("help example");
     let indented: Vec<&str> = help.lines().filter_map(|line| line.strip_prefix("    ")).collect();
     let (lines, picture): (Vec<&str>, Vec<&str>) = indented.iter().partition(|line| line.starts_with("ostrubel "));
     assert_eq!((lines.len(), picture.len()), (9, 5));
@@ -396,9 +425,10 @@ fn the_example_of_the_help() {
 #[test]
 fn the_examples_of_all_pages() {
     let folder = Folder::new();
-    let mut lines = vec!["ostrubel new keys.shelf 5000".to_string()];
+    let mut lines = vec!["ostrubel new keys.shelf 5000; ostrubel new other.shelf 1000".to_string()];
+    folder.write("house.names", "row 2 medicine cupboard\n");
     let pages = "lay set clear read show list drop mxm vxm eWiseMult eWiseAdd apply extract select reduceRows assign \
-                 kronecker reduce doors run";
+                 kronecker reduce revision doors run export import diff merge copy resize convert names man";
     let shapes = [
         ("mxm", "0 4 4, 1 4 4"),
         ("vxm", "1 1 5, 2 5 3, 3 1 3"),
@@ -409,16 +439,22 @@ fn the_examples_of_all_pages() {
         ("doors", "0 2 3, 1 3 2, 2 1 2"),
         ("select", "0 5 4, 2 5 4"),
         ("reduceRows", "0 5 4, 3 1 5"),
+        ("export", "0 5 4, 1 5 4"),
+        ("merge", "0 5 4, 1 5 4"),
         ("assign", "0 1 4, 1 5 4"),
         ("kronecker", "0 2 3, 1 4 1, 2 8 3"),
     ];
     for name in pages.split(' ') {
         let laid = shapes.iter().filter(|(page, _)| *page == name).flat_map(|(_, shapes)| shapes.split(", "));
         lines.extend(laid.map(|shape| format!("ostrubel lay keys.shelf {shape}")));
+        if name == "merge" {
+            lines.push("ostrubel export keys.shelf 1 other.sheet".to_string());
+        }
         let page = folder.accept(&format!("help {name}"));
         let examples: Vec<String> = page
             .lines()
             .filter(|line| line.starts_with("    ostrubel ") || line.starts_with("    printf "))
+            .filter(|line| !line.contains("| man "))
             .map(str::to_string)
             .collect();
         assert!(!examples.is_empty(), "{name}");

@@ -23,17 +23,48 @@ fn long_output() -> Folder {
     folder
 }
 
+/// Of a call that only reads, the output is all there is; one that has saved is done.
 #[test]
-fn a_closed_pipe_is_no_failure() {
+fn a_closed_pipe() {
     let folder = long_output();
-    for line in
-        ["show s 0", "list s", "read s 0 0 0", "help", "--version", "set s 1 0 0 4", "new t 100", "run s script"]
-    {
+    for (line, status) in [
+        ("show s 0", 3),
+        ("list s", 3),
+        ("read s 0 0 0", 3),
+        ("help", 3),
+        ("--version", 3),
+        ("set s 1 0 0 4", 0),
+        ("set s 1 0 0 4 --dry-run", 3),
+        ("new t 100", 0),
+        ("run s script", 0),
+    ] {
         let output = run_closed(&folder, line);
-        assert_eq!((output.status.code(), output.stderr.as_slice()), (Some(0), &b""[..]), "{line}");
+        assert_eq!((output.status.code(), output.stderr.as_slice()), (Some(status), &b""[..]), "{line}");
     }
     folder.prints("read s 1 0 0", "5\n");
-    assert_eq!(folder.bytes("t").len(), 400);
+    assert_eq!(folder.words("t").len(), 400);
+}
+
+/// Standard output that is not there at all. To nowhere is somewhere.
+#[test]
+fn a_closed_output() {
+    let folder = long_output();
+    let closed = "standard output cannot be written: it is closed\n";
+    for (line, status, message) in [
+        ("ostrubel list s >&-", 3, format!("ostrubel: {closed}")),
+        ("ostrubel set s 1 0 0 4 >&-", 3, format!("ostrubel: the call was carried out, but {closed}")),
+        ("ostrubel list s > /dev/null", 0, String::new()),
+        ("ostrubel list s 1<> /dev/null", 0, String::new()),
+        ("ostrubel show s 7 >&- 2> /dev/null", 1, String::new()),
+    ] {
+        let output = folder.shell(line);
+        assert_eq!(
+            (output.status.code(), String::from_utf8(output.stderr).unwrap()),
+            (Some(status), message),
+            "{line}"
+        );
+    }
+    folder.prints("read s 1 0 0", "4\n");
 }
 
 #[test]
@@ -65,9 +96,8 @@ fn output_that_cannot_be_written() {
     let reason = "standard output cannot be written: No space left on device (os error 28)\n";
     for (line, done) in [
         ("set s 1 0 0 6", "the call was carried out, but "),
-        ("set s 1 0 0 6", ""),
+        ("drop s 7", ""),
         ("run s script", "the call was carried out, but "),
-        ("run s script", ""),
         ("new t 8", "the call was carried out, but "),
         ("show s 0", ""),
         ("help", ""),

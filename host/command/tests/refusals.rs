@@ -2,7 +2,7 @@
 
 mod common;
 
-use common::{error_text, text, Folder, OSTRUBEL};
+use common::{error_text, guarded, guarded_as, revision_words, text, Folder, OSTRUBEL};
 use std::fs;
 use std::os::unix::fs::symlink;
 
@@ -179,16 +179,20 @@ fn too_many_entries_are_10() {
 #[test]
 fn too_little_room_is_11() {
     let folder = Folder::new();
-    folder.accept("new s 27");
+    // Two sheets fill it.
+    let front = revision_words().len();
+    let all = 27 + 2 * front;
+    let used = |words: usize| format!("{words} of {all} words are used now");
+    folder.accept(&format!("new s {all}"));
     folder.accept("lay s 0 2 2");
-    folder.refuses("lay s 1 4 2", 11, "17 of 27 words are used now");
+    folder.refuses("lay s 1 7 2", 11, &used(17 + front));
     folder.accept("lay s 1 1 2");
     folder.accept("set s 1 0 0 3");
-    folder.refuses("set s 0 0 0 3", 11, "27 of 27 words are used now");
+    folder.refuses("set s 0 0 0 3", 11, &used(all));
     folder.refuses("apply s 0 0 --op abs --mask 7", 13, "place 7 (mask)");
     folder.accept("set s 1 0 0 4");
     folder.accept("lay s 0 1 2");
-    folder.refuses("lay s 2 1 2", 11, "26 of 27 words are used now");
+    folder.refuses("lay s 2 1 2", 11, &used(all - 1));
 }
 
 #[test]
@@ -216,12 +220,13 @@ fn a_new_shelf_overwrites_nothing() {
 #[test]
 fn damaged_files_are_12() {
     let folder = shelf();
-    let sound = folder.bytes("s");
+    let sound = folder.words("s");
     let changed = |position: usize, byte: u8| {
         let mut bytes = sound.clone();
         bytes[position] = byte;
         bytes
     };
+    let front = revision_words().len();
     let damaged: Vec<(&str, Vec<u8>)> = vec![
         ("no bytes", Vec::new()),
         ("7 words", vec![0; 28]),
@@ -230,21 +235,83 @@ fn damaged_files_are_12() {
         ("16,385 words", vec![0; 65_540]),
         ("a byte more than the longest", vec![0; 65_537]),
         ("1 MB", vec![0; 1 << 20]),
-        ("a count that is too large", changed(0, 14)),
-        ("1,027 columns", changed(13, 4)),
-        ("a row start that falls", changed(20, 200)),
+        ("a count that is too large", changed(0, 14 + front as u8)),
+        ("1,027 columns", changed(13 + 4 * front, 4)),
+        ("a row start that falls", changed(20 + 4 * front, 200)),
         ("a word behind the last section", changed(3999, 1)),
         ("a text", b"These are not the words of a shelf.\n".repeat(4)),
     ];
     for (what, bytes) in damaged {
         folder.write("s", &bytes);
-        let about = if bytes.len() > 65_536 { "more than 65536".to_string() } else { bytes.len().to_string() };
         folder.write("script", "# a story\nlay 0 2 2\n");
-        for line in ["list s", "read s 0 0 0", "show s 0", "set s 0 0 0 1", "lay s 9 0 0", "drop s 0", "run s script"] {
-            folder.refuses_12(line, &no_shelf(&about));
+        refuse_all(&folder, &no_shelf(&size(bytes.len())), what);
+        // The same words within a guard, where they are whole words.
+        if bytes.len() % 4 == 0 && bytes.len() < 65_536 {
+            folder.write("s", guarded(&bytes));
+            refuse_all(&folder, &no_shelf(&size(bytes.len() + 20)), what);
         }
-        assert_eq!(folder.bytes("s"), bytes, "{what}");
     }
+}
+
+fn size(bytes: usize) -> String {
+    if bytes > 65_556 {
+        "more than 65556".to_string()
+    } else {
+        bytes.to_string()
+    }
+}
+
+/// Each command is refused by 12 with this sentence, and the bytes stay.
+fn refuse_all(folder: &Folder, sentence: &str, what: &str) {
+    let bytes = folder.bytes("s");
+    for line in [
+        "list s",
+        "read s 0 0 0",
+        "show s 0",
+        "set s 0 0 0 1",
+        "set s 0 0 0 1 --dry-run",
+        "lay s 9 0 0",
+        "drop s 0",
+        "run s script",
+        "convert s",
+    ] {
+        folder.refuses_12(line, sentence);
+    }
+    assert_eq!(folder.bytes("s"), bytes, "{what}");
+}
+
+/// A file whose guard does not fit what is in it. A flipped bit made "lost" (14053) "returned" (14052) before there was one.
+#[test]
+fn a_damaged_guard_is_12() {
+    let folder = Folder::with_shelf();
+    folder.script("s", "lay 0 1 1\nset 0 0 0 14053\n");
+    folder.write("script", "lay 0 2 2\n");
+    let sound = folder.bytes("s");
+    let value = sound.windows(4).position(|word| word == 14_053_u32.to_le_bytes()).unwrap();
+    let flipped = |position: usize| {
+        let mut bytes = sound.clone();
+        bytes[position] ^= 1;
+        bytes
+    };
+    let checksum = "s is a damaged shelf: its checksum does not fit its words (4020 bytes); take a sound copy.";
+    let length =
+        |bytes| format!("s is a damaged shelf: it has bytes too many or too few ({bytes} bytes); take a sound copy.");
+    for (what, bytes, sentence) in [
+        ("a value", flipped(value), checksum.to_string()),
+        ("the version", flipped(8), checksum.to_string()),
+        ("the checksum", flipped(sound.len() - 1), checksum.to_string()),
+        ("the number of words", flipped(12), length(4020)),
+        ("the magic", flipped(3), no_shelf("4020")),
+        ("cut short", sound[..4000].to_vec(), length(4000)),
+        ("a byte more", [&sound[..], &[0]].concat(), length(4021)),
+        ("a word more", [&sound[..], &[0; 4]].concat(), length(4024)),
+        ("the front alone", sound[..16].to_vec(), length(16)),
+    ] {
+        folder.write("s", bytes);
+        refuse_all(&folder, &sentence, what);
+    }
+    folder.write("s", guarded_as(77, &[0; 400]));
+    refuse_all(&folder, "s is a shelf of version 77, which this command does not know: take a later one.", "version");
 }
 
 fn no_shelf(bytes: &str) -> String {
@@ -284,7 +351,6 @@ fn wrong_usage() {
         ("-h extra", "-h: \"extra\" is one word too many (see: ostrubel help)"),
         ("--help extra", "--help: \"extra\" is one word too many (see: ostrubel help)"),
         ("--version extra", "--version: \"extra\" is one word too many (see: ostrubel help)"),
-        ("mxm --help extra", "help: one command at a time (see: ostrubel help)"),
         ("mxm --semiring plus.times", "mxm: FILE is missing; write: ostrubel mxm FILE C A B --semiring ADD.MULTIPLY (see: ostrubel help mxm)"),
         ("show s 0 -- --replace", "show: \"--replace\" is one word too many; write: ostrubel show FILE PLACE (see: ostrubel help show)"),
         ("list", "list: FILE is missing; write: ostrubel list FILE (see: ostrubel help list)"),

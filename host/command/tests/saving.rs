@@ -2,7 +2,7 @@
 
 mod common;
 
-use common::{error_text, text, Folder, OSTRUBEL};
+use common::{error_text, revision_text, revision_words, text, Folder, OSTRUBEL};
 use std::fs::{self, Permissions};
 use std::os::unix::fs::{chown, symlink, MetadataExt, PermissionsExt};
 use std::os::unix::process::ExitStatusExt;
@@ -28,15 +28,23 @@ fn a_write_replaces_the_file() {
     assert_eq!(folder.names(), ["s"]);
 }
 
-/// A call that is accepted but changes no word does not write the file again.
+/// A call that is accepted but changes no word does not write the file again. One that writes into a sheet raises its
+/// revision, where sheets have one.
 #[test]
 fn a_call_that_changes_nothing_saves_nothing() {
     let folder = shelf();
     folder.accept("set s 0 1 1 5");
     let before = folder.state("s");
-    for line in ["set s 0 1 1 5", "clear s 0 2 2", "drop s 4", "apply s 0 0 --op abs"] {
+    for line in ["drop s 4", "drop s 4 --dry-run", "set s 0 1 1 5 --dry-run"] {
         folder.accept(line);
         assert_eq!(folder.state("s"), before, "{line}");
+    }
+    for line in ["set s 0 1 1 5", "clear s 0 2 2", "apply s 0 0 --op abs"] {
+        let (before, revision) = (folder.state("s"), folder.accept("revision s 0"));
+        folder.accept(line);
+        let has_revisions = !revision_words().is_empty();
+        assert_eq!(folder.state("s") != before, has_revisions, "{line}");
+        assert_eq!(folder.accept("revision s 0") != revision, has_revisions, "{line}");
     }
 }
 
@@ -80,7 +88,8 @@ fn names_of_new_files_that_are_taken() {
     let folder = shelf();
     let output = folder.shell("mkdir .ostrubel-$$-0.new; touch .ostrubel-$$-1.new; exec ostrubel set s 0 1 1 5");
     assert_eq!((output.status.code(), text(&output).as_str()), (Some(0), "place 0: 1 entry\n"));
-    assert_eq!(folder.names().len(), 3);
+    // The file was left over, and has gone; the folder stays.
+    assert_eq!(folder.names().len(), 2);
 
     let before = folder.state("s");
     let all_taken =
@@ -89,7 +98,7 @@ fn names_of_new_files_that_are_taken() {
     let message = "ostrubel: s: not saved, and as it was before: File exists (os error 17)\n";
     assert_eq!((output.status.code(), error_text(&output).as_str()), (Some(3), message));
     assert_eq!(folder.state("s"), before);
-    assert_eq!(folder.names().len(), 103);
+    assert_eq!(folder.names().len(), 102);
 }
 
 #[test]
@@ -157,7 +166,7 @@ fn concurrent_sets_are_all_there() {
                 let folder = &folder;
                 let name = if row % 2 == 0 { "s" } else { "link" };
                 scope.spawn(move || {
-                    (0..CELLS).for_each(|col| drop(folder.accept(&format!("set {name} 0 {row} {col} 1"))))
+                    (0..CELLS).for_each(|col| set_patiently(folder, &format!("set {name} 0 {row} {col} 1")))
                 })
             })
             .collect();
@@ -175,11 +184,20 @@ fn concurrent_sets_are_all_there() {
     assert_eq!(folder.names(), ["link", "s"]);
 }
 
+/// Runs a command that has to be accepted. On a busy machine it may say that it waits.
+fn set_patiently(folder: &Folder, line: &str) {
+    let output = folder.run(line);
+    let message = error_text(&output);
+    assert!(output.status.success(), "{line}: {message}");
+    assert!(message.lines().all(|line| line.contains(": waiting for another command that has it")), "{message}");
+}
+
 fn list_with(entries: usize) -> String {
-    let words = 9 + 2 * entries + 7;
+    let words = 9 + 2 * entries + 7 + revision_words().len();
+    let revision = revision_text(entries as u32);
     let empty: String = (1..8).map(|place| format!("place {place}: empty\n")).collect();
     let (used, free) = (8 + words, 1000 - 8 - words);
-    format!("place 0: 9 by 9, {entries} entries, {words} words\n{empty}words: {used} used, {free} free, 1000 in all\n")
+    format!("place 0: 9 by 9, {entries} entries, {words} words{revision}\n{empty}words: {used} used, {free} free, 1000 in all\n")
 }
 
 /// Several `new` at once: one makes the shelf, the others are turned away.
@@ -199,7 +217,7 @@ fn concurrent_news_make_one_shelf() {
     });
     let made: Vec<usize> = (0..8).filter(|number| outputs[*number].status.success()).collect();
     assert_eq!(made.len(), 1);
-    assert_eq!(folder.bytes("s").len(), 4 * (100 + made[0]));
+    assert_eq!(folder.words("s").len(), 4 * (100 + made[0]));
     assert!(outputs.iter().all(|output| [Some(0), Some(3)].contains(&output.status.code())));
 }
 

@@ -2,7 +2,7 @@
 
 mod common;
 
-use common::{error_text, text, Folder};
+use common::{error_text, sheet_words, text, Folder};
 
 const STRIP: [u32; 14] = [2, 1, 4, 2, 0, 3, 3, 0, 1, 3, 3, 10, 20, 40];
 const STRIP_TEXT: &str = "1 4 3\n0 0 10\n0 1 20\n0 3 40\n";
@@ -22,7 +22,7 @@ fn with_strip() -> Folder {
 fn out_and_in_again() {
     let folder = with_strip();
     folder.prints("export s 0 strip", "strip: 1 by 4, 3 entries\n");
-    assert_eq!(folder.bytes("strip"), bytes(&STRIP));
+    assert_eq!(folder.bytes("strip"), bytes(&sheet_words(3, &STRIP)));
     folder.prints("print strip", STRIP_TEXT);
     folder.prints("import s 5 strip", "place 5: 1 by 4, 3 entries\n");
     assert_eq!(folder.accept("show s 5"), folder.accept("show s 0"));
@@ -40,7 +40,9 @@ fn through_pipes() {
         (format!("place 1: 1 by 4, 3 entries\n{STRIP_TEXT}"), String::new())
     );
     // a byte at a time
-    let slowly = "i=0; while [ $i -lt 56 ]; do dd bs=1 count=1 skip=$i if=strip status=none; i=$((i + 1)); done";
+    let size = bytes(&sheet_words(3, &STRIP)).len();
+    let slowly =
+        format!("i=0; while [ $i -lt {size} ]; do dd bs=1 count=1 skip=$i if=strip status=none; i=$((i + 1)); done");
     let output = folder.shell(&format!("ostrubel export s 0 strip > out && ({slowly}) | ostrubel print -"));
     assert_eq!((text(&output), error_text(&output)), (STRIP_TEXT.to_string(), String::new()));
 }
@@ -60,7 +62,7 @@ fn no_sheet_file_is_refused_with_15() {
         ("long", &[&file[..], &[0]].concat(), "57 bytes"),
         ("words", &[&file[..], &[0; 4]].concat(), "60 bytes"),
         ("damaged", &other, "56 bytes"),
-        ("zeros", &long, "more than 20412 bytes"),
+        ("zeros", &long, &format!("more than {} bytes", ostrubel::MAX_FILE_BYTES)),
     ] {
         folder.write(name, bytes);
         let sentence =
@@ -83,7 +85,7 @@ fn places_and_room() {
     folder.accept("new small 20");
     let output = folder.run("import small 0 strip");
     assert!(error_text(&output).starts_with("refused (11): "), "{}", error_text(&output));
-    assert_eq!(folder.bytes("small"), [0; 80]);
+    assert_eq!(folder.words("small"), [0; 80]);
 }
 
 #[test]

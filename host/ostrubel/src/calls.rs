@@ -5,11 +5,12 @@
 //! mutably. Any numbers and any words may be passed.
 
 mod c {
-    extern "C" {
+    unsafe extern "C" {
         pub fn ostrubel_check(words: *const u32, n: usize) -> u64;
         pub fn ostrubel_new_empty(rows: u32, cols: u32, buffer: *mut u32, n: usize) -> u64;
         pub fn ostrubel_read_cell(i: u32, j: u32, words: *const u32, n: usize) -> u64;
         pub fn ostrubel_reduce(monoid: u32, words: *const u32, n: usize) -> u64;
+        pub fn ostrubel_revision(words: *const u32, n: usize) -> u64;
         pub fn ostrubel_row_view(
             i: u32,
             values: u32,
@@ -61,6 +62,11 @@ pub fn read_cell(i: u32, j: u32, words: &[u32]) -> u64 {
 /// All values of the matrix added up with a monoid.
 pub fn reduce(monoid: u32, words: &[u32]) -> u64 {
     unsafe { c::ostrubel_reduce(monoid, words.as_ptr(), words.len()) }
+}
+
+/// The revision of the matrix.
+pub fn revision(words: &[u32]) -> u64 {
+    unsafe { c::ostrubel_revision(words.as_ptr(), words.len()) }
 }
 
 /// Where row i over two matrices lies: its column numbers where `values` is 0, else its values. The answer has no code:
@@ -122,7 +128,7 @@ macro_rules! operation {
         $(#[$about:meta])* $lent:ident $c_lent:ident $store:ident $c_store:ident,
         [$($number:ident),*], [$($input:ident $count:ident),*], [$($slot:ident),*], [$($list:ident $length:ident),*]
     ) => {
-        extern "C" {
+        unsafe extern "C" {
             fn $c_lent(
                 flags: u32, has_mask: u32, has_accumulator: u32, accumulator: u32, $($number: u32,)*
                 $($input: *const u32, $count: usize,)* $($list: *const u32, $length: usize,)*
@@ -184,7 +190,7 @@ operation!(
 /// A product by the first of the library's two engines, on lent matrices: the C function and a safe function.
 macro_rules! product_by_places {
     ($(#[$about:meta])* $lent:ident $c_lent:ident) => {
-        extern "C" {
+        unsafe extern "C" {
             fn $c_lent(
                 flags: u32, has_mask: u32, has_accumulator: u32, accumulator: u32, monoid: u32, op: u32,
                 a: *const u32, a_n: usize, b: *const u32, b_n: usize,
@@ -235,7 +241,7 @@ operation!(
     extract ostrubel_extract store_extract ostrubel_store_extract, [], [a a_n], [a], [is is_n, js js_n]
 );
 
-extern "C" {
+unsafe extern "C" {
     fn ostrubel_open_doors(
         allowance: u32,
         locks: *const u32,
@@ -293,3 +299,75 @@ operation!(
     /// At (i p + k, j q + l) op of A's value at (i, j) and B's at (k, l), where B has p rows and q columns.
     kronecker ostrubel_kronecker store_kronecker ostrubel_store_kronecker, [op], [a a_n, b b_n], [a, b], []
 );
+
+unsafe extern "C" {
+    fn ostrubel_day_rewrite(
+        i: u32,
+        row: *const u32,
+        row_n: usize,
+        day: *mut u32,
+        day_n: usize,
+        marks: *mut u32,
+        marks_n: usize,
+    ) -> u64;
+    fn ostrubel_day_back(i: u32, day: *mut u32, day_n: usize, marks: *mut u32, marks_n: usize) -> u64;
+    fn ostrubel_day_read(
+        i: u32,
+        j: u32,
+        base: *const u32,
+        base_n: usize,
+        day: *const u32,
+        day_n: usize,
+        marks: *const u32,
+        marks_n: usize,
+    ) -> u64;
+    fn ostrubel_day_fold(
+        base: *const u32,
+        base_n: usize,
+        day: *const u32,
+        day_n: usize,
+        marks: *const u32,
+        marks_n: usize,
+        out: *mut u32,
+        out_n: usize,
+    ) -> u64;
+    fn ostrubel_day_show(
+        i: u32,
+        values: u32,
+        base: *const u32,
+        base_n: usize,
+        day: *const u32,
+        day_n: usize,
+        marks: *const u32,
+        marks_n: usize,
+    ) -> u64;
+}
+
+/// Row i of the day matrix becomes `row`, and is marked with 1.
+pub fn day_rewrite(i: u32, row: &[u32], day: &mut [u32], marks: &mut [u32]) -> u64 {
+    let (day_words, mark_words) = (day.as_mut_ptr(), marks.as_mut_ptr());
+    unsafe { ostrubel_day_rewrite(i, row.as_ptr(), row.len(), day_words, day.len(), mark_words, marks.len()) }
+}
+
+/// Row i of the day matrix becomes empty, and its mark goes, if there is one.
+pub fn day_back(i: u32, day: &mut [u32], marks: &mut [u32]) -> u64 {
+    unsafe { ostrubel_day_back(i, day.as_mut_ptr(), day.len(), marks.as_mut_ptr(), marks.len()) }
+}
+
+/// The cell at row i and column j, of the day matrix where the row is marked, else of the base matrix.
+pub fn day_read(i: u32, j: u32, base: &[u32], day: &[u32], marks: &[u32]) -> u64 {
+    let (base, base_n) = (base.as_ptr(), base.len());
+    unsafe { ostrubel_day_read(i, j, base, base_n, day.as_ptr(), day.len(), marks.as_ptr(), marks.len()) }
+}
+
+/// Both as one new matrix at the front of `out`.
+pub fn day_fold(base: &[u32], day: &[u32], marks: &[u32], out: &mut [u32]) -> u64 {
+    let ((base, base_n), (day, day_n)) = ((base.as_ptr(), base.len()), (day.as_ptr(), day.len()));
+    unsafe { ostrubel_day_fold(base, base_n, day, day_n, marks.as_ptr(), marks.len(), out.as_mut_ptr(), out.len()) }
+}
+
+/// Where row i lies as it is shown, as [`row_view`] says it; the second matrix is the day matrix.
+pub fn day_show(i: u32, values: u32, base: &[u32], day: &[u32], marks: &[u32]) -> u64 {
+    let (base, base_n) = (base.as_ptr(), base.len());
+    unsafe { ostrubel_day_show(i, values, base, base_n, day.as_ptr(), day.len(), marks.as_ptr(), marks.len()) }
+}

@@ -4,6 +4,7 @@ use crate::limits::{
     MAX_ALLOWANCE, MAX_COLS, MAX_ENTRIES, MAX_FILE_BYTES, MAX_INDEXES, MAX_ROWS, MAX_STORE_WORDS, MIN_STORE_WORDS,
     SLOTS, WORKSPACE_WORDS,
 };
+use crate::operators::{BinaryOp, IndexUnaryOp, Monoid, SelectOp, UnaryOp};
 use std::borrow::Cow;
 use std::fmt;
 
@@ -92,12 +93,16 @@ impl Error {
             Error::FlagsOutOfRange => {
                 "The flags are above 31: add up only 1, 2, 4, 8 and 16, each at most once.".into()
             }
-            Error::UnknownOperator => {
-                "There is no such operator: choose among FIRST, SECOND, ONEB, PLUS, MINUS, TIMES, MIN and MAX for two \
-                 values (to add up: PLUS, TIMES, MIN, MAX), IDENTITY, AINV, ABS, LNOT and ONE for one, and ROWINDEX, \
-                 COLINDEX and DIAGINDEX for rows and columns."
-                    .into()
-            }
+            Error::UnknownOperator => format!(
+                "There is no such operator: choose among {} for two values (to add up: {}), {} for one, {} for rows \
+                 and columns, and {} to select by.",
+                listed(BinaryOp::ALL.iter().map(|op| op.name())),
+                listed(Monoid::ALL.iter().map(|op| op.name())),
+                listed(UnaryOp::ALL.iter().map(|op| op.name())),
+                listed(IndexUnaryOp::ALL.iter().map(|op| op.name())),
+                listed(SelectOp::ALL.iter().map(|op| op.name())),
+            )
+            .into(),
             Error::InvalidFirst => {
                 "The sheet, or the first of two, is damaged: take a sound copy of it, or write it anew.".into()
             }
@@ -143,6 +148,16 @@ impl Error {
     }
 }
 
+/// Names one after the other: `A, B and C`.
+fn listed(names: impl Iterator<Item = &'static str>) -> String {
+    let names: Vec<&str> = names.collect();
+    match names.split_last() {
+        Some((last, others)) if !others.is_empty() => format!("{} and {last}", others.join(", ")),
+        _ => names.concat(),
+    }
+}
+
+/// What is wrong and what to do about it, in a sentence or two.
 impl fmt::Display for Error {
     fn fmt(&self, f: &mut fmt::Formatter<'_>) -> fmt::Result {
         f.pad(&self.sentence())
@@ -150,3 +165,32 @@ impl fmt::Display for Error {
 }
 
 impl std::error::Error for Error {}
+
+#[cfg(test)]
+mod tests {
+    use super::*;
+
+    #[test]
+    fn the_sentence_for_2_names_every_operator() {
+        let sentence = Error::UnknownOperator.to_string();
+        let names = [
+            ("two values", BinaryOp::ALL.iter().map(|op| op.name()).collect::<Vec<_>>()),
+            ("to add up", Monoid::ALL.iter().map(|op| op.name()).collect()),
+            ("one", UnaryOp::ALL.iter().map(|op| op.name()).collect()),
+            ("rows", IndexUnaryOp::ALL.iter().map(|op| op.name()).collect()),
+            ("select", SelectOp::ALL.iter().map(|op| op.name()).collect()),
+        ];
+        for (kind, names) in names {
+            assert!(sentence.contains(kind));
+            for name in names {
+                assert!(sentence.split([' ', ',', ':', '(', ')']).any(|word| word == name), "{name}");
+            }
+        }
+    }
+
+    #[test]
+    fn names_are_listed() {
+        assert_eq!(listed(["A", "B", "C"].into_iter()), "A, B and C");
+        assert_eq!(listed(["A"].into_iter()), "A");
+    }
+}

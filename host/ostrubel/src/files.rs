@@ -4,8 +4,8 @@ use crate::{answer, calls};
 use crate::{Error, Matrix, MAX_FILE_BYTES, MAX_MATRIX_WORDS, MAX_TEXT_BYTES};
 use std::io::{self, Read, Write};
 
-/// A file is the words of a matrix and nothing more, four bytes each, the lowest byte first. A matrix has one file, and
-/// each file one matrix.
+/// A file is the words of a matrix and nothing more, four bytes each, the lowest byte first. A matrix with its revision has
+/// one file. Files of the form before revisions, which begin with 2, are read too: their matrix has revision 0.
 impl Matrix {
     /// The bytes of the matrix's file.
     ///
@@ -15,7 +15,7 @@ impl Matrix {
     /// let matrix = Matrix::from_triples(2, 3, [(0, 2, 7), (1, 0, -5)])?;
     /// let bytes = matrix.to_bytes();
     /// assert_eq!(bytes.len(), 4 * matrix.words().len());
-    /// assert_eq!(bytes[..8], [2, 0, 0, 0, 2, 0, 0, 0]);
+    /// assert_eq!(bytes[..12], [1, 0, 0, 0, 0, 0, 0, 0, 2, 0, 0, 0]);
     /// assert_eq!(Matrix::from_bytes(&bytes)?, matrix);
     /// # Ok::<(), Error>(())
     /// ```

@@ -1,19 +1,30 @@
 //! Where the parts of a matrix and of a store stand in their words. What reads them is for words that the library has
 //! accepted.
 //!
-//! A matrix of R rows, C columns and N entries is 2, R, C; R+1 and the row starts; N and the column numbers; N and the
-//! values. A store is, slot by slot, a count of words and the matrix, then zeros.
+//! A matrix of R rows, C columns and N entries is 1 and the revision; 2, R, C; R+1 and the row starts; N and the column
+//! numbers; N and the values. A store is, slot by slot, a count of words and the matrix, then zeros.
 
 use crate::SLOTS;
 use std::ops::Range;
 
-const ROWS_AT: usize = 1;
-const COLS_AT: usize = 2;
-const STARTS_AT: usize = 4;
+const REVISION_AT: usize = 1;
+const GRID_AT: usize = 2;
+const ROWS_AT: usize = 3;
+const COLS_AT: usize = 4;
+const STARTS_AT: usize = 6;
 
 /// The words of a matrix of so many rows and entries.
 pub const fn size_of(rows: usize, entries: usize) -> usize {
-    rows + 2 * entries + 7
+    rows + 2 * entries + 9
+}
+
+pub fn revision(words: &[u32]) -> u32 {
+    words[REVISION_AT]
+}
+
+/// The words of shape and entries: all but the revision's. Equal grids have equal ones.
+pub fn grid(words: &[u32]) -> &[u32] {
+    &words[GRID_AT..]
 }
 
 pub fn rows(words: &[u32]) -> u32 {
@@ -55,10 +66,10 @@ fn columns_at(words: &[u32]) -> usize {
     STARTS_AT + rows(words) as usize + 2
 }
 
-/// The words of a matrix whose entries are given row by row, in rising columns.
+/// The words of a matrix of revision 0, whose entries are given row by row, in rising columns.
 pub fn encode(rows: u32, cols: u32, entries: &[(u32, u32, i32)]) -> Vec<u32> {
     let mut words = Vec::with_capacity(size_of(rows as usize, entries.len()));
-    words.extend([2, rows, cols, rows + 1]);
+    words.extend([1, 0, 2, rows, cols, rows + 1]);
     words.extend((0..=rows).map(|i| entries.partition_point(|&(row, ..)| row < i) as u32));
     words.push(entries.len() as u32);
     words.extend(entries.iter().map(|&(_, col, _)| col));

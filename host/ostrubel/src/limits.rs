@@ -21,8 +21,8 @@ pub const MIN_STORE_WORDS: usize = 8;
 /// The words of the longest store.
 pub const MAX_STORE_WORDS: usize = 16_384;
 
-/// The words of the largest matrix: its rows, twice its entries, and 7.
-pub const MAX_MATRIX_WORDS: usize = MAX_ROWS as usize + 2 * MAX_ENTRIES + 7;
+/// The words of the largest matrix: its rows, twice its entries, and 9.
+pub const MAX_MATRIX_WORDS: usize = MAX_ROWS as usize + 2 * MAX_ENTRIES + 9;
 
 /// The words that an operation needs to work in: three of the largest matrices. `Matrix` and `Store` provide them.
 pub const WORKSPACE_WORDS: usize = 3 * MAX_MATRIX_WORDS;

@@ -1,9 +1,11 @@
 //! Matrices that own their words.
 
 use crate::{answer, calls, layout, picture, workspace};
-use crate::{Entries, Error, Monoid, MAX_ENTRIES, MAX_MATRIX_WORDS, MAX_ROWS};
+use crate::{ApplyOp, Entries, Error, IntoEntries, Monoid, Options, UnaryOp};
+use crate::{MAX_ENTRIES, MAX_MATRIX_WORDS, MAX_ROWS, SLOTS};
 use std::collections::BTreeMap;
 use std::fmt;
+use std::hash::{Hash, Hasher};
 
 /// What a row view shows of a row.
 #[derive(Clone, Copy, Debug, PartialEq, Eq, Hash)]
@@ -34,7 +36,7 @@ pub enum Found {
 /// A sparse matrix of whole numbers: each cell has a value or none, and a value of 0 is a value.
 ///
 /// It has 1 to [`MAX_ROWS`] rows, 1 to [`MAX_COLS`](crate::MAX_COLS) columns and at most [`MAX_ENTRIES`] entries. Two
-/// matrices are equal where their shapes and all their cells are.
+/// matrices are equal where their shapes and all their cells are, whatever their revisions ([`Matrix::revision`]).
 ///
 /// `Display` draws the cells, or lists the entries of a matrix that is too wide or too long for a page.
 ///
@@ -47,7 +49,7 @@ pub enum Found {
 /// assert_eq!(matrix.to_string(), "    0   1  2   3\n0  10  20  .   .\n1   .   .  .  -5");
 /// # Ok::<(), Error>(())
 /// ```
-#[derive(Clone, Debug, PartialEq, Eq, Hash)]
+#[derive(Clone, Debug, Eq)]
 pub struct Matrix {
     /// Exactly the words of one valid matrix.
     words: Vec<u32>,
@@ -62,8 +64,7 @@ impl Matrix {
     pub fn new(rows: u32, cols: u32) -> Result<Matrix, Error> {
         let mut words = vec![0; layout::size_of(MAX_ROWS as usize, 0)];
         answer::entries(calls::new_empty(rows, cols, &mut words))?;
-        words.truncate(layout::size(&words));
-        Ok(Matrix { words })
+        Ok(Matrix::at_front(words))
     }
 
     /// A matrix with entries given as (row, column, value), in any order.
@@ -109,7 +110,7 @@ impl Matrix {
     /// ```
     /// use ostrubel::{Error, Matrix};
     ///
-    /// let vector = Matrix::from_words(&[2, 1, 4, 2, 0, 3, 3, 0, 1, 3, 3, 10, 20, 40])?;
+    /// let vector = Matrix::from_words(&[1, 0, 2, 1, 4, 2, 0, 3, 3, 0, 1, 3, 3, 10, 20, 40])?;
     /// assert_eq!(vector.to_triples(), [(0, 0, 10), (0, 1, 20), (0, 3, 40)]);
     /// # Ok::<(), Error>(())
     /// ```
@@ -122,6 +123,13 @@ impl Matrix {
         Ok(Matrix { words: words[..layout::size(words)].to_vec() })
     }
 
+    /// The matrix at the front of words that the library has accepted. What it does not need is given back.
+    fn at_front(mut words: Vec<u32>) -> Matrix {
+        words.truncate(layout::size(&words));
+        words.shrink_to_fit();
+        Matrix { words }
+    }
+
     /// The words of the matrix, as `include/ostrubel.h` describes them.
     pub fn words(&self) -> &[u32] {
         &self.words
@@ -130,6 +138,25 @@ impl Matrix {
     /// The words of the matrix.
     pub fn into_words(self) -> Vec<u32> {
         self.words
+    }
+
+    /// The revision: 0 of a matrix that was made, and one more after each accepted call that wrote into it, also where no
+    /// cell changed. After `u32::MAX` comes 0. A file has it too.
+    ///
+    /// ```
+    /// use ostrubel::{Error, Matrix};
+    ///
+    /// let mut keys = Matrix::new(2, 3)?;
+    /// keys.set(1, 2, 40)?;
+    /// keys.clear(0, 0)?; // there was nothing
+    /// assert_eq!(keys.revision(), 2);
+    /// assert_eq!(keys.set(2, 0, 7), Err(Error::IndexOutOfBounds));
+    /// assert_eq!(keys.revision(), 2);
+    /// assert_eq!(keys, Matrix::from_triples(2, 3, [(1, 2, 40)])?); // of revision 0
+    /// # Ok::<(), Error>(())
+    /// ```
+    pub fn revision(&self) -> u32 {
+        layout::revision(&self.words)
     }
 
     /// The number of rows.
@@ -174,6 +201,66 @@ impl Matrix {
     /// ```
     pub fn find(&self, i: u32, j: u32) -> Result<Found, Error> {
         answer::found(calls::read_cell(i, j, &self.words))
+    }
+
+    /// Gives the cell at row i and column j a value, whatever it had, and answers the entries of the matrix.
+    ///
+    /// ```
+    /// use ostrubel::{Error, Matrix};
+    ///
+    /// let mut keys = Matrix::new(2, 3)?;
+    /// assert_eq!(keys.set(1, 2, 40)?, 1);
+    /// assert_eq!(keys.set(1, 2, 0)?, 1);
+    /// assert_eq!(keys.get(1, 2)?, Some(0));
+    /// assert_eq!(keys.set(2, 0, 7), Err(Error::IndexOutOfBounds));
+    /// # Ok::<(), Error>(())
+    /// ```
+    ///
+    /// # Errors
+    ///
+    /// `IndexOutOfBounds` for a cell outside the matrix; `TooManyEntries` where the cell has no value and the matrix
+    /// has [`MAX_ENTRIES`] entries.
+    pub fn set(&mut self, i: u32, j: u32, value: i32) -> Result<usize, Error> {
+        self.write_in_store(|store| calls::store_set_cell(0, i, j, value as u32, store))
+    }
+
+    /// Takes the value of the cell at row i and column j away, if it has one, and answers the entries of the matrix.
+    ///
+    /// ```
+    /// use ostrubel::{Error, Matrix};
+    ///
+    /// let mut keys = Matrix::from_triples(2, 3, [(0, 0, 5), (1, 2, 40)])?;
+    /// assert_eq!(keys.clear(1, 2)?, 1);
+    /// assert_eq!(keys.clear(1, 2)?, 1);
+    /// assert_eq!(keys.to_triples(), [(0, 0, 5)]);
+    /// # Ok::<(), Error>(())
+    /// ```
+    ///
+    /// # Errors
+    ///
+    /// `IndexOutOfBounds` for a cell outside the matrix.
+    pub fn clear(&mut self, i: u32, j: u32) -> Result<usize, Error> {
+        self.write_in_store(|store| calls::store_clear_cell(0, i, j, store))
+    }
+
+    /// A matrix with rows and columns exchanged: [`Matrix::apply`] of IDENTITY with
+    /// [`transpose_first`](Options::transpose_first), into a new one, whose revision is then 1.
+    ///
+    /// ```
+    /// use ostrubel::{Error, Matrix};
+    ///
+    /// let matrix = Matrix::from_triples(2, 3, [(0, 2, 7), (1, 0, -5)])?;
+    /// let transposed = matrix.transpose();
+    /// assert_eq!((transposed.rows(), transposed.cols()), (3, 2));
+    /// assert_eq!(transposed.to_triples(), [(0, 1, -5), (2, 0, 7)]);
+    /// assert_eq!(transposed.transpose().to_triples(), matrix.to_triples());
+    /// # Ok::<(), Error>(())
+    /// ```
+    pub fn transpose(&self) -> Matrix {
+        let mut transposed = Matrix::new(self.cols(), self.rows()).expect("as many rows are allowed as columns");
+        let identity = ApplyOp::Unary(UnaryOp::Identity);
+        transposed.apply(identity, self, &Options::new().transpose_first()).expect("its shape and as many entries");
+        transposed
     }
 
     /// All values added up with a monoid. Of a matrix with no entries it is the monoid's identity: 0 for PLUS, 1 for TIMES,
@@ -238,11 +325,57 @@ impl Matrix {
     pub(crate) fn write(&mut self, call: impl FnOnce(&mut [u32], &mut [u32]) -> u64) -> Result<usize, Error> {
         self.words.resize(MAX_MATRIX_WORDS, 0);
         let answer = workspace::lend(|work| call(&mut self.words, work));
-        self.words.truncate(layout::size(&self.words));
+        *self = Matrix::at_front(std::mem::take(&mut self.words));
         answer::entries(answer)
+    }
+
+    /// Lends the matrix as slot 0 of a store that has room for one entry more, to a call on a cell of it. Answers the
+    /// entries of the matrix.
+    fn write_in_store(&mut self, call: impl FnOnce(&mut [u32]) -> u64) -> Result<usize, Error> {
+        let mut sections = [&[][..]; SLOTS];
+        sections[0] = &self.words;
+        let mut store = layout::encode_sections(&sections);
+        store.extend([0; 2]);
+        let entries = answer::entries(call(&mut store))?;
+        self.words = layout::sections(&store)[0].to_vec();
+        Ok(entries)
     }
 }
 
+/// Of shapes and cells, and not of revisions.
+impl PartialEq for Matrix {
+    fn eq(&self, other: &Matrix) -> bool {
+        layout::grid(&self.words) == layout::grid(&other.words)
+    }
+}
+
+/// Of the shape and the cells.
+impl Hash for Matrix {
+    fn hash<H: Hasher>(&self, state: &mut H) {
+        layout::grid(&self.words).hash(state);
+    }
+}
+
+/// [`Matrix::from_words`].
+impl TryFrom<&[u32]> for Matrix {
+    type Error = Error;
+
+    fn try_from(words: &[u32]) -> Result<Matrix, Error> {
+        Matrix::from_words(words)
+    }
+}
+
+/// The entries, as [`Matrix::iter`] gives them.
+impl IntoIterator for Matrix {
+    type Item = (u32, u32, i32);
+    type IntoIter = IntoEntries;
+
+    fn into_iter(self) -> IntoEntries {
+        IntoEntries::new(self.words)
+    }
+}
+
+/// The entries, as [`Matrix::iter`] gives them.
 impl<'a> IntoIterator for &'a Matrix {
     type Item = (u32, u32, i32);
     type IntoIter = Entries<'a>;
@@ -252,6 +385,7 @@ impl<'a> IntoIterator for &'a Matrix {
     }
 }
 
+/// The cells as a picture, or the entries as a list.
 impl fmt::Display for Matrix {
     fn fmt(&self, f: &mut fmt::Formatter<'_>) -> fmt::Result {
         picture::write(self, f)

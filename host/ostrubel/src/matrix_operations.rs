@@ -10,11 +10,6 @@ use crate::{ApplyOp, BinaryOp, Error, Matrix, Monoid, Options, SelectOp, Semirin
 ///
 /// Inputs and mask may be one matrix. C cannot be among them: clone it, or keep it in a [`Store`](crate::Store), where
 /// one slot may have several roles.
-///
-/// # Errors
-///
-/// `IndexOutOfBounds` (only `extract`), `InvalidShape` where the shapes of inputs, mask, C and result disagree,
-/// `TooManyEntries` where the final C would have over [`MAX_ENTRIES`](crate::MAX_ENTRIES) entries.
 impl Matrix {
     /// C gets A times B. There is an entry at (i, j) where some k has both A(i, k) and B(k, j).
     ///
@@ -28,6 +23,12 @@ impl Matrix {
     /// assert_eq!(c.to_triples(), [(0, 0, 14), (1, 0, 15)]);
     /// # Ok::<(), Error>(())
     /// ```
+    ///
+    /// # Errors
+    ///
+    /// `InvalidShape` where A has not as many columns as B rows, or C or the mask not as many rows as A and columns
+    /// as B, the inputs as transposed; `TooManyEntries` where C would have over [`MAX_ENTRIES`](crate::MAX_ENTRIES)
+    /// entries.
     pub fn mxm(
         &mut self,
         semiring: Semiring,
@@ -41,7 +42,7 @@ impl Matrix {
         })
     }
 
-    /// C gets u times A, where u has one row. `InvalidShape` where it has more.
+    /// C gets u times A, where u has one row.
     ///
     /// ```
     /// use ostrubel::{BinaryOp, Error, Matrix, Monoid, Options, Semiring};
@@ -53,6 +54,12 @@ impl Matrix {
     /// assert_eq!(c.to_triples(), [(0, 0, 25), (0, 2, 17)]);
     /// # Ok::<(), Error>(())
     /// ```
+    ///
+    /// # Errors
+    ///
+    /// `InvalidShape` where u has more than one row or not as many columns as A rows, or C or the mask is not one row
+    /// of as many columns as A, A as transposed; `TooManyEntries` where C would have over
+    /// [`MAX_ENTRIES`](crate::MAX_ENTRIES) entries.
     pub fn vxm(
         &mut self,
         semiring: Semiring,
@@ -78,6 +85,11 @@ impl Matrix {
     /// assert_eq!(c.to_triples(), [(0, 1, 15)]);
     /// # Ok::<(), Error>(())
     /// ```
+    ///
+    /// # Errors
+    ///
+    /// `InvalidShape` where A, B, C and the mask are not of one shape, the inputs as transposed; `TooManyEntries`
+    /// where C would have over [`MAX_ENTRIES`](crate::MAX_ENTRIES) entries.
     pub fn ewise_mult(
         &mut self,
         op: BinaryOp,
@@ -102,6 +114,11 @@ impl Matrix {
     /// assert_eq!(c.to_triples(), [(0, 0, 2), (0, 1, -2), (0, 2, 7)]);
     /// # Ok::<(), Error>(())
     /// ```
+    ///
+    /// # Errors
+    ///
+    /// `InvalidShape` where A, B, C and the mask are not of one shape, the inputs as transposed; `TooManyEntries`
+    /// where C would have over [`MAX_ENTRIES`](crate::MAX_ENTRIES) entries.
     pub fn ewise_add(
         &mut self,
         op: BinaryOp,
@@ -125,6 +142,11 @@ impl Matrix {
     /// assert_eq!(c.to_triples(), [(0, 0, -5), (0, 1, 5), (0, 3, 25)]);
     /// # Ok::<(), Error>(())
     /// ```
+    ///
+    /// # Errors
+    ///
+    /// `InvalidShape` where A, C and the mask are not of one shape, A as transposed; `TooManyEntries` where C would
+    /// have over [`MAX_ENTRIES`](crate::MAX_ENTRIES) entries.
     pub fn apply(&mut self, op: ApplyOp, a: &Matrix, options: &Options<&Matrix>) -> Result<usize, Error> {
         let [kind, op, scalar] = op.numbers();
         self.operate(options, |numbers, mask, c, work| {
@@ -133,9 +155,6 @@ impl Matrix {
     }
 
     /// At (i, j) the cell of A at row `rows[i]` and column `cols[j]`. The same index may stand in both lists.
-    ///
-    /// `IndexOutOfBounds` where a list is empty, has over [`MAX_INDEXES`](crate::MAX_INDEXES) indexes or has one of them
-    /// twice, or an index is outside A (as transposed).
     ///
     /// ```
     /// use ostrubel::{Error, Matrix, Options};
@@ -147,6 +166,13 @@ impl Matrix {
     /// assert_eq!(c.extract(&a, &[2, 2], &[1, 0], &Options::new()), Err(Error::IndexOutOfBounds));
     /// # Ok::<(), Error>(())
     /// ```
+    ///
+    /// # Errors
+    ///
+    /// `IndexOutOfBounds` where a list is empty, has over [`MAX_INDEXES`](crate::MAX_INDEXES) indexes or has one of
+    /// them twice, or an index is outside A, as transposed; `InvalidShape` where C or the mask has not as many rows
+    /// and columns as the lists have indexes; `TooManyEntries` where C would have over
+    /// [`MAX_ENTRIES`](crate::MAX_ENTRIES) entries.
     pub fn extract(
         &mut self,
         a: &Matrix,
@@ -170,6 +196,11 @@ impl Matrix {
     /// assert_eq!(c.to_triples(), [(1, 0, 0)]);
     /// # Ok::<(), Error>(())
     /// ```
+    ///
+    /// # Errors
+    ///
+    /// `InvalidShape` where A, C and the mask are not of one shape, A as transposed; `TooManyEntries` where C would
+    /// have over [`MAX_ENTRIES`](crate::MAX_ENTRIES) entries.
     pub fn select(&mut self, op: SelectOp, a: &Matrix, options: &Options<&Matrix>) -> Result<usize, Error> {
         let (op, scalar) = op.numbers();
         self.operate(options, |numbers, mask, c, work| calls::select(numbers, op, scalar, a.words(), mask, c, work))
@@ -190,6 +221,11 @@ impl Matrix {
     /// assert_eq!(cols.to_triples(), [(0, 0, 5), (0, 1, 7)]);
     /// # Ok::<(), Error>(())
     /// ```
+    ///
+    /// # Errors
+    ///
+    /// `InvalidShape` where C or the mask is not one row of as many columns as A has rows, A as transposed;
+    /// `TooManyEntries` where C would have over [`MAX_ENTRIES`](crate::MAX_ENTRIES) entries.
     pub fn reduce_rows(&mut self, monoid: Monoid, a: &Matrix, options: &Options<&Matrix>) -> Result<usize, Error> {
         self.operate(options, |numbers, mask, c, work| {
             calls::reduce_rows(numbers, monoid.number(), a.words(), mask, c, work)

@@ -121,6 +121,20 @@ operators! {
 }
 
 /// What `apply` does to every entry: one of four kinds, each with its operator.
+///
+/// As text it is the operator's name, in capitals or not, with the scalar before it or behind it; that of an index
+/// operator may be left out and is then 0.
+///
+/// ```
+/// use ostrubel::{ApplyOp, BinaryOp, Error, IndexUnaryOp, UnaryOp};
+///
+/// assert_eq!("abs".parse(), Ok(ApplyOp::Unary(UnaryOp::Abs)));
+/// assert_eq!("minus 15".parse(), Ok(ApplyOp::ScalarSecond(BinaryOp::Minus, 15)));
+/// assert_eq!("15 minus".parse(), Ok(ApplyOp::ScalarFirst(15, BinaryOp::Minus)));
+/// assert_eq!("colindex".parse(), Ok(ApplyOp::Index(IndexUnaryOp::ColIndex, 0)));
+/// assert_eq!("minus".parse::<ApplyOp>(), Err(Error::UnknownOperator));
+/// assert_eq!(ApplyOp::Index(IndexUnaryOp::RowIndex, -1).to_string(), "ROWINDEX -1");
+/// ```
 #[derive(Clone, Copy, Debug, PartialEq, Eq, Hash)]
 pub enum ApplyOp {
     /// A unary operator.
@@ -141,6 +155,39 @@ impl ApplyOp {
             ApplyOp::ScalarFirst(scalar, op) => [1, op.number(), scalar as u32],
             ApplyOp::ScalarSecond(op, scalar) => [2, op.number(), scalar as u32],
             ApplyOp::Index(op, scalar) => [3, op.number(), scalar as u32],
+        }
+    }
+}
+
+/// The operator's name in capitals, with the scalar where it has one.
+impl fmt::Display for ApplyOp {
+    fn fmt(&self, f: &mut fmt::Formatter<'_>) -> fmt::Result {
+        match self {
+            ApplyOp::Unary(op) => write!(f, "{op}"),
+            ApplyOp::ScalarFirst(scalar, op) => write!(f, "{scalar} {op}"),
+            ApplyOp::ScalarSecond(op, scalar) => write!(f, "{op} {scalar}"),
+            ApplyOp::Index(op, scalar) => write!(f, "{op} {scalar}"),
+        }
+    }
+}
+
+/// The operator, with its scalar before or behind. Any other text is `Error::UnknownOperator`.
+impl FromStr for ApplyOp {
+    type Err = Error;
+
+    fn from_str(text: &str) -> Result<ApplyOp, Error> {
+        let words: Vec<&str> = text.split_whitespace().collect();
+        match words[..] {
+            [op] => op.parse().map(ApplyOp::Unary).or_else(|_| Ok(ApplyOp::Index(op.parse()?, 0))),
+            [first, second] => match (first.parse(), second.parse()) {
+                (Ok(scalar), _) => Ok(ApplyOp::ScalarFirst(scalar, second.parse()?)),
+                (_, Ok(scalar)) => {
+                    let binary = first.parse().map(|op| ApplyOp::ScalarSecond(op, scalar));
+                    binary.or_else(|_| Ok(ApplyOp::Index(first.parse()?, scalar)))
+                }
+                _ => Err(Error::UnknownOperator),
+            },
+            _ => Err(Error::UnknownOperator),
         }
     }
 }
@@ -187,7 +234,11 @@ impl SelectOp {
         SelectOp::UpperTriangle(0),
     ];
 
-    /// The condition of a name, in capitals or not, with its scalar. Any other text is `Error::UnknownOperator`.
+    /// The condition of a name, in capitals or not, with its scalar.
+    ///
+    /// # Errors
+    ///
+    /// `UnknownOperator` for any other text.
     pub fn named(text: &str, scalar: i32) -> Result<SelectOp, Error> {
         let named = |op: &&SelectOp| op.name().eq_ignore_ascii_case(text);
         SelectOp::ALL.iter().find(named).map(|op| op.with_scalar(scalar)).ok_or(Error::UnknownOperator)
@@ -272,12 +323,14 @@ impl Semiring {
     }
 }
 
+/// The monoid, a dot and the operator, in capitals.
 impl fmt::Display for Semiring {
     fn fmt(&self, f: &mut fmt::Formatter<'_>) -> fmt::Result {
         write!(f, "{}.{}", self.monoid, self.op)
     }
 }
 
+/// The monoid, a dot and the operator, in capitals or not. Any other text is `Error::UnknownOperator`.
 impl FromStr for Semiring {
     type Err = Error;
 

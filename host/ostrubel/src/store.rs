@@ -2,13 +2,14 @@
 
 use crate::{answer, calls, layout, workspace};
 use crate::{Error, Found, Matrix, Monoid, MAX_STORE_WORDS};
+use std::fmt;
 
 /// A store of eight slots, 0 to 7, each empty or with a matrix, in a fixed number of words.
 ///
-/// A matrix of R rows and N entries takes R + 2N + 7 words. What one matrix frees serves the others: a write is
+/// A matrix of R rows and N entries takes R + 2N + 9 words. What one matrix frees serves the others: a write is
 /// accepted where 8 words and all matrices, as they are after it, fit the store.
 ///
-/// Every call that names a slot above 7 is refused by `InvalidStore`.
+/// `Display` draws the matrix of each slot that has one. `Default` is the longest store, with nothing in it.
 ///
 /// ```
 /// use ostrubel::{BinaryOp, Error, Options, Store};
@@ -69,7 +70,8 @@ impl Store {
     ///
     /// # Errors
     ///
-    /// `InvalidShape` where rows or columns are outside their limits, `InsufficientSpace` where it does not fit.
+    /// `InvalidStore` for a slot above 7; `InvalidShape` where rows or columns are outside their limits;
+    /// `InsufficientSpace` where it does not fit.
     pub fn new_empty(&mut self, slot: usize, rows: u32, cols: u32) -> Result<(), Error> {
         answer::entries(calls::store_new_empty(slot, rows, cols, &mut self.words))?;
         Ok(())
@@ -79,7 +81,7 @@ impl Store {
     ///
     /// # Errors
     ///
-    /// Only `InvalidStore`, for a slot above 7.
+    /// `InvalidStore` for a slot above 7.
     pub fn drop_slot(&mut self, slot: usize) -> Result<(), Error> {
         answer::entries(calls::store_drop(slot, &mut self.words))?;
         Ok(())
@@ -89,8 +91,8 @@ impl Store {
     ///
     /// # Errors
     ///
-    /// `EmptySlot`; `IndexOutOfBounds` for a cell outside the matrix; `TooManyEntries` where it is full;
-    /// `InsufficientSpace` where the entry does not fit.
+    /// `InvalidStore` for a slot above 7; `EmptySlot`; `IndexOutOfBounds` for a cell outside the matrix;
+    /// `TooManyEntries` where it is full; `InsufficientSpace` where the entry does not fit.
     pub fn set(&mut self, slot: usize, i: u32, j: u32, value: i32) -> Result<usize, Error> {
         answer::entries(calls::store_set_cell(slot, i, j, value as u32, &mut self.words))
     }
@@ -99,7 +101,7 @@ impl Store {
     ///
     /// # Errors
     ///
-    /// `EmptySlot`; `IndexOutOfBounds` for a cell outside the matrix.
+    /// `InvalidStore` for a slot above 7; `EmptySlot`; `IndexOutOfBounds` for a cell outside the matrix.
     pub fn clear(&mut self, slot: usize, i: u32, j: u32) -> Result<usize, Error> {
         answer::entries(calls::store_clear_cell(slot, i, j, &mut self.words))
     }
@@ -108,7 +110,7 @@ impl Store {
     ///
     /// # Errors
     ///
-    /// `EmptySlot`; `IndexOutOfBounds` for a cell outside the matrix.
+    /// `InvalidStore` for a slot above 7; `EmptySlot`; `IndexOutOfBounds` for a cell outside the matrix.
     pub fn get(&self, slot: usize, i: u32, j: u32) -> Result<Option<i32>, Error> {
         answer::cell(calls::store_read_cell(slot, i, j, &self.words))
     }
@@ -118,7 +120,7 @@ impl Store {
     ///
     /// # Errors
     ///
-    /// `EmptySlot`; `IndexOutOfBounds` for a cell outside the matrix.
+    /// `InvalidStore` for a slot above 7; `EmptySlot`; `IndexOutOfBounds` for a cell outside the matrix.
     ///
     /// ```
     /// use ostrubel::{Error, Found, Store};
@@ -151,7 +153,7 @@ impl Store {
     ///
     /// # Errors
     ///
-    /// `EmptySlot`.
+    /// `InvalidStore` for a slot above 7; `EmptySlot`.
     pub fn reduce(&self, slot: usize, monoid: Monoid) -> Result<i32, Error> {
         answer::number(calls::store_reduce(slot, monoid.number(), &self.words))
     }
@@ -160,20 +162,42 @@ impl Store {
     ///
     /// # Errors
     ///
-    /// `EmptySlot`.
+    /// `InvalidStore` for a slot above 7; `EmptySlot`.
     pub fn matrix(&self, slot: usize) -> Result<Matrix, Error> {
         self.get(slot, 0, 0)?;
         Matrix::from_words(self.section(slot))
     }
 
-    /// Puts a copy of a matrix into a slot, whatever was there. The words are those that `new_empty` and a `set` for
-    /// each entry would give, but where it does not fit, nothing is written.
+    /// The revision of a slot's matrix: [`Matrix::revision`].
+    ///
+    /// ```
+    /// use ostrubel::{Error, Store};
+    ///
+    /// let mut store = Store::new(40)?;
+    /// store.new_empty(0, 2, 4)?;
+    /// let before = store.revision(0)?;
+    /// store.set(0, 0, 3, 5)?;
+    /// assert_eq!((before, store.revision(0)?), (0, 1));
+    /// assert_eq!(store.revision(1), Err(Error::EmptySlot));
+    /// # Ok::<(), Error>(())
+    /// ```
+    ///
+    /// # Errors
+    ///
+    /// `InvalidStore` for a slot above 7; `EmptySlot`.
+    pub fn revision(&self, slot: usize) -> Result<u32, Error> {
+        self.get(slot, 0, 0)?;
+        Ok(layout::revision(self.section(slot)))
+    }
+
+    /// Puts a copy of a matrix with its revision into a slot, whatever was there. Its cells are those that `new_empty` and
+    /// a `set` for each entry would give, but where it does not fit, nothing is written.
     ///
     /// ```
     /// use ostrubel::{Error, Matrix, Store};
     ///
     /// let matrix = Matrix::from_triples(3, 3, [(0, 2, 7), (2, 0, 0)])?;
-    /// let mut store = Store::new(22)?;
+    /// let mut store = Store::new(24)?;
     /// store.put(5, &matrix)?;
     /// assert_eq!(store.matrix(5)?, matrix);
     /// assert_eq!(store.put(6, &matrix), Err(Error::InsufficientSpace));
@@ -182,7 +206,7 @@ impl Store {
     ///
     /// # Errors
     ///
-    /// `InsufficientSpace` where it does not fit.
+    /// `InvalidStore` for a slot above 7; `InsufficientSpace` where it does not fit.
     pub fn put(&mut self, slot: usize, matrix: &Matrix) -> Result<(), Error> {
         let mut sections = layout::sections(&self.words);
         *sections.get_mut(slot).ok_or(Error::InvalidStore)? = matrix.words();
@@ -213,5 +237,34 @@ impl Store {
     /// Lends the words and a workspace to an operation. Answers the entries of the final C.
     pub(crate) fn write(&mut self, call: impl FnOnce(&mut [u32], &mut [u32]) -> u64) -> Result<usize, Error> {
         answer::entries(workspace::lend(|work| call(&mut self.words, work)))
+    }
+}
+
+/// A store of [`MAX_STORE_WORDS`] with eight empty slots.
+impl Default for Store {
+    fn default() -> Store {
+        Store { words: vec![0; MAX_STORE_WORDS] }
+    }
+}
+
+/// The matrices, each under the number of its slot, and how many words are used.
+///
+/// ```
+/// use ostrubel::{Error, Store};
+///
+/// let mut store = Store::new(40)?;
+/// store.new_empty(3, 1, 2)?;
+/// store.set(3, 0, 1, -5)?;
+/// assert_eq!(store.to_string(), "slot 3:\n   0   1\n0  .  -5\n20 of 40 words are used");
+/// # Ok::<(), Error>(())
+/// ```
+impl fmt::Display for Store {
+    fn fmt(&self, f: &mut fmt::Formatter<'_>) -> fmt::Result {
+        for (slot, words) in layout::sections(&self.words).into_iter().enumerate() {
+            if let Ok(matrix) = Matrix::from_words(words) {
+                writeln!(f, "slot {slot}:\n{matrix}")?;
+            }
+        }
+        write!(f, "{} of {} words are used", self.used_words(), self.words.len())
     }
 }

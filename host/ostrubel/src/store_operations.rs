@@ -8,14 +8,13 @@ use crate::{ApplyOp, BinaryOp, Error, Monoid, Options, SelectOp, Semiring, Store
 /// Those of [`Matrix`](crate::Matrix), by slots: `c` is the slot of the output, and each answers the number of entries
 /// of the final C. One slot may have several roles: all are read before C is written. C has to have a matrix of the
 /// result's shape. A refused operation leaves the store as it was.
-///
-/// # Errors
-///
-/// `EmptySlot`; `IndexOutOfBounds` (only `extract`); `InvalidShape` where the shapes of inputs, mask, C and result
-/// disagree; `TooManyEntries` where the final C would have over [`MAX_ENTRIES`](crate::MAX_ENTRIES) entries;
-/// `InsufficientSpace` where it does not fit the store.
 impl Store {
     /// C gets A times B. There is an entry at (i, j) where some k has both A(i, k) and B(k, j).
+    ///
+    /// # Errors
+    ///
+    /// `InvalidStore` for a slot above 7; `EmptySlot`; those of [`Matrix::mxm`](crate::Matrix::mxm);
+    /// `InsufficientSpace` where the final C does not fit the store.
     pub fn mxm(
         &mut self,
         c: usize,
@@ -30,7 +29,12 @@ impl Store {
         })
     }
 
-    /// C gets u times A, where u has one row. `InvalidShape` where it has more.
+    /// C gets u times A, where u has one row.
+    ///
+    /// # Errors
+    ///
+    /// `InvalidStore` for a slot above 7; `EmptySlot`; those of [`Matrix::vxm`](crate::Matrix::vxm);
+    /// `InsufficientSpace` where the final C does not fit the store.
     pub fn vxm(
         &mut self,
         c: usize,
@@ -46,6 +50,11 @@ impl Store {
     }
 
     /// The intersection: where both A and B have an entry, op of the two.
+    ///
+    /// # Errors
+    ///
+    /// `InvalidStore` for a slot above 7; `EmptySlot`; those of [`Matrix::ewise_mult`](crate::Matrix::ewise_mult);
+    /// `InsufficientSpace` where the final C does not fit the store.
     pub fn ewise_mult(
         &mut self,
         c: usize,
@@ -60,6 +69,11 @@ impl Store {
     }
 
     /// The union: where both A and B have an entry, op of the two; where one has, its value as it is.
+    ///
+    /// # Errors
+    ///
+    /// `InvalidStore` for a slot above 7; `EmptySlot`; those of [`Matrix::ewise_add`](crate::Matrix::ewise_add);
+    /// `InsufficientSpace` where the final C does not fit the store.
     pub fn ewise_add(
         &mut self,
         c: usize,
@@ -74,6 +88,11 @@ impl Store {
     }
 
     /// An operator on every entry of A.
+    ///
+    /// # Errors
+    ///
+    /// `InvalidStore` for a slot above 7; `EmptySlot`; those of [`Matrix::apply`](crate::Matrix::apply);
+    /// `InsufficientSpace` where the final C does not fit the store.
     pub fn apply(&mut self, c: usize, op: ApplyOp, a: usize, options: &Options<usize>) -> Result<usize, Error> {
         let [kind, op, scalar] = op.numbers();
         self.operate(options, |numbers, mask, store, work| {
@@ -83,8 +102,10 @@ impl Store {
 
     /// At (i, j) the cell of A at row `rows[i]` and column `cols[j]`. The same index may stand in both lists.
     ///
-    /// `IndexOutOfBounds` where a list is empty, has over [`MAX_INDEXES`](crate::MAX_INDEXES) indexes or has one of them
-    /// twice, or an index is outside A (as transposed).
+    /// # Errors
+    ///
+    /// `InvalidStore` for a slot above 7; `EmptySlot`; those of [`Matrix::extract`](crate::Matrix::extract);
+    /// `InsufficientSpace` where the final C does not fit the store.
     pub fn extract(
         &mut self,
         c: usize,
@@ -99,6 +120,11 @@ impl Store {
     }
 
     /// The entries of A for which a condition holds, as they are.
+    ///
+    /// # Errors
+    ///
+    /// `InvalidStore` for a slot above 7; `EmptySlot`; those of [`Matrix::select`](crate::Matrix::select);
+    /// `InsufficientSpace` where the final C does not fit the store.
     pub fn select(&mut self, c: usize, op: SelectOp, a: usize, options: &Options<usize>) -> Result<usize, Error> {
         let (op, scalar) = op.numbers();
         self.operate(options, |numbers, mask, store, work| {
@@ -108,6 +134,11 @@ impl Store {
 
     /// The values of each row of A added up with a monoid: C has one row, with a column for each row of A. Where a row has
     /// no entries there is none.
+    ///
+    /// # Errors
+    ///
+    /// `InvalidStore` for a slot above 7; `EmptySlot`; those of [`Matrix::reduce_rows`](crate::Matrix::reduce_rows);
+    /// `InsufficientSpace` where the final C does not fit the store.
     pub fn reduce_rows(
         &mut self,
         c: usize,

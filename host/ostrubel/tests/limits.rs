@@ -13,14 +13,14 @@ fn cells(count: usize) -> impl Iterator<Item = (u32, u32, i32)> {
 #[test]
 fn sizes() {
     assert_eq!((MAX_ROWS, MAX_COLS, MAX_INDEXES, MAX_ENTRIES), (1_000, 1_000, 1_000, 2_048));
-    assert_eq!((MAX_MATRIX_WORDS, WORKSPACE_WORDS), (5_103, 15_309));
+    assert_eq!((MAX_MATRIX_WORDS, WORKSPACE_WORDS), (5_105, 15_315));
 }
 
 #[test]
 fn rows_and_columns() -> Result<(), Error> {
     let largest = Matrix::new(MAX_ROWS, MAX_COLS)?;
     assert_eq!((largest.rows(), largest.cols()), (1_000, 1_000));
-    assert_eq!(Matrix::new(1, 1)?.words().len(), 8);
+    assert_eq!(Matrix::new(1, 1)?.words().len(), 10);
     for (rows, cols) in [(0, 1), (1, 0), (1_001, 1), (1, 1_001), (u32::MAX, 1), (1, u32::MAX)] {
         assert_eq!(Matrix::new(rows, cols), Err(Error::InvalidShape));
         assert_eq!(Matrix::from_triples(rows, cols, []), Err(Error::InvalidShape));

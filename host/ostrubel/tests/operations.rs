@@ -100,8 +100,27 @@ fn a_smaller_result_leaves_no_spare_words() -> Result<(), Error> {
     let mut c = Matrix::from_triples(4, 4, (0..16).map(|k| (k / 4, k % 4, 1)))?;
     let empty = Matrix::new(4, 4)?;
     assert_eq!(c.apply(ApplyOp::Unary(UnaryOp::One), &empty, &Options::new())?, 0);
-    assert_eq!(c.words(), empty.words());
+    assert_eq!((&c, c.words().len(), c.revision()), (&empty, empty.words().len(), 1));
     Ok(())
+}
+
+#[test]
+fn operators_of_apply_as_text() {
+    let scalars = [0, -1, i32::MIN, i32::MAX];
+    let mut all: Vec<ApplyOp> = UnaryOp::ALL.iter().map(|&op| ApplyOp::Unary(op)).collect();
+    for scalar in scalars {
+        all.extend(BinaryOp::ALL.iter().map(|&op| ApplyOp::ScalarFirst(scalar, op)));
+        all.extend(BinaryOp::ALL.iter().map(|&op| ApplyOp::ScalarSecond(op, scalar)));
+        all.extend(IndexUnaryOp::ALL.iter().map(|&op| ApplyOp::Index(op, scalar)));
+    }
+    for op in all {
+        assert_eq!(op.to_string().parse(), Ok(op));
+        assert_eq!(format!("  {}\t", op.to_string().to_lowercase()).parse(), Ok(op));
+    }
+    let others = ["", "7", "plus", "abs 1", "1 abs", "1 rowindex", "plus plus", "1 2", "plus 1 2", "plus 4294967296"];
+    for text in others {
+        assert_eq!(text.parse::<ApplyOp>(), Err(Error::UnknownOperator), "{text:?}");
+    }
 }
 
 #[test]

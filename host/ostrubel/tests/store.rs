@@ -1,6 +1,11 @@
 //! The calls of a store.
 
-use ostrubel::{ApplyOp, BinaryOp, Error, Found, IndexUnaryOp, Matrix, Monoid, Options, Semiring, Store, SLOTS};
+use ostrubel::{ApplyOp, BinaryOp, Error, Found, IndexUnaryOp, Matrix, Monoid, Options, Semiring, Store};
+use ostrubel::{MAX_STORE_WORDS, SLOTS};
+
+fn plus_times() -> Semiring {
+    Semiring::new(Monoid::Plus, BinaryOp::Times)
+}
 
 fn square() -> Result<Matrix, Error> {
     Matrix::from_triples(2, 2, [(0, 0, 1), (0, 1, 2), (1, 1, 3)])
@@ -8,7 +13,7 @@ fn square() -> Result<Matrix, Error> {
 
 /// A store whose slot 0 has the square and slot 1 an empty matrix of its shape.
 fn store() -> Result<Store, Error> {
-    let mut store = Store::new(100)?;
+    let mut store = Store::new(200)?;
     store.put(0, &square()?)?;
     store.new_empty(1, 2, 2)?;
     Ok(store)
@@ -21,6 +26,24 @@ fn a_new_store_is_empty() -> Result<(), Error> {
     assert_eq!(store.used_words(), 8);
     assert!((0..=SLOTS).all(|slot| !store.occupied(slot)));
     assert_eq!(Store::from_words(store.clone().into_words())?, store);
+    Ok(())
+}
+
+#[test]
+fn the_longest_store_is_the_default() -> Result<(), Error> {
+    assert_eq!(Store::default(), Store::new(MAX_STORE_WORDS)?);
+    assert_eq!(Store::default().to_string(), "8 of 16384 words are used");
+    Ok(())
+}
+
+#[test]
+fn a_store_is_drawn_slot_by_slot() -> Result<(), Error> {
+    let mut store = store()?;
+    store.put(7, &Matrix::from_triples(100, 1, [(99, 0, -1)])?)?;
+    let expected = "slot 0:\n   0  1\n0  1  2\n1  .  3\nslot 1:\n   0  1\n0  .  .\n1  .  .\nslot 7:\n\
+                    100 by 1, 1 entry\n99 0 -1\n";
+    let words = format!("{} of {} words are used", store.used_words(), store.words().len());
+    assert_eq!(store.to_string(), expected.to_string() + &words);
     Ok(())
 }
 
@@ -46,10 +69,10 @@ fn cells_are_set_read_and_cleared() -> Result<(), Error> {
 fn slots_are_laid_and_dropped() -> Result<(), Error> {
     let mut store = store()?;
     assert_eq!((store.occupied(0), store.occupied(1), store.occupied(2)), (true, true, false));
-    assert_eq!(store.used_words(), 8 + 15 + 9);
+    assert_eq!(store.used_words(), 8 + 17 + 11);
     store.drop_slot(0)?;
     store.drop_slot(0)?;
-    assert_eq!((store.occupied(0), store.used_words()), (false, 8 + 9));
+    assert_eq!((store.occupied(0), store.used_words()), (false, 8 + 11));
     assert_eq!(store.matrix(0), Err(Error::EmptySlot));
     store.new_empty(1, 5, 5)?;
     assert_eq!(store.matrix(1)?, Matrix::new(5, 5)?);
@@ -71,7 +94,7 @@ fn matrices_come_back_from_every_slot() -> Result<(), Error> {
 }
 
 #[test]
-fn put_writes_what_laying_and_setting_writes() -> Result<(), Error> {
+fn put_writes_the_cells_that_laying_and_setting_write() -> Result<(), Error> {
     let matrix = Matrix::from_triples(4, 4, [(0, 3, 1), (2, 0, -2), (2, 2, 0), (3, 3, i32::MIN)])?;
     for slot in 0..SLOTS {
         let mut by_put = store()?;
@@ -82,15 +105,39 @@ fn put_writes_what_laying_and_setting_writes() -> Result<(), Error> {
         for (i, j, value) in &matrix {
             by_cells.set(slot, i, j, value)?;
         }
+        assert_eq!((by_put.revision(slot)?, by_cells.revision(slot)?), (0, 4));
+        // The matrix that it gives, put back, brings its revision along.
+        by_put.put(slot, &by_cells.matrix(slot)?)?;
         assert_eq!(by_put, by_cells, "slot {slot}");
     }
     Ok(())
 }
 
 #[test]
+fn revisions_count_the_calls_that_write() -> Result<(), Error> {
+    let mut store = store()?;
+    let revisions = |store: &Store| [0, 1].map(|slot| store.revision(slot));
+    assert_eq!(revisions(&store), [Ok(0), Ok(0)]);
+    store.ewise_add(1, BinaryOp::Plus, 0, 0, &Options::new())?;
+    assert_eq!(revisions(&store), [Ok(0), Ok(1)]);
+    // Also where no position is inside, and once for a slot in several roles.
+    store.ewise_add(1, BinaryOp::Plus, 1, 1, &Options::new().mask(1).complement())?;
+    assert_eq!(revisions(&store), [Ok(0), Ok(2)]);
+    assert!(store.set(1, 2, 0, 1).is_err() && store.vxm(1, plus_times(), 0, 1, &Options::new()).is_err());
+    store.matrix(1)?;
+    store.reduce(1, Monoid::Plus)?;
+    assert_eq!(revisions(&store), [Ok(0), Ok(2)]);
+    store.new_empty(1, 2, 2)?;
+    store.drop_slot(0)?;
+    assert_eq!(revisions(&store), [Err(Error::EmptySlot), Ok(0)]);
+    assert_eq!(store.revision(SLOTS), Err(Error::InvalidStore));
+    Ok(())
+}
+
+#[test]
 fn a_put_that_does_not_fit_changes_nothing() -> Result<(), Error> {
     let matrix = square()?;
-    let mut store = Store::new(8 + 15 + 14)?;
+    let mut store = Store::new(8 + 17 + 16)?;
     store.put(2, &matrix)?;
     let before = store.clone();
     assert_eq!(store.put(3, &matrix), Err(Error::InsufficientSpace));
@@ -106,7 +153,7 @@ fn a_put_that_does_not_fit_changes_nothing() -> Result<(), Error> {
 fn words_that_are_no_store_are_refused() -> Result<(), Error> {
     let good = store()?.into_words();
     // The count of a slot, a row's start, a word after the sections.
-    for at in [0, 5, good.len() - 1] {
+    for at in [0, 7, good.len() - 1] {
         let mut words = good.clone();
         words[at] += 1;
         assert_eq!(Store::from_words(words), Err(Error::InvalidStore), "word {at}");
@@ -118,7 +165,7 @@ fn words_that_are_no_store_are_refused() -> Result<(), Error> {
 
 #[test]
 fn mxm_and_vxm() -> Result<(), Error> {
-    let plus_times = Semiring::new(Monoid::Plus, BinaryOp::Times);
+    let plus_times = plus_times();
     let mut store = store()?;
     assert_eq!(store.mxm(1, plus_times, 0, 0, &Options::new())?, 3);
     assert_eq!(store.matrix(1)?.to_triples(), [(0, 0, 1), (0, 1, 8), (1, 1, 9)]);

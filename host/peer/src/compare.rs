@@ -3,10 +3,11 @@
 use crate::case::{see_lent, see_store, Seen};
 use crate::counts::Counts;
 use crate::judge::{judge, judge_total};
-use crate::stream::{generate, Call, Generated};
+use crate::stream::{generate, lent_rng, list_rng, Origin};
 use crate::suite::Tools;
-use second::calls::StoreList;
-use second::{describe, shrink};
+use second::calls::{LentCall, StoreList};
+use second::shrink::shrink;
+use second::{describe, generate_lent, generate_store};
 use std::time::Instant;
 
 /// Whether there is no disagreement; the first one is shown.
@@ -14,21 +15,21 @@ pub fn compare_all(tools: &Tools, seed: u64, calls: u64) -> bool {
     let begin = Instant::now();
     let mut counts = Counts::default();
     let mut disagrees = false;
-    generate(seed, calls, |call, seen| {
+    generate(seed, calls, |origin, seen| {
         match seen {
             Seen::NoOperation => counts.add_no_operation(),
             Seen::Refused(code) => counts.add_refused(code),
             Seen::Total(total) => match judge_total(tools, &total) {
                 Ok(()) => counts.add_total(&total),
                 Err(_) => {
-                    show(tools, seed, call);
+                    show(tools, seed, origin);
                     disagrees = true;
                 }
             },
             Seen::Accepted(case) => match judge(tools, &case) {
                 Ok(adjustments) => counts.add(&case, &adjustments),
                 Err(_) => {
-                    show(tools, seed, call);
+                    show(tools, seed, origin);
                     disagrees = true;
                 }
             },
@@ -64,16 +65,17 @@ fn list_differences(tools: &Tools, list: &StoreList) -> Option<Vec<String>> {
 }
 
 /// Shows a call that differs, made small.
-fn show(tools: &Tools, seed: u64, Generated { number, call }: Generated) {
-    let (place, lines, differing) = match call {
-        Call::Lent(call) => {
-            let small = shrink::lent_call(call, |call| differences(tools, see_lent(call)).is_some());
-            ("call", describe::lent_call(&small), differences(tools, see_lent(&small)))
+fn show(tools: &Tools, seed: u64, origin: Origin) {
+    let (place, number, lines, differing) = match origin {
+        Origin::Lent(number) => {
+            let differing = |call: &LentCall| differences(tools, see_lent(call));
+            let small = shrink(lent_rng(seed, number), generate_lent::lent_call, |call| differing(call).is_some());
+            ("call", number, describe::lent_call(&small), differing(&small))
         }
-        Call::Store(store, call) => {
-            let list = StoreList { store, calls: vec![call] };
-            let small = shrink::store_list(list, |list| list_differences(tools, list).is_some());
-            ("list", describe::store_list(&small), list_differences(tools, &small))
+        Origin::List(number) => {
+            let differing = |list: &StoreList| list_differences(tools, list);
+            let small = shrink(list_rng(seed, number), generate_store::store_list, |list| differing(list).is_some());
+            ("list", number, describe::store_list(&small), differing(&small))
         }
     };
     println!("seed {seed}, {place} {number}: SuiteSparse and the library disagree; the case, made small:");

@@ -17,9 +17,8 @@ mod plan;
 mod planted;
 mod stream;
 mod suite;
-#[cfg(test)]
-mod worked_examples;
 
+use second::arguments::{self, Arguments};
 use std::process::ExitCode;
 use suite::Tools;
 
@@ -31,55 +30,17 @@ Compares the library's accepted calls with SuiteSparse:GraphBLAS.
   --calls N   calls that are generated, half of them on a store (300000; 30000 with --faults)
   --faults    plants each fault in SuiteSparse's calls and demands that it is noticed";
 
-struct Arguments {
-    seed: u64,
-    calls: u64,
-    faults: bool,
-}
-
-fn arguments() -> Result<Arguments, String> {
-    let (mut seed, mut calls, mut faults) = (1, None, false);
-    let mut given = std::env::args().skip(1);
-    while let Some(name) = given.next() {
-        let mut number = || -> Result<u64, String> {
-            let text = given.next().ok_or(format!("{name} wants a number"))?;
-            text.parse().map_err(|_| format!("{name} wants a number and not {text}"))
-        };
-        match name.as_str() {
-            "--seed" => seed = number()?,
-            "--calls" => calls = Some(number()?),
-            "--faults" => faults = true,
-            _ => return Err(USAGE.to_string()),
-        }
-    }
-    Ok(Arguments { seed, calls: calls.unwrap_or(if faults { 30_000 } else { 300_000 }), faults })
-}
-
 /// Whether everything agreed, or every fault was noticed.
-fn run(arguments: &Arguments) -> Result<bool, suitesparse::Error> {
-    let tools = Tools::new()?;
-    let Arguments { seed, calls, faults } = *arguments;
-    Ok(if faults { planted::plant_all(&tools, seed, calls) } else { compare::compare_all(&tools, seed, calls) })
+fn run(arguments: &Arguments) -> Result<ExitCode, String> {
+    let faults = arguments.has("--faults");
+    let seed = arguments.number("--seed")?.unwrap_or(1);
+    let calls = arguments.number("--calls")?.unwrap_or(if faults { 30_000 } else { 300_000 });
+    let tools = Tools::new().map_err(|error| format!("SuiteSparse: {error}"))?;
+    let passed =
+        if faults { planted::plant_all(&tools, seed, calls) } else { compare::compare_all(&tools, seed, calls) };
+    Ok(if passed { ExitCode::SUCCESS } else { ExitCode::FAILURE })
 }
 
 fn main() -> ExitCode {
-    if std::env::args().skip(1).any(|argument| argument == "--help") {
-        println!("{USAGE}");
-        return ExitCode::SUCCESS;
-    }
-    let arguments = match arguments() {
-        Ok(arguments) => arguments,
-        Err(text) => {
-            eprintln!("{text}");
-            return ExitCode::from(2);
-        }
-    };
-    match run(&arguments) {
-        Ok(true) => ExitCode::SUCCESS,
-        Ok(false) => ExitCode::FAILURE,
-        Err(error) => {
-            eprintln!("SuiteSparse: {error}");
-            ExitCode::FAILURE
-        }
-    }
+    arguments::run(USAGE, run)
 }

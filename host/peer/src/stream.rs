@@ -1,38 +1,40 @@
 //! Random calls, half of them on a store, each carried out by the library.
 
 use crate::case::{see_lent, see_store, Seen};
-use second::calls::{LentCall, StoreCall, StoreList};
+use second::calls::StoreList;
 use second::rng::Rng;
 use second::{generate_lent, generate_store};
 
-/// A generated call, with the number of the call or of its list in the program `second`.
-pub struct Generated {
-    pub number: u64,
-    pub call: Call,
+/// The number of a call, or of the list that it is in, in the program `second`.
+#[derive(Clone, Copy)]
+pub enum Origin {
+    Lent(u64),
+    List(u64),
 }
 
-pub enum Call {
-    Lent(LentCall),
-    /// With the store's words before it.
-    Store(Vec<u32>, StoreCall),
+pub fn lent_rng(seed: u64, number: u64) -> Rng {
+    Rng::of_case(seed, 1, number)
+}
+
+pub fn list_rng(seed: u64, number: u64) -> Rng {
+    Rng::of_case(seed, 2, number)
 }
 
 /// Generates calls until there are this many, or until `take` answers false.
-pub fn generate(seed: u64, calls: u64, mut take: impl FnMut(Generated, Seen) -> bool) {
+pub fn generate(seed: u64, calls: u64, mut take: impl FnMut(Origin, Seen) -> bool) {
     let (mut lent, mut lists, mut on_store) = (0, 0, 0);
     while lent + on_store < calls {
         if lent <= on_store {
-            let call = generate_lent::lent_call(&mut Rng::of_case(seed, 1, lent));
-            let seen = see_lent(&call);
-            if !take(Generated { number: lent, call: Call::Lent(call) }, seen) {
+            let call = generate_lent::lent_call(&mut lent_rng(seed, lent));
+            if !take(Origin::Lent(lent), see_lent(&call)) {
                 return;
             }
             lent += 1;
             continue;
         }
-        let list = generate_store::store_list(&mut Rng::of_case(seed, 2, lists));
+        let list = generate_store::store_list(&mut list_rng(seed, lists));
         on_store += list.calls.len() as u64;
-        if !take_list(lists, list, &mut take) {
+        if !take_list(Origin::List(lists), list, &mut take) {
             return;
         }
         lists += 1;
@@ -40,11 +42,11 @@ pub fn generate(seed: u64, calls: u64, mut take: impl FnMut(Generated, Seen) -> 
 }
 
 /// The calls of a list one after another; whether to go on after them.
-fn take_list(number: u64, list: StoreList, take: &mut impl FnMut(Generated, Seen) -> bool) -> bool {
+fn take_list(origin: Origin, list: StoreList, take: &mut impl FnMut(Origin, Seen) -> bool) -> bool {
     let StoreList { mut store, calls } = list;
-    for call in calls {
-        let (seen, after) = see_store(&store, &call);
-        if !take(Generated { number, call: Call::Store(store, call) }, seen) {
+    for call in &calls {
+        let (seen, after) = see_store(&store, call);
+        if !take(origin, seen) {
             return false;
         }
         store = after;

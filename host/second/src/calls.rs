@@ -9,8 +9,8 @@ pub const STRUCTURAL: u32 = 4;
 pub const TRANSPOSE_FIRST: u32 = 8;
 pub const TRANSPOSE_SECOND: u32 = 16;
 
-/// Document 02, A6: "the work buffer must have 15,309 words".
-pub const WORK_WORDS: usize = 15_309;
+/// Document 02, A12: "the work buffer 15,315".
+pub const WORK_WORDS: usize = 15_315;
 
 #[derive(Clone, Debug)]
 pub struct Options {

@@ -122,6 +122,14 @@ faults! {
     SecondCountFree: "the count before the values is not looked at",
     StoreTailFree: "words behind the store's last section are not looked at",
     StoreCountLarger: "a section's count may be larger than its sheet",
+    // Revisions.
+    RevisionTwice: "a call that writes adds two to the revision",
+    RevisionOnRefusal: "a refused call that would write adds one to the revision",
+    RevisionWhereChanged: "nothing is added to the revision where no cell changes",
+    RevisionStops: "the revision stays at 4294967295",
+    RevisionKeptByLay: "laying over a sheet keeps its revision",
+    RevisionPerRole: "a place in several roles gains one for each role",
+    RevisionOfInput: "C gets the revision after the first input's",
     // A cell that is read.
     PositionOfRow: "the position of a cell is that of its row's first entry",
     PositionInRow: "the position of a cell is counted in its row only",

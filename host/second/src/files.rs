@@ -1,6 +1,7 @@
 //! Document 02, A1, again: "A sheet file is the sheet's words and nothing more, four bytes each, lowest byte first", what
 //! the reader and the writer answer and leave, and the text: "a line "R C N", then a line "row column value" for each
-//! entry in order". Random sheets and random damage go through both ways.
+//! entry in order". A12: "Old files start with 2, new ones with 1: the new reader takes both, an old file having revision
+//! 0, and writes the new form." Random sheets and random damage go through both ways.
 
 use crate::fault::Fault;
 use crate::generate::{damage, entries_near_limit, grid, grid_of, random_words, sheet, side};
@@ -23,6 +24,9 @@ pub enum Slip {
     BehindCleared,
     UnsignedText,
     ColumnsFirst,
+    OldRefused,
+    OldRevisionOne,
+    OldRoom,
 }
 
 pub fn file_bytes(words: &[u32], slip: Slip) -> Vec<u8> {
@@ -36,7 +40,11 @@ pub fn grid_of_file(bytes: &[u8], slip: Slip) -> Option<Grid> {
         return None;
     }
     let word = |four: &[u8]| u32::from_le_bytes([four[0], four[1], four[2], four[3]]);
-    let words: Vec<u32> = bytes.chunks_exact(4).map(word).collect();
+    let mut words: Vec<u32> = bytes.chunks_exact(4).map(word).collect();
+    if words.first() == Some(&2) && slip != Slip::OldRefused {
+        let revision = u32::from(slip == Slip::OldRevisionOne);
+        words.splice(..0, [1, revision]);
+    }
     let grid = Grid::read(&words, Fault::None)?;
     (grid.size() == words.len() || slip == Slip::SpareAccepted).then_some(grid)
 }
@@ -71,6 +79,9 @@ fn read(bytes: &[u8], buffer: &[u32], slip: Slip) -> Outcome<u32> {
     match grid_of_file(bytes, slip) {
         None if slip == Slip::RoomFirst && buffer.len() < bytes.len() / 4 => refused(11),
         None => refused(15),
+        Some(grid) if slip == Slip::OldRoom && grid.size() > buffer.len() && bytes.len() / 4 <= buffer.len() => {
+            (accepted(grid.cells.len()), buffer.to_vec())
+        }
         Some(grid) if grid.size() > buffer.len() => refused(11),
         Some(grid) => (accepted(grid.cells.len()), over(&grid.words(), buffer)),
     }
@@ -135,6 +146,10 @@ pub fn case(rng: &mut Rng) -> Case {
     if rng.once_in(3) {
         damage(rng, &mut held);
     }
+    if rng.once_in(3) {
+        // The old form.
+        held.drain(..held.len().min(2));
+    }
     if rng.once_in(6) {
         damage(rng, &mut sheet);
     }
@@ -196,9 +211,12 @@ mod tests {
 
     #[test]
     fn the_strip() {
-        let strip = [2, 1, 4, 2, 0, 3, 3, 0, 1, 3, 3, 10, 20, 40];
-        let grid = grid_of_file(&file_bytes(&strip, Slip::None), Slip::None).unwrap();
-        assert_eq!(text_of(&grid, Slip::None), "1 4 3\n0 0 10\n0 1 20\n0 3 40\n");
+        let strip = [1, 7, 2, 1, 4, 2, 0, 3, 3, 0, 1, 3, 3, 10, 20, 40];
+        for (words, revision) in [(&strip[..], 7), (&strip[2..], 0)] {
+            let grid = grid_of_file(&file_bytes(words, Slip::None), Slip::None).unwrap();
+            assert_eq!(grid.revision, revision);
+            assert_eq!(text_of(&grid, Slip::None), "1 4 3\n0 0 10\n0 1 20\n0 3 40\n");
+        }
     }
 
     #[test]
@@ -214,6 +232,9 @@ mod tests {
             Slip::BehindCleared,
             Slip::UnsignedText,
             Slip::ColumnsFirst,
+            Slip::OldRefused,
+            Slip::OldRevisionOne,
+            Slip::OldRoom,
         ] {
             assert!(cases.iter().any(|case| case.judge(slip).is_err()), "{slip:?}");
         }

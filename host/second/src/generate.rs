@@ -23,11 +23,20 @@ pub fn side(rng: &mut Rng) -> u32 {
     }
 }
 
+/// A revision, at times near its end.
+fn revision(rng: &mut Rng) -> u32 {
+    match rng.below(8) {
+        0 | 1 => rng.pick(&[u32::MAX, u32::MAX, u32::MAX - 1]),
+        2 => rng.word(),
+        _ => rng.between(0, 3),
+    }
+}
+
 /// A grid with this many entries at random places.
 pub fn grid_of(rng: &mut Rng, rows: u32, cols: u32, entries: usize) -> Grid {
     let places = rows as usize * cols as usize;
     let entries = entries.min(places);
-    let mut grid = Grid::empty(rows, cols);
+    let mut grid = Grid { revision: revision(rng), ..Grid::empty(rows, cols) };
     if 2 * entries > places {
         // Walk over all places and take each with the chance that is left.
         let mut wanted = entries;
@@ -238,11 +247,24 @@ fn spoil_operation(rng: &mut Rng, operation: &mut Operation) {
 
 /// Damages the words of a sheet; now and then it stays valid.
 pub fn damage(rng: &mut Rng, words: &mut Vec<u32>) {
-    if words.len() < 8 || rng.once_in(25) {
+    if words.len() < 10 || rng.once_in(25) {
         let length = rng.below(30);
         *words = random_words(rng, length);
         return;
     }
+    match rng.below(18) {
+        0 => words[0] = rng.pick(&[0, 2, 3, u32::MAX]),
+        1 => drop(words.drain(..2)),
+        _ => {
+            let mut behind = words.split_off(2);
+            damage_behind(rng, &mut behind);
+            words.append(&mut behind);
+        }
+    }
+}
+
+/// Damages the words of a sheet behind the revision.
+fn damage_behind(rng: &mut Rng, words: &mut Vec<u32>) {
     let rows = words[1] as usize;
     match rng.below(16) {
         0 => words.truncate(rng.below(words.len())),
@@ -251,7 +273,7 @@ pub fn damage(rng: &mut Rng, words: &mut Vec<u32>) {
         3 => words[2] = rng.pick(&[0, MAX_SIDE + 1, 1, MAX_SIDE, u32::MAX]),
         4 => words[3] = words[3].wrapping_add(rng.pick(&[1, u32::MAX])),
         5 => words[4] = rng.pick(&[1, u32::MAX]),
-        6 => *words = too_large(rng),
+        6 => *words = too_large(rng).split_off(2),
         7 if 5 + rows < words.len() => {
             // N alone, with the sum of sizes wrapping for some of the choices.
             let n = words[5 + rows];

@@ -20,7 +20,7 @@ pub fn lent_call(rng: &mut Rng) -> LentCall {
                     _ => rng.below(side as usize) as u32,
                 }
             };
-            let (i, j) = (near(rng, words.get(1)), near(rng, words.get(2)));
+            let (i, j) = (near(rng, words.get(3)), near(rng, words.get(4)));
             LentCall::ReadCell { words, i, j }
         }
         19..=24 => row_view(rng),
@@ -29,7 +29,7 @@ pub fn lent_call(rng: &mut Rng) -> LentCall {
     }
 }
 
-fn lone_buffer(rng: &mut Rng) -> Vec<u32> {
+pub fn lone_buffer(rng: &mut Rng) -> Vec<u32> {
     let (rows, cols) = (side(rng), side(rng));
     let entries = rng.pick(&[MAX_ENTRIES - 1, MAX_ENTRIES, MAX_ENTRIES]);
     let grid = if rng.once_in(60) { grid_of(rng, MAX_SIDE, MAX_SIDE, entries) } else { grid(rng, rows, cols) };
@@ -74,7 +74,7 @@ fn new_empty(rng: &mut Rng) -> LentCall {
         _ => rng.between(1, 20),
     };
     let (rows, cols) = (any_side(rng), any_side(rng));
-    let exact = if rows <= MAX_SIDE + 1 { rows as usize + 7 } else { 30 };
+    let exact = if rows <= MAX_SIDE + 1 { rows as usize + 9 } else { 30 };
     let length = match rng.below(5) {
         0 => exact - 1,
         1 => exact,

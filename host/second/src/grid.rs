@@ -3,15 +3,16 @@
 use crate::fault::Fault;
 use std::collections::BTreeMap;
 
-/// Document 02, A6: "Raise rows, columns and index-list length from 512 to 1,000 each; entries stay at 2,048. The largest
-/// sheet is then 5,103 words".
+/// Document 02, A6: "Raise rows, columns and index-list length from 512 to 1,000 each; entries stay at 2,048." A12: "the
+/// largest sheet 5,105 words".
 pub const MAX_SIDE: u32 = 1000;
 pub const MAX_ENTRIES: usize = 2048;
 pub const MAX_LIST: usize = 1000;
-pub const MAX_WORDS: usize = 5103;
+pub const MAX_WORDS: usize = 5105;
 
 #[derive(Clone, PartialEq, Eq, Debug)]
 pub struct Grid {
+    pub revision: u32,
     pub rows: u32,
     pub cols: u32,
     pub cells: BTreeMap<(u32, u32), i32>,
@@ -19,7 +20,7 @@ pub struct Grid {
 
 impl Grid {
     pub fn empty(rows: u32, cols: u32) -> Self {
-        Grid { rows, cols, cells: BTreeMap::new() }
+        Grid { revision: 0, rows, cols, cells: BTreeMap::new() }
     }
 
     pub fn shape(&self) -> (u32, u32) {
@@ -32,12 +33,12 @@ impl Grid {
 
     /// The number of words of its sheet.
     pub fn size(&self) -> usize {
-        self.rows as usize + 2 * self.cells.len() + 7
+        self.rows as usize + 2 * self.cells.len() + 9
     }
 
     /// The words before the column numbers, and before the values.
     pub fn columns_at(&self) -> usize {
-        self.rows as usize + 6
+        self.rows as usize + 8
     }
 
     pub fn values_at(&self) -> usize {
@@ -60,7 +61,7 @@ impl Grid {
 
     pub fn transposed(&self) -> Self {
         let cells = self.cells.iter().map(|(&(i, j), &value)| ((j, i), value)).collect();
-        Grid { rows: self.cols, cols: self.rows, cells }
+        Grid { revision: self.revision, rows: self.cols, cols: self.rows, cells }
     }
 
     pub fn transposed_if(&self, condition: bool) -> Self {
@@ -71,10 +72,10 @@ impl Grid {
         }
     }
 
-    /// The one writing of the grid.
+    /// The one writing of the grid. Document 02, A12: "a new first section before the others: 1, then a revision number".
     pub fn words(&self) -> Vec<u32> {
         let count = self.cells.len() as u32;
-        let mut words = vec![2, self.rows, self.cols, self.rows + 1];
+        let mut words = vec![1, self.revision, 2, self.rows, self.cols, self.rows + 1];
         let mut in_row = vec![0; self.rows as usize];
         for &(i, _) in self.cells.keys() {
             in_row[i as usize] += 1;
@@ -94,6 +95,10 @@ impl Grid {
 
     /// The grid whose sheet stands at the front of the words, if there is one.
     pub fn read(words: &[u32], fault: Fault) -> Option<Self> {
+        let (&[count, revision], words) = words.split_first_chunk()?;
+        if count != 1 {
+            return None;
+        }
         let word = |at: usize| words.get(at).copied();
         if word(0)? != 2 {
             return None;
@@ -124,7 +129,7 @@ impl Grid {
         if last < entries && fault != Fault::LastStartFree {
             return None;
         }
-        let mut grid = Grid::empty(rows, cols);
+        let mut grid = Grid { revision, ..Grid::empty(rows, cols) };
         for i in 0..height {
             let (from, to) = (starts[i] as usize, starts[i + 1] as usize);
             if from > to {
@@ -169,7 +174,7 @@ pub fn is_shape(rows: u32, cols: u32, fault: Fault) -> bool {
 mod tests {
     use super::*;
 
-    const STRIP: [u32; 14] = [2, 1, 4, 2, 0, 3, 3, 0, 1, 3, 3, 10, 20, 40];
+    const STRIP: [u32; 16] = [1, 0, 2, 1, 4, 2, 0, 3, 3, 0, 1, 3, 3, 10, 20, 40];
 
     #[test]
     fn the_whole_strip() {
@@ -178,6 +183,19 @@ mod tests {
         assert_eq!(strip.words(), STRIP);
         assert_eq!(strip.size(), STRIP.len());
         assert_eq!(Grid::read(&STRIP, Fault::None), Some(strip));
+    }
+
+    /// Any word is a revision; the strip of before, without one, is no sheet.
+    #[test]
+    fn revisions() {
+        for revision in [1, 2, u32::MAX] {
+            let mut words = STRIP;
+            words[1] = revision;
+            let grid = Grid::read(&words, Fault::None).expect("a valid sheet");
+            assert_eq!(grid.revision, revision);
+            assert_eq!(grid.words(), words);
+        }
+        assert_eq!(Grid::read(&STRIP[2..], Fault::None), None);
     }
 
     #[test]
@@ -210,7 +228,9 @@ mod tests {
         for length in 0..STRIP.len() {
             assert_eq!(Grid::read(&STRIP[..length], Fault::None), None);
         }
-        for (at, word) in [(0, 3), (1, 0), (1, 1001), (3, 3), (4, 1), (5, 2), (6, 4), (8, 0), (9, 4), (10, 2)] {
+        let damage =
+            [(0, 2), (2, 3), (3, 0), (3, 1001), (5, 3), (6, 1), (7, 2), (8, 4), (10, 0), (11, 4), (12, 2)];
+        for (at, word) in damage {
             let mut words = STRIP;
             words[at] = word;
             assert_eq!(Grid::read(&words, Fault::None), None, "word {at} changed to {word}");

@@ -69,7 +69,7 @@ impl Model {
         if !self.is_shape(rows, cols) {
             return one_buffer(counted(8, 0), words.to_vec());
         }
-        let sheet = Grid::empty(rows, cols).words();
+        let sheet = self.laid(Grid::read(words, self.fault).as_ref(), rows, cols).words();
         if sheet.len() > words.len() + usize::from(self.has(Fault::RoomOneLess)) {
             return one_buffer(counted(11, 0), words.to_vec());
         }
@@ -148,7 +148,11 @@ impl Model {
             }
         }
         let code = self.first_refusal(&applying, &ORDER).unwrap_or(0);
-        (counted(code, 0), call.c.clone())
+        let mut after = call.c.clone();
+        if let (true, Some(c)) = (self.has(Fault::RevisionOnRefusal), &c) {
+            after[1] = c.revision.wrapping_add(1);
+        }
+        (counted(code, 0), after)
     }
 
     /// C's buffer with the sheet of the final C at its front.

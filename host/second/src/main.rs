@@ -2,12 +2,14 @@
 //!
 //! `cargo run --release -p second -- --seed 1 --calls 200000` compares.
 
+use second::arguments::{self, Arguments};
 use second::calls::{answers_of, code_of, Answers, LentCall, StoreList};
 use second::compare::{judge_lent, judge_list, see_lent, see_list, Seen};
 use second::fault::{self, Fault};
 use second::model::{Model, SOUND};
 use second::rng::Rng;
-use second::{describe, doors, files, full_rows, generate_lent, generate_store, merges, program, shrink};
+use second::shrink::shrink;
+use second::{days, describe, doors, files, full_rows, generate_lent, generate_store, merges, program, revisions};
 use std::collections::{BTreeMap, BTreeSet};
 use std::process::ExitCode;
 use std::time::Instant;
@@ -23,60 +25,42 @@ Compares the library with a model on each cell of some rows, on random calls, an
   --fault N   plants one fault, and shows the shrunk case that notices it
   --program PATH   runs the program that prints a file of standard input, and nothing else";
 
-struct Arguments {
+/// What is to be compared.
+struct Run {
     seed: u64,
     calls: u64,
     lists: u64,
-    faults: bool,
     fault: Fault,
-    program: Option<String>,
 }
 
-fn arguments() -> Result<Arguments, String> {
-    let (mut seed, mut calls, mut lists, mut faults, mut planted) = (1, None, None, false, Fault::None);
-    let mut program = None;
-    let mut given = std::env::args().skip(1);
-    while let Some(name) = given.next() {
-        if name == "--program" {
-            program = Some(given.next().ok_or("--program wants a path")?);
-            continue;
-        }
-        let mut number = || -> Result<u64, String> {
-            let text = given.next().ok_or(format!("{name} wants a number"))?;
-            text.parse().map_err(|_| format!("{name} wants a number and not {text}"))
-        };
-        match name.as_str() {
-            "--seed" => seed = number()?,
-            "--calls" => calls = Some(number()?),
-            "--lists" => lists = Some(number()?),
-            "--faults" => faults = true,
-            "--fault" => {
-                let number = number()?;
-                let position = usize::try_from(number).ok().and_then(|number| number.checked_sub(1));
-                let entry = position.and_then(|position| fault::ALL.get(position));
-                planted = entry.ok_or(format!("faults go from 1 to {}", fault::ALL.len()))?.0;
-            }
-            _ => return Err(USAGE.to_string()),
-        }
+impl Run {
+    fn new(arguments: &Arguments) -> Result<Run, String> {
+        let default_calls = if arguments.has("--faults") { 40_000 } else { 200_000 };
+        let calls = arguments.number("--calls")?.unwrap_or(default_calls);
+        Ok(Run {
+            seed: arguments.number("--seed")?.unwrap_or(1),
+            calls,
+            lists: arguments.number("--lists")?.unwrap_or(calls / 20),
+            fault: arguments.number("--fault")?.map_or(Ok(Fault::None), numbered_fault)?,
+        })
     }
-    let calls = calls.unwrap_or(if faults { 40_000 } else { 200_000 });
-    Ok(Arguments { seed, calls, lists: lists.unwrap_or(calls / 20), faults, fault: planted, program })
+}
+
+/// The faults are numbered from 1.
+fn numbered_fault(number: usize) -> Result<Fault, String> {
+    let entry = number.checked_sub(1).and_then(|position| fault::ALL.get(position));
+    Ok(entry.ok_or(format!("faults go from 1 to {}", fault::ALL.len()))?.0)
 }
 
 fn main() -> ExitCode {
-    if std::env::args().skip(1).any(|argument| argument == "--help") {
-        println!("{USAGE}");
-        return ExitCode::SUCCESS;
-    }
-    match arguments() {
-        Err(text) => {
-            eprintln!("{text}");
-            ExitCode::from(2)
-        }
-        Ok(Arguments { program: Some(program), seed, .. }) => run_program(&program, seed),
-        Ok(arguments) if arguments.faults => plant_faults(&arguments),
-        Ok(arguments) => compare_all(&arguments),
-    }
+    arguments::run(USAGE, |arguments| {
+        let run = Run::new(arguments)?;
+        Ok(match arguments.text("--program") {
+            Some(program) => run_program(program, run.seed),
+            None if arguments.has("--faults") => plant_faults(&run),
+            None => compare_all(&run),
+        })
+    })
 }
 
 /// The program that prints a file.
@@ -93,12 +77,13 @@ fn run_program(path: &str, seed: u64) -> ExitCode {
     }
 }
 
-fn make_call(seed: u64, number: u64) -> LentCall {
-    generate_lent::lent_call(&mut Rng::of_case(seed, 1, number))
+/// The generators of the calls and the lists of a run, by their number.
+fn call_rng(seed: u64, number: u64) -> Rng {
+    Rng::of_case(seed, 1, number)
 }
 
-fn make_list(seed: u64, number: u64) -> StoreList {
-    generate_store::store_list(&mut Rng::of_case(seed, 2, number))
+fn list_rng(seed: u64, number: u64) -> Rng {
+    Rng::of_case(seed, 2, number)
 }
 
 /// What was seen of one function of the library.
@@ -156,20 +141,34 @@ struct Comparison {
 struct Disagreement;
 
 impl Comparison {
-    fn call(&mut self, case: &str, call: LentCall) -> Result<(), Disagreement> {
+    /// The call that is made by the generator.
+    fn call(
+        &mut self,
+        case: &str,
+        rng: impl Fn() -> Rng,
+        make: impl Fn(&mut Rng) -> LentCall,
+    ) -> Result<(), Disagreement> {
+        let call = make(&mut rng());
         let seen = see_lent(&call);
         if !judge_lent(self.model, &call, &seen).is_empty() {
-            report_call(self.model, case, call);
+            report_call(self.model, case, rng(), make);
             return Err(Disagreement);
         }
         self.counts.add(&seen);
         Ok(())
     }
 
-    fn list(&mut self, case: &str, list: StoreList) -> Result<(), Disagreement> {
+    /// The list that is made by the generator.
+    fn list(
+        &mut self,
+        case: &str,
+        rng: impl Fn() -> Rng,
+        make: impl Fn(&mut Rng) -> StoreList,
+    ) -> Result<(), Disagreement> {
+        let list = make(&mut rng());
         let seen = see_list(&list);
         if judge_list(self.model, &list, &seen).is_some() {
-            report_list(self.model, case, list);
+            report_list(self.model, case, rng(), make);
             return Err(Disagreement);
         }
         seen.iter().for_each(|seen| self.counts.add(seen));
@@ -177,13 +176,15 @@ impl Comparison {
     }
 }
 
-fn compare_all(arguments: &Arguments) -> ExitCode {
+fn compare_all(run: &Run) -> ExitCode {
     let all = || {
-        compare_rows(arguments)?;
-        compare_merges(arguments)?;
-        compare_files(arguments)?;
-        compare_doors(arguments)?;
-        compare_random(arguments)
+        compare_rows(run)?;
+        compare_merges(run)?;
+        compare_files(run)?;
+        compare_doors(run)?;
+        compare_revisions(run)?;
+        compare_days(run)?;
+        compare_random(run)
     };
     match all() {
         Ok(()) => ExitCode::SUCCESS,
@@ -192,13 +193,23 @@ fn compare_all(arguments: &Arguments) -> ExitCode {
 }
 
 /// Each cell of rows with few, many and all columns.
-fn compare_rows(arguments: &Arguments) -> Result<(), Disagreement> {
-    let mut comparison = Comparison { model: Model { fault: arguments.fault }, counts: Counts::default() };
-    for (number, call) in full_rows::reads().into_iter().enumerate() {
-        comparison.call(&format!("rows, read {number}"), call)?;
+fn compare_rows(run: &Run) -> Result<(), Disagreement> {
+    let mut comparison = Comparison { model: Model { fault: run.fault }, counts: Counts::default() };
+    let (reads, lists) = (full_rows::reads(), full_rows::lists());
+    for number in 0..reads.len() {
+        let make = |rng: &mut Rng| reads[rng.below(reads.len())].clone();
+        comparison.call(&format!("rows, read {number}"), || Rng::of_choices(vec![number as u64]), make)?;
     }
-    for (row, list) in full_rows::lists().into_iter().enumerate() {
-        comparison.list(&format!("rows, row {row} in a store"), list)?;
+    // A list of calls, where it ends, and how many of its calls there are; at first all.
+    let part = |rng: &mut Rng| {
+        let StoreList { store, calls } = &lists[rng.below(lists.len())];
+        let end = rng.below(calls.len() + 1);
+        let calls = calls[end - rng.below(end + 1)..end].to_vec();
+        StoreList { store: store.clone(), calls }
+    };
+    for (row, list) in lists.iter().enumerate() {
+        let whole = || Rng::of_choices([row, list.calls.len(), list.calls.len()].map(|choice| choice as u64).into());
+        comparison.list(&format!("rows, row {row} in a store"), whole, part)?;
     }
     comparison.counts.print();
     println!("each cell of the rows, {} calls: no disagreement", comparison.counts.total());
@@ -206,8 +217,8 @@ fn compare_rows(arguments: &Arguments) -> Result<(), Disagreement> {
 }
 
 /// Sheets merged in several orders; as many lists of them as lists of calls.
-fn compare_merges(arguments: &Arguments) -> Result<(), Disagreement> {
-    let &Arguments { seed, lists, .. } = arguments;
+fn compare_merges(run: &Run) -> Result<(), Disagreement> {
+    let &Run { seed, lists, .. } = run;
     for number in 0..lists {
         let rng = &mut Rng::of_case(seed, 3, number);
         if let Err(text) = merges::merges(rng).judge(rng) {
@@ -220,11 +231,14 @@ fn compare_merges(arguments: &Arguments) -> Result<(), Disagreement> {
 }
 
 /// Files and texts; as many as lists of calls.
-fn compare_files(arguments: &Arguments) -> Result<(), Disagreement> {
-    let &Arguments { seed, lists, .. } = arguments;
+fn compare_files(run: &Run) -> Result<(), Disagreement> {
+    let &Run { seed, lists, .. } = run;
     for number in 0..lists {
-        if let Err(text) = files::case(&mut Rng::of_case(seed, 4, number)).judge(files::Slip::None) {
-            println!("seed {seed}, file {number}: {text}");
+        let rng = || Rng::of_case(seed, 4, number);
+        let judge = |case: &files::Case| case.judge(files::Slip::None);
+        if judge(&files::case(&mut rng())).is_err() {
+            let small = shrink(rng(), files::case, |case| judge(case).is_err());
+            println!("seed {seed}, file {number}, made small: {}", judge(&small).unwrap_err());
             return Err(Disagreement);
         }
     }
@@ -233,14 +247,16 @@ fn compare_files(arguments: &Arguments) -> Result<(), Disagreement> {
 }
 
 /// Keys behind doors; as many calls as lists of calls on a store.
-fn compare_doors(arguments: &Arguments) -> Result<(), Disagreement> {
-    let &Arguments { seed, lists, .. } = arguments;
+fn compare_doors(run: &Run) -> Result<(), Disagreement> {
+    let &Run { seed, lists, .. } = run;
     let mut codes: BTreeMap<u32, u64> = BTreeMap::new();
     for number in 0..lists {
-        match doors::doors(&mut Rng::of_case(seed, 4, number)).judge() {
+        let rng = || Rng::of_case(seed, 5, number);
+        match doors::doors(&mut rng()).judge() {
             Ok(answer) => *codes.entry(code_of(answer)).or_default() += 1,
-            Err(text) => {
-                println!("seed {seed}, doors {number}: {text}");
+            Err(_) => {
+                let small = shrink(rng(), doors::doors, |case| case.judge().is_err());
+                println!("seed {seed}, doors {number}, made small: {}", small.judge().unwrap_err());
                 return Err(Disagreement);
             }
         }
@@ -249,16 +265,58 @@ fn compare_doors(arguments: &Arguments) -> Result<(), Disagreement> {
     Ok(())
 }
 
-fn compare_random(arguments: &Arguments) -> Result<(), Disagreement> {
-    let &Arguments { seed, calls, lists, fault, .. } = arguments;
+/// Looks at revisions; as many as lists of calls on a store.
+fn compare_revisions(run: &Run) -> Result<(), Disagreement> {
+    let &Run { seed, lists, .. } = run;
+    let mut codes: BTreeMap<u32, u64> = BTreeMap::new();
+    for number in 0..lists {
+        match revisions::judge(&mut Rng::of_case(seed, 6, number)) {
+            Ok(answer) => *codes.entry(code_of(answer)).or_default() += 1,
+            Err(text) => {
+                println!("seed {seed}, revision {number}: {text}");
+                return Err(Disagreement);
+            }
+        }
+    }
+    println!("seed {seed}: {lists} looks at a revision, by codes {codes:?}: no disagreement");
+    Ok(())
+}
+
+/// A day sheet over a base sheet: calls, and lists of rewrites held against a plain grid; as many as lists of calls.
+fn compare_days(run: &Run) -> Result<(), Disagreement> {
+    let &Run { seed, lists, .. } = run;
+    let mut codes: BTreeMap<&'static str, BTreeMap<u32, u64>> = BTreeMap::new();
+    for number in 0..lists {
+        let rng = || Rng::of_case(seed, 7, number);
+        match days::day_call(&mut rng()).judge() {
+            Ok((name, code)) => *codes.entry(name).or_default().entry(code).or_default() += 1,
+            Err(_) => {
+                let small = shrink(rng(), days::day_call, |case| case.judge().is_err());
+                println!("seed {seed}, day {number}, made small: {}", small.judge().unwrap_err());
+                return Err(Disagreement);
+            }
+        }
+        if let Err(text) = days::list(&mut Rng::of_case(seed, 8, number)) {
+            println!("seed {seed}, days {number}: {text}");
+            return Err(Disagreement);
+        }
+    }
+    println!("seed {seed}: {lists} calls and {lists} lists on a day sheet, by codes {codes:?}: no disagreement");
+    Ok(())
+}
+
+fn compare_random(run: &Run) -> Result<(), Disagreement> {
+    let &Run { seed, calls, lists, fault, .. } = run;
     let mut comparison = Comparison { model: Model { fault }, counts: Counts::default() };
     let begin = Instant::now();
     for number in 0..calls {
-        comparison.call(&format!("seed {seed}, call {number}"), make_call(seed, number))?;
+        let case = format!("seed {seed}, call {number}");
+        comparison.call(&case, || call_rng(seed, number), generate_lent::lent_call)?;
     }
     let lent_seconds = begin.elapsed().as_secs_f64();
     for number in 0..lists {
-        comparison.list(&format!("seed {seed}, list {number}"), make_list(seed, number))?;
+        let case = format!("seed {seed}, list {number}");
+        comparison.list(&case, || list_rng(seed, number), generate_store::store_list)?;
     }
     comparison.counts.print();
     let total = comparison.counts.total();
@@ -271,18 +329,18 @@ fn compare_random(arguments: &Arguments) -> Result<(), Disagreement> {
     Ok(())
 }
 
-fn report_call(model: Model, case: &str, call: LentCall) {
+fn report_call(model: Model, case: &str, rng: Rng, make: impl Fn(&mut Rng) -> LentCall) {
     println!("{case}: the model and the library disagree; the case, made small:");
     let fails = |call: &LentCall| !judge_lent(model, call, &see_lent(call)).is_empty();
-    let small = shrink::lent_call(call, fails);
+    let small = shrink(rng, make, fails);
     describe::lent_call(&small).iter().for_each(|line| println!("{line}"));
     judge_lent(model, &small, &see_lent(&small)).iter().for_each(|line| println!("{line}"));
 }
 
-fn report_list(model: Model, case: &str, list: StoreList) {
+fn report_list(model: Model, case: &str, rng: Rng, make: impl Fn(&mut Rng) -> StoreList) {
     println!("{case}: the model and the library disagree; the case, made small:");
     let fails = |list: &StoreList| judge_list(model, list, &see_list(list)).is_some();
-    let small = shrink::store_list(list, fails);
+    let small = shrink(rng, make, fails);
     describe::store_list(&small).iter().for_each(|line| println!("{line}"));
     if let Some((call, lines)) = judge_list(model, &small, &see_list(&small)) {
         println!("at call {call}:");
@@ -291,8 +349,8 @@ fn report_list(model: Model, case: &str, list: StoreList) {
 }
 
 /// Runs calls and lists until each faulty model has disagreed with the library.
-fn plant_faults(arguments: &Arguments) -> ExitCode {
-    let &Arguments { seed, calls, lists, .. } = arguments;
+fn plant_faults(run: &Run) -> ExitCode {
+    let &Run { seed, calls, lists, .. } = run;
     let begin = Instant::now();
     let mut noticed: Vec<Option<String>> = vec![None; fault::ALL.len()];
     let mut sound = true;
@@ -301,14 +359,14 @@ fn plant_faults(arguments: &Arguments) -> ExitCode {
             break;
         }
         if number < calls {
-            let call = make_call(seed, number);
+            let call = generate_lent::lent_call(&mut call_rng(seed, number));
             let seen = see_lent(&call);
             let differs = |fault| !judge_lent(Model { fault }, &call, &seen).is_empty();
             sound &= !differs(SOUND.fault);
             note(&mut noticed, differs, &format!("call {number}"));
         }
         if number < lists {
-            let list = make_list(seed, number);
+            let list = generate_store::store_list(&mut list_rng(seed, number));
             let seen = see_list(&list);
             let differs = |fault| judge_list(Model { fault }, &list, &seen).is_some();
             sound &= !differs(SOUND.fault);

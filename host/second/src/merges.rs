@@ -46,9 +46,7 @@ impl Merges {
     /// The positions of the sheets in another order.
     fn shuffled(&self, rng: &mut Rng) -> Vec<usize> {
         let mut order: Vec<usize> = (0..self.sheets.len()).collect();
-        for at in (1..order.len()).rev() {
-            order.swap(at, rng.below(at + 1));
-        }
+        rng.shuffle(&mut order);
         order
     }
 
@@ -65,9 +63,12 @@ impl Merges {
                 merge(rng, &mut c, &self.sheets[number])
                     .map_err(|text| format!("order {order:?}, sheet {number}: {text}"))?;
             }
+            // Document 02, A12: "A3's claim speaks of grids only"; each merge adds one to the revision.
             let size = self.expected.size();
-            if c[..size] != self.expected.words() {
-                return Err(format!("order {order:?}: C is {:?} and not {:?}", &c[..size], self.expected.words()));
+            let revision = self.expected.revision.wrapping_add(order.len() as u32);
+            let expected = Grid { revision, ..self.expected.clone() }.words();
+            if c[..size] != expected {
+                return Err(format!("order {order:?}: C is {:?} and not {expected:?}", &c[..size]));
             }
         }
         Ok(())

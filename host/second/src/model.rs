@@ -133,7 +133,7 @@ impl Model {
             Operation::Kronecker { op } => self.kronecker(&first, &second, *op),
         };
         let (rows, cols) = self.shape_of_t(operation, options, sheets).unwrap_or((1, 1));
-        let mut t = Grid { rows, cols, cells };
+        let mut t = Grid { cells, ..Grid::empty(rows, cols) };
         if fault == Fault::ZeroDropped {
             t.cells.retain(|_, value| *value != 0);
         }
@@ -394,7 +394,27 @@ impl Model {
 
     pub fn final_c(&self, operation: &Operation, options: &Options, sheets: &Sheets) -> Final {
         let t = self.result(operation, options, sheets);
-        Final { grid: self.write_back(operation, options, sheets, &t), entries_of_t: t.cells.len() }
+        let grid = self.write_back(operation, options, sheets, &t);
+        let old = if self.has(Fault::RevisionOfInput) { sheets.a } else { sheets.c };
+        let revision = self.next_revision(old.revision, grid.cells != sheets.c.cells);
+        Final { grid: Grid { revision, ..grid }, entries_of_t: t.cells.len() }
+    }
+
+    /// Document 02, A12: "Each accepted call that writes into a sheet adds one to that sheet's revision, even where no cell
+    /// changes, and after 4294967295 the revision wraps to 0."
+    pub fn next_revision(&self, revision: u32, changed: bool) -> u32 {
+        match self.fault {
+            Fault::RevisionTwice => revision.wrapping_add(2),
+            Fault::RevisionWhereChanged if !changed => revision,
+            Fault::RevisionStops => revision.saturating_add(1),
+            _ => revision.wrapping_add(1),
+        }
+    }
+
+    /// "Laying starts at 0."
+    pub fn laid(&self, over: Option<&Grid>, rows: u32, cols: u32) -> Grid {
+        let kept = over.filter(|_| self.has(Fault::RevisionKeptByLay));
+        Grid { revision: kept.map_or(0, |old| old.revision), ..Grid::empty(rows, cols) }
     }
 
     /// Whether refusal 10 applies.

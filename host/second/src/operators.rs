@@ -117,11 +117,13 @@ pub fn selects(number: u32, x: i32, i: u32, j: u32, scalar: i32, fault: Fault) -
 pub fn identity(monoid: u32, fault: Fault) -> i32 {
     match monoid {
         3 => 0,
+        4 if fault == Fault::MonoidMinusAccepted => 0,
         5 => 1,
         6 if fault == Fault::ExtremesExchanged => i32::MIN,
         7 if fault == Fault::ExtremesExchanged => i32::MAX,
         6 => i32::MAX,
         7 => i32::MIN,
+        4 if fault == Fault::MonoidMinusAccepted => 0,
         _ => unreachable!("monoid {monoid}"),
     }
 }

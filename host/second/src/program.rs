@@ -7,10 +7,10 @@ use crate::rng::Rng;
 use std::io::Write;
 use std::process::{Command, Stdio};
 
-const STRIP: [u32; 14] = [2, 1, 4, 2, 0, 3, 3, 0, 1, 3, 3, 10, 20, 40];
-const TWO_ROWS: [u32; 15] = [2, 2, 3, 3, 0, 1, 3, 3, 2, 0, 2, 3, 1, 0, u32::MAX - 4];
+const STRIP: [u32; 16] = [1, 0, 2, 1, 4, 2, 0, 3, 3, 0, 1, 3, 3, 10, 20, 40];
+const TWO_ROWS: [u32; 17] = [1, 5, 2, 2, 3, 3, 0, 1, 3, 3, 2, 0, 2, 3, 1, 0, u32::MAX - 4];
 
-/// A word of a sheet changed to another, as the test of the format does it.
+/// A word behind the revision changed to another, as the test of the format does it.
 const STRIP_DAMAGE: [(usize, u32); 23] = [
     (0, 1),
     (0, 3),
@@ -61,11 +61,12 @@ fn whole(bytes: Vec<u8>) -> Input {
     Input { bytes, piece: usize::MAX }
 }
 
-fn changed(words: &[u32], damage: &[(usize, u32)]) -> Vec<Input> {
+/// Files of both forms: the old one has no revision.
+fn changed(words: &[u32], damage: &[(usize, u32)], old: bool) -> Vec<Input> {
     let change = |&(at, word): &(usize, u32)| {
         let mut words = words.to_vec();
-        words[at] = word;
-        whole(file_bytes(&words, Slip::None))
+        words[at + 2] = word;
+        whole(file_bytes(if old { &words[2..] } else { &words }, Slip::None))
     };
     damage.iter().map(change).collect()
 }
@@ -84,14 +85,17 @@ fn inputs() -> Vec<Input> {
         inputs.push(whole(strip[..strip.len() - cut].to_vec()));
         inputs.push(whole([&strip[..], &vec![0; cut]].concat()));
     }
-    inputs.extend(changed(&STRIP, &STRIP_DAMAGE));
-    inputs.extend(changed(&TWO_ROWS, &TWO_ROWS_DAMAGE));
+    for old in [false, true] {
+        inputs.extend(changed(&STRIP, &STRIP_DAMAGE, old));
+        inputs.extend(changed(&TWO_ROWS, &TWO_ROWS_DAMAGE, old));
+    }
     let both_ends = Grid { cells: [((0, 0), i32::MIN), ((0, 1), i32::MAX)].into(), ..Grid::empty(1, 2) };
     let (mut rows, mut entries) = (largest(), largest());
     rows.rows = 1001;
     entries.cells.insert((0, 0), 1);
     for grid in [&both_ends, &Grid::empty(3, 2), &largest(), &rows, &entries] {
         inputs.push(whole(file_bytes(&grid.words(), Slip::None)));
+        inputs.push(whole(file_bytes(&grid.words()[2..], Slip::None)));
     }
     let most = file_bytes(&largest().words(), Slip::None);
     for more in [1, 4, 1 << 17] {

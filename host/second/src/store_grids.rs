@@ -98,6 +98,9 @@ impl Model {
     pub fn store(&self, state: &mut StoreState, call: &StoreCall) -> Outcome {
         let before = state.grids.clone();
         let answer = self.store_answer(state.grids.as_mut(), call);
+        if self.has(Fault::RevisionOnRefusal) && code_of(answer) != 0 {
+            revise_written(state.grids.as_mut(), call);
+        }
         if let (Some(grids), true) = (&state.grids, state.grids != before) {
             let mut words = grids.words();
             if self.has(Fault::StoreTailStale) {
@@ -149,6 +152,7 @@ impl Model {
                     if self.has(Fault::ClearAbsentRefused) && !was_there {
                         return counted(7, 0);
                     }
+                    grid.revision = self.next_revision(grid.revision, was_there);
                     counted(0, grid.cells.len())
                 }
             },
@@ -176,7 +180,7 @@ impl Model {
         if !self.is_shape(rows, cols) {
             return counted(8, 0);
         }
-        let grid = Grid::empty(rows, cols);
+        let grid = self.laid(grids.slots[slot].as_ref(), rows, cols);
         if !self.fits(grids, slot, grid.size()) {
             if self.has(Fault::RefusedLayDrops) {
                 grids.slots[slot] = None;
@@ -195,7 +199,8 @@ impl Model {
             return counted(7, 0);
         }
         let one_more = grid.cells.len() + 1;
-        grid.cells.insert(at, value);
+        let before = grid.cells.insert(at, value);
+        grid.revision = self.next_revision(grid.revision, before != Some(value));
         let entries = if self.has(Fault::SetCountsExisting) { one_more } else { grid.cells.len() };
         if entries > MAX_ENTRIES {
             return counted(10, 0);
@@ -245,7 +250,11 @@ impl Model {
             }
             // There is a final C if nothing but the work buffer is wrong.
             if applying.iter().all(|&code| code == 9) {
-                let result = self.final_c(operation, options, &sheets);
+                let mut result = self.final_c(operation, options, &sheets);
+                if self.has(Fault::RevisionPerRole) {
+                    let more = roles.iter().filter(|&&slot| slot == call.c).count() - 1;
+                    result.grid.revision = result.grid.revision.wrapping_add(more as u32);
+                }
                 if self.has_too_many(&result) {
                     applying.push(10);
                 }
@@ -260,6 +269,20 @@ impl Model {
             }
         }
         counted(self.first_refusal(&applying, &ORDER).unwrap_or(0), 0)
+    }
+}
+
+/// One more for the revision of the place that the call is to write into.
+fn revise_written(grids: Option<&mut StoreGrids>, call: &StoreCall) {
+    let (StoreCall::NewEmpty { slot, .. }
+    | StoreCall::SetCell { slot, .. }
+    | StoreCall::ClearCell { slot, .. }
+    | StoreCall::Operation(StoreOperation { c: slot, .. })) = call
+    else {
+        return;
+    };
+    if let Some(Some(grid)) = grids.and_then(|grids| grids.slots.get_mut(*slot)) {
+        grid.revision = grid.revision.wrapping_add(1);
     }
 }
 
@@ -291,14 +314,28 @@ mod tests {
             StoreCall::ReadCell { slot: 1, i: 0, j: 3 },
             StoreCall::ClearCell { slot: 1, i: 0, j: 2 },
         ];
-        let mut state = StoreState::new(&[0; 18], SOUND.fault);
+        let mut state = StoreState::new(&[0; 20], SOUND.fault);
         let expected =
             [counted(0, 0), counted(0, 1), counted(0, 1), counted(11, 0), present_or_absent(Some(6), 0), counted(0, 1)];
         assert_eq!(answers(&mut state, &calls), expected);
-        assert_eq!(state.words, [0, 10, 2, 1, 4, 2, 0, 1, 1, 3, 1, 6, 0, 0, 0, 0, 0, 0]);
+        assert_eq!(state.words, [0, 12, 1, 3, 2, 1, 4, 2, 0, 1, 1, 3, 1, 6, 0, 0, 0, 0, 0, 0]);
 
-        let mut state = StoreState::new(&[0; 17], SOUND.fault);
+        let mut state = StoreState::new(&[0; 19], SOUND.fault);
         assert_eq!(answers(&mut state, &calls[..2]), [counted(0, 0), counted(11, 0)]);
+    }
+
+    /// Laid, set, set to what it is, refused, read, cleared though empty; laid again.
+    #[test]
+    fn revisions() {
+        let mut state = StoreState::new(&[0; 30], SOUND.fault);
+        let (set, clear) = (|j| StoreCall::SetCell { slot: 2, i: 0, j, value: 5 }, |j| StoreCall::ClearCell { slot: 2, i: 0, j });
+        let lay = StoreCall::NewEmpty { slot: 2, rows: 1, cols: 4 };
+        let read = StoreCall::ReadCell { slot: 2, i: 0, j: 3 };
+        let steps = [(lay.clone(), 0), (set(3), 1), (set(3), 2), (set(4), 2), (read, 2), (clear(1), 3), (lay, 0)];
+        for (call, revision) in steps {
+            SOUND.store(&mut state, &call);
+            assert_eq!(state.grids.as_ref().and_then(|grids| grids.slots[2].as_ref()).map(|grid| grid.revision), Some(revision));
+        }
     }
 
     #[test]

@@ -6,7 +6,7 @@ use crate::model::SOUND;
 
 fn grid(rows: u32, cols: u32, cells: &[(u32, u32, i32)]) -> Grid {
     let cells = cells.iter().map(|&(i, j, value)| ((i, j), value)).collect();
-    Grid { rows, cols, cells }
+    Grid { cells, ..Grid::empty(rows, cols) }
 }
 
 fn strip(cells: &[(u32, i32)]) -> Grid {
@@ -41,7 +41,8 @@ fn run(operation: Operation, options: Options, inputs: [&Grid; 3], c: &Grid) -> 
     let result = Grid::read(words, SOUND.fault).expect("a valid sheet");
     assert_eq!(outcome.answer, counted(0, result.cells.len()));
     assert_eq!(outcome.buffers[4].words, vec![0; WORK_WORDS]);
-    result
+    assert_eq!(result.revision, c.revision + 1);
+    Grid { revision: 0, ..result }
 }
 
 #[test]

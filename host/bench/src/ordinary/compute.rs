@@ -67,7 +67,7 @@ impl Write<'_> {
             }
             output.end_row();
         }
-        Ok(output.finish(self.c.cols))
+        Ok(output.finish(self.c.next_revision(), self.c.cols))
     }
 
     /// Inside the mask C takes Z; outside it keeps its entry, or loses it under replace.

@@ -4,7 +4,10 @@ pub const MAX_SIDE: usize = 1000;
 pub const MAX_ENTRIES: usize = 2048;
 
 /// The words of a matrix beside its R rows and twice its N entries.
-const FIXED_WORDS: usize = 7;
+const FIXED_WORDS: usize = 9;
+
+/// The words before the row starts: 1 and the revision; 2, R, C; R + 1.
+pub const STARTS_AT: usize = 6;
 
 /// The words of the largest matrix.
 pub const MAX_WORDS: usize = size(MAX_SIDE, MAX_ENTRIES);
@@ -23,6 +26,7 @@ pub struct Cell {
 /// The sections of a valid matrix.
 #[derive(Clone, Copy)]
 pub struct Matrix<'a> {
+    pub revision: u32,
     pub cols: usize,
     pub starts: &'a [u32],
     pub columns: &'a [u32],
@@ -49,8 +53,10 @@ impl<'a> Matrix<'a> {
 
     /// The sections, if shape, counts and size are in order.
     fn sections(words: &'a [u32]) -> Option<Self> {
-        let (&[shape_count, rows, cols, start_count], rest) = words.split_first_chunk()?;
-        if shape_count != 2 || !side_valid(rows) || !side_valid(cols) || start_count != rows + 1 {
+        let (&[1, revision, 2, rows, cols, start_count], rest) = words.split_first_chunk()? else {
+            return None;
+        };
+        if !side_valid(rows) || !side_valid(cols) || start_count != rows + 1 {
             return None;
         }
         let (starts, rest) = rest.split_at_checked(start_count as usize)?;
@@ -64,7 +70,7 @@ impl<'a> Matrix<'a> {
             return None;
         }
         let values = rest.get(..count as usize)?;
-        Some(Matrix { cols: cols as usize, starts, columns, values })
+        Some(Matrix { revision, cols: cols as usize, starts, columns, values })
     }
 
     fn starts_valid(&self) -> bool {
@@ -91,6 +97,11 @@ impl<'a> Matrix<'a> {
         self.columns.len()
     }
 
+    /// The revision after a call that writes into it.
+    pub fn next_revision(&self) -> u32 {
+        self.revision.wrapping_add(1)
+    }
+
     /// Its size in words.
     pub fn size(&self) -> usize {
         size(self.rows(), self.entries())
@@ -98,7 +109,7 @@ impl<'a> Matrix<'a> {
 
     /// The words before its column numbers.
     pub fn columns_at(&self) -> usize {
-        self.rows() + 6
+        STARTS_AT + self.rows() + 2
     }
 
     /// The words before its values.
@@ -123,12 +134,13 @@ impl<'a> Matrix<'a> {
     /// Its words, to the front of the buffer.
     pub fn write(&self, buffer: &mut [u32]) {
         let (rows, entries) = (self.rows(), self.entries());
-        buffer[..4].copy_from_slice(&[2, rows as u32, self.cols as u32, rows as u32 + 1]);
-        buffer[4..rows + 5].copy_from_slice(self.starts);
-        buffer[rows + 5] = entries as u32;
-        buffer[rows + 6..rows + 6 + entries].copy_from_slice(self.columns);
-        buffer[rows + 6 + entries] = entries as u32;
-        buffer[rows + 7 + entries..rows + 7 + 2 * entries].copy_from_slice(self.values);
+        let (columns, values) = (self.columns_at(), self.values_at());
+        write_front(buffer, self.revision, rows as u32, self.cols as u32);
+        buffer[STARTS_AT..=STARTS_AT + rows].copy_from_slice(self.starts);
+        buffer[columns - 1] = entries as u32;
+        buffer[columns..columns + entries].copy_from_slice(self.columns);
+        buffer[values - 1] = entries as u32;
+        buffer[values..values + entries].copy_from_slice(self.values);
     }
 }
 
@@ -141,5 +153,10 @@ impl<'a> Row<'a> {
 /// The words of a matrix without entries, to the whole of the buffer.
 pub fn write_empty(buffer: &mut [u32], rows: u32, cols: u32) {
     buffer.fill(0);
-    buffer[..4].copy_from_slice(&[2, rows, cols, rows + 1]);
+    write_front(buffer, 0, rows, cols);
+}
+
+/// The words before the row starts.
+fn write_front(buffer: &mut [u32], revision: u32, rows: u32, cols: u32) {
+    buffer[..STARTS_AT].copy_from_slice(&[1, revision, 2, rows, cols, rows + 1]);
 }

@@ -49,8 +49,9 @@ impl<'w> Output<'w> {
     }
 
     /// The result, when all rows have ended.
-    pub fn finish(self, cols: usize) -> Matrix<'w> {
+    pub fn finish(self, revision: u32, cols: usize) -> Matrix<'w> {
         Matrix {
+            revision,
             cols,
             starts: &self.starts[..=self.rows],
             columns: &self.columns[..self.entries],

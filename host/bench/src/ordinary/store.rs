@@ -2,7 +2,7 @@
 
 use super::answer::{ensure, pack, pack_cell, pack_number, Refusal, Result};
 use super::compute::{add_up, compute};
-use super::matrix::{side_valid, size, write_empty, Cell, Matrix, MAX_ENTRIES};
+use super::matrix::{side_valid, size, write_empty, Cell, Matrix, MAX_ENTRIES, STARTS_AT};
 use super::operators::BinaryOp;
 use super::request::{Inputs, Operation, Request};
 use super::sections::{Bounds, Store, SLOTS};
@@ -87,6 +87,7 @@ fn find_cell(slot: usize, i: u32, j: u32, words: &[u32]) -> Result<Found<'_>> {
 
 /// Where the sections of a slot's matrix are in the store's words.
 struct Places {
+    revision: usize,
     starts: usize,
     rows: usize,
     columns: usize,
@@ -95,9 +96,9 @@ struct Places {
 
 impl Places {
     fn new(bounds: Bounds, slot: usize, rows: usize, entries: usize) -> Self {
-        let starts = bounds.contents_at(slot) + 4;
+        let starts = bounds.contents_at(slot) + STARTS_AT;
         let columns = starts + rows + 2;
-        Places { starts, rows, columns, values: columns + entries + 1 }
+        Places { revision: bounds.contents_at(slot) + 1, starts, rows, columns, values: columns + entries + 1 }
     }
 
     /// The starts of the rows behind row i, and N.
@@ -109,9 +110,10 @@ impl Places {
 fn set_cell(slot: usize, i: u32, j: u32, value: u32, words: &mut [u32]) -> Result<usize> {
     let Found { cell, matrix, bounds } = find_cell(slot, i, j, words)?;
     let (rows, entries, at) = (matrix.rows(), matrix.entries(), cell.position);
-    let places = Places::new(bounds, slot, rows, entries);
+    let (places, revision) = (Places::new(bounds, slot, rows, entries), matrix.next_revision());
     match cell.value {
         Some(_) => {
+            words[places.revision] = revision;
             words[places.values + at] = value;
             Ok(entries)
         }
@@ -121,6 +123,7 @@ fn set_cell(slot: usize, i: u32, j: u32, value: u32, words: &mut [u32]) -> Resul
             let (column_at, value_at) = (places.columns + at, places.values + at);
             words.copy_within(value_at..bounds.end(), value_at + 2);
             words.copy_within(column_at..value_at, column_at + 1);
+            words[places.revision] = revision;
             words[column_at] = j;
             words[value_at + 1] = value;
             words[places.values] = entries as u32 + 1;
@@ -134,10 +137,11 @@ fn set_cell(slot: usize, i: u32, j: u32, value: u32, words: &mut [u32]) -> Resul
 fn clear_cell(slot: usize, i: u32, j: u32, words: &mut [u32]) -> Result<usize> {
     let Found { cell, matrix, bounds } = find_cell(slot, i, j, words)?;
     let (rows, entries, at) = (matrix.rows(), matrix.entries(), cell.position);
+    let places = Places::new(bounds, slot, rows, entries);
+    words[places.revision] = matrix.next_revision();
     if cell.value.is_none() {
         return Ok(entries);
     }
-    let places = Places::new(bounds, slot, rows, entries);
     let (column_at, value_at, end) = (places.columns + at, places.values + at, bounds.end());
     words.copy_within(column_at + 1..value_at, column_at);
     words.copy_within(value_at + 1..end, value_at - 1);

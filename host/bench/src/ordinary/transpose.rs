@@ -25,5 +25,5 @@ pub fn transpose<'w>(a: Matrix, buffer: &'w mut [u32]) -> Matrix<'w> {
     }
     starts.copy_within(..a.cols, 1);
     starts[0] = 0;
-    Matrix { cols: a.rows(), starts, columns, values }
+    Matrix { revision: a.revision, cols: a.rows(), starts, columns, values }
 }

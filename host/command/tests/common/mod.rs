@@ -50,6 +50,14 @@ impl Folder {
         fs::read(self.path(name)).unwrap()
     }
 
+    /// The bytes of a shelf's words, within a guard that is as it should be.
+    pub fn words(&self, name: &str) -> Vec<u8> {
+        let bytes = self.bytes(name);
+        let words = bytes[16..bytes.len() - 4].to_vec();
+        assert_eq!(bytes, guarded(&words), "{name}");
+        words
+    }
+
     pub fn state(&self, name: &str) -> FileState {
         FileState { inode: fs::metadata(self.path(name)).unwrap().ino(), bytes: self.bytes(name) }
     }
@@ -129,6 +137,55 @@ impl Drop for Folder {
     fn drop(&mut self) {
         let _ = fs::remove_dir_all(&self.path);
     }
+}
+
+/// The words in front of a sheet's shape: none, or its revision's section.
+pub fn revision_words() -> Vec<u32> {
+    let words = ostrubel::Matrix::new(1, 1).unwrap().into_words();
+    words[..words.iter().position(|word| *word == 2).unwrap()].to_vec()
+}
+
+/// The version of the guard that is written now: 2 where sheets have a revision.
+pub fn version() -> u32 {
+    if revision_words().is_empty() {
+        1
+    } else {
+        2
+    }
+}
+
+/// The words of a sheet: those given begin with its shape, and so many calls have written into it.
+pub fn sheet_words(revision: u32, words: &[u32]) -> Vec<u32> {
+    let mut front = revision_words();
+    front.last_mut().into_iter().for_each(|last| *last = revision);
+    [&front[..], words].concat()
+}
+
+/// What `list` says of a sheet's revision.
+pub fn revision_text(revision: u32) -> String {
+    if version() == 1 {
+        String::new()
+    } else {
+        format!(", revision {revision}")
+    }
+}
+
+/// The bytes of a shelf's file, by the bytes of its words.
+pub fn guarded(words: &[u8]) -> Vec<u8> {
+    guarded_as(version(), words)
+}
+
+pub fn guarded_as(version: u32, words: &[u8]) -> Vec<u8> {
+    let count = (words.len() / 4) as u32;
+    let mut bytes = [b"OSTRUBEL", &version.to_le_bytes()[..], &count.to_le_bytes(), words].concat();
+    bytes.extend(crc32(&bytes).to_le_bytes());
+    bytes
+}
+
+/// Bit by bit, as the polynomial says.
+fn crc32(bytes: &[u8]) -> u32 {
+    let bits = bytes.iter().flat_map(|byte| (0..8).map(move |bit| u32::from(byte >> bit & 1)));
+    !bits.fold(u32::MAX, |rest, bit| (rest >> 1) ^ (((rest ^ bit) & 1) * 0xEDB8_8320))
 }
 
 pub fn text(output: &Output) -> String {

@@ -1,0 +1,204 @@
+//! Scripts that have a shell complete the command's words. Commands, options and what they are about come from the help.
+
+use crate::arguments::has_value;
+use crate::commands::Command;
+use crate::format::Format;
+use crate::help;
+use ostrubel::{BinaryOp, IndexUnaryOp, Monoid, SelectOp, UnaryOp, SLOTS};
+
+#[derive(Clone, Copy, Debug, PartialEq, Eq)]
+pub enum Shell {
+    Bash,
+    Zsh,
+    Fish,
+}
+
+impl Shell {
+    pub fn parse(text: &str) -> Result<Shell, String> {
+        match text.to_lowercase().as_str() {
+            "bash" => Ok(Shell::Bash),
+            "zsh" => Ok(Shell::Zsh),
+            "fish" => Ok(Shell::Fish),
+            _ => Err(format!("no shell {text:?}: there are bash, zsh, fish")),
+        }
+    }
+}
+
+pub fn script(shell: Shell) -> String {
+    match shell {
+        Shell::Bash => bash(),
+        Shell::Zsh => zsh(),
+        Shell::Fish => fish(),
+    }
+}
+
+/// What may stand behind an option.
+enum Values {
+    Files,
+    Words(Vec<String>),
+    /// A number, or what cannot be listed.
+    Any,
+}
+
+fn values(option: &str) -> Values {
+    let lower = |names: Vec<&str>| Values::Words(names.into_iter().map(str::to_lowercase).collect());
+    let binary = || BinaryOp::ALL.iter().map(|op| op.name());
+    match option {
+        "--names" | "--svg" | "--html" | "--to" => Values::Files,
+        "--format" => lower(Format::ALL.iter().map(|format| format.name()).collect()),
+        "--mask" => Values::Words((0..SLOTS).map(|slot| slot.to_string()).collect()),
+        "--accum" => lower(binary().collect()),
+        "--monoid" => lower(Monoid::ALL.iter().map(|monoid| monoid.name()).collect()),
+        "--semiring" => {
+            let pair = |monoid: &Monoid| {
+                binary().map(|op| format!("{}.{op}", monoid.name()).to_lowercase()).collect::<Vec<_>>()
+            };
+            Values::Words(Monoid::ALL.iter().flat_map(pair).collect())
+        }
+        _ => Values::Any,
+    }
+}
+
+/// The operators of `--op`, which are others for each command.
+fn operators(command: Command) -> Vec<String> {
+    let names: Vec<&str> = match command {
+        Command::Apply => {
+            let names = UnaryOp::ALL.iter().map(|op| op.name()).chain(IndexUnaryOp::ALL.iter().map(|op| op.name()));
+            names.chain(BinaryOp::ALL.iter().map(|op| op.name())).collect()
+        }
+        Command::Select => SelectOp::ALL.iter().map(|op| op.name()).collect(),
+        _ => BinaryOp::ALL.iter().map(|op| op.name()).collect(),
+    };
+    names.into_iter().map(str::to_lowercase).collect()
+}
+
+fn option_values(command: Command, option: &str) -> Values {
+    if option == "--op" {
+        Values::Words(operators(command))
+    } else {
+        values(option)
+    }
+}
+
+fn names() -> String {
+    Command::ALL.map(Command::name).join(" ")
+}
+
+fn topics() -> String {
+    format!("{} {}", names(), help::TOPICS.join(" "))
+}
+
+fn bash() -> String {
+    let mut cases = String::new();
+    for command in Command::ALL {
+        let name = command.name();
+        cases.push_str(&format!("    {name}) options=\"{} --help\" ;;\n", command.options().join(" ")));
+    }
+    let mut behind = String::new();
+    for command in Command::ALL {
+        for option in command.options().into_iter().filter(|option| has_value(option)) {
+            let reply = match option_values(command, option) {
+                Values::Files => "COMPREPLY=($(compgen -f -- \"$word\"))".to_string(),
+                Values::Words(words) => format!("COMPREPLY=($(compgen -W \"{}\" -- \"$word\"))", words.join(" ")),
+                Values::Any => "COMPREPLY=()".to_string(),
+            };
+            behind.push_str(&format!("    \"{} {option}\") {reply}; return ;;\n", command.name()));
+        }
+    }
+    format!(
+        "# bash completion of ostrubel; put it where bash looks for it, as by\n\
+         #   ostrubel completions bash > ~/.local/share/bash-completion/completions/ostrubel\n\
+         _ostrubel() {{\n  local word=${{COMP_WORDS[COMP_CWORD]}} before=${{COMP_WORDS[COMP_CWORD-1]}} options=\n  \
+         local command=${{COMP_WORDS[1]}}\n  COMPREPLY=()\n  if [ \"$COMP_CWORD\" -eq 1 ]; then\n    \
+         COMPREPLY=($(compgen -W \"{names} --help --version\" -- \"$word\"))\n    return\n  fi\n  \
+         case \"$command $before\" in\n    \"help help\") COMPREPLY=($(compgen -W \"{topics}\" -- \"$word\")); return ;;\n    \
+         \"completions completions\") COMPREPLY=($(compgen -W \"bash zsh fish\" -- \"$word\")); return ;;\n{behind}  esac\n  \
+         case $command in\n{cases}  esac\n  case $word in\n    -*) COMPREPLY=($(compgen -W \"$options\" -- \"$word\")) ;;\n    \
+         *) COMPREPLY=($(compgen -f -- \"$word\")) ;;\n  esac\n}}\ncomplete -o filenames -F _ostrubel ostrubel\n",
+        names = names(),
+        topics = topics(),
+    )
+}
+
+/// Text within single quotes, for zsh and fish.
+fn single(text: &str) -> String {
+    format!("'{}'", text.replace('\\', "\\\\").replace('\'', "'\\''"))
+}
+
+fn zsh() -> String {
+    let describe = |text: &str| text.replace(':', "\\:").replace('[', "\\[").replace(']', "\\]");
+    let mut commands = String::new();
+    let mut cases = String::new();
+    for command in Command::ALL {
+        let name = command.name();
+        let about = describe(&help::summary(command));
+        commands.push_str(&format!("    {}\n", single(&format!("{name}:{about}"))));
+        cases.push_str(&format!("    {name}) _arguments"));
+        for option in command.options() {
+            let about = describe(&help::option_summary(command, option));
+            let value = match (has_value(option), option_values(command, option)) {
+                (false, _) => String::new(),
+                (true, Values::Files) => ":file:_files".to_string(),
+                (true, Values::Words(words)) => format!(":value:({})", words.join(" ")),
+                (true, Values::Any) => ":value: ".to_string(),
+            };
+            cases.push_str(&format!(" {}", single(&format!("{option}[{about}]{value}"))));
+        }
+        let rest = match command {
+            Command::Help => format!("*:topic:({})", topics()),
+            Command::Completions => "*:shell:(bash zsh fish)".to_string(),
+            _ => "*:file:_files".to_string(),
+        };
+        cases.push_str(&format!(" '--help[the command'\\''s page]' {} ;;\n", single(&rest)));
+    }
+    format!(
+        "#compdef ostrubel\n# zsh completion of ostrubel; put it as _ostrubel into a folder of $fpath\n\
+         _ostrubel() {{\n  local -a commands=(\n{commands}  )\n  if (( CURRENT == 2 )); then\n    \
+         _describe command commands\n    return\n  fi\n  local command=$words[2]\n  shift words\n  (( CURRENT-- ))\n  \
+         case $command in\n{cases}  esac\n}}\n_ostrubel \"$@\"\n"
+    )
+}
+
+fn fish() -> String {
+    let mut text = "# fish completion of ostrubel; put it into ~/.config/fish/completions/ostrubel.fish\n".to_string();
+    for command in Command::ALL {
+        let (name, about) = (command.name(), single(&help::summary(command)));
+        text.push_str(&format!("complete -c ostrubel -n __fish_use_subcommand -f -a {name} -d {about}\n"));
+        for option in command.options() {
+            let about = single(&help::option_summary(command, option));
+            let value = match (has_value(option), option_values(command, option)) {
+                (false, _) => String::new(),
+                (true, Values::Files) => " -r -F".to_string(),
+                (true, Values::Words(words)) => format!(" -x -a {}", single(&words.join(" "))),
+                (true, Values::Any) => " -x".to_string(),
+            };
+            let option = option.trim_start_matches('-');
+            text.push_str(&format!(
+                "complete -c ostrubel -n '__fish_seen_subcommand_from {name}' -l {option}{value} -d {about}\n"
+            ));
+        }
+    }
+    let line = |name: &str, words: &str| {
+        format!("complete -c ostrubel -n '__fish_seen_subcommand_from {name}' -f -a {}\n", single(words))
+    };
+    text + &line("help", &topics()) + &line("completions", "bash zsh fish")
+}
+
+#[cfg(test)]
+mod tests {
+    use super::*;
+
+    #[test]
+    fn each_command_and_option_is_in_each_script() {
+        for shell in [Shell::Bash, Shell::Zsh, Shell::Fish] {
+            let script = script(shell);
+            for command in Command::ALL {
+                assert!(script.contains(command.name()), "{shell:?} {command:?}");
+                for option in command.options() {
+                    let name = if shell == Shell::Fish { option.trim_start_matches('-') } else { option };
+                    assert!(script.contains(name), "{shell:?} {option}");
+                }
+            }
+        }
+    }
+}

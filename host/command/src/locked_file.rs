@@ -1,0 +1,137 @@
+//! A file that one command at a time can write.
+//!
+//! A command that can write holds an exclusive lock (`File::lock`) on the file itself from before it reads until it has
+//! renamed. A waiting command then holds the lock of a file that has been replaced: it compares the file that it locked
+//! with the one that the path names now, and begins anew where they differ. So no update is lost, and no lock file is
+//! left. A command that only reads needs no lock, since the file that it has opened is never written again.
+
+use crate::output::complain;
+use crate::text::shown_path;
+use std::fs::{self, File, Metadata, OpenOptions, TryLockError};
+use std::io::{self, ErrorKind};
+use std::os::unix::fs::MetadataExt;
+use std::path::{Path, PathBuf};
+use std::sync::mpsc::{self, RecvTimeoutError};
+use std::thread;
+use std::time::{Duration, Instant};
+
+/// How long a command waits for the lock; without a limit for ever.
+pub type Patience = Option<Duration>;
+
+/// Waiting that takes longer is told.
+const SHORT: Duration = Duration::from_secs(1);
+
+pub struct LockedFile {
+    /// Open, and locked until it is closed.
+    pub file: File,
+    /// Where it is, with no symbolic link in it.
+    pub target: PathBuf,
+}
+
+impl LockedFile {
+    /// Waits for the lock. Opening the file for writing, though it is not written, has a read-only file refused.
+    pub fn open(path: &Path, patience: Patience) -> io::Result<LockedFile> {
+        let mut waiting = Waiting { path, begin: Instant::now(), patience, told: false };
+        loop {
+            let target = fs::canonicalize(path)?;
+            let file = open_regular(&target, OpenOptions::new().read(true).write(true))?;
+            waiting.lock(&file)?;
+            if names_file(&target, &file)? {
+                return Ok(LockedFile { file, target });
+            }
+        }
+    }
+}
+
+/// The wait for one file, which may be replaced several times meanwhile.
+struct Waiting<'a> {
+    path: &'a Path,
+    begin: Instant,
+    patience: Patience,
+    told: bool,
+}
+
+impl Waiting<'_> {
+    fn lock(&mut self, file: &File) -> io::Result<()> {
+        match file.try_lock() {
+            Err(TryLockError::WouldBlock) => {}
+            Err(TryLockError::Error(error)) if error.kind() == ErrorKind::Interrupted => {}
+            Err(TryLockError::Error(error)) => return Err(error),
+            Ok(()) => return Ok(()),
+        }
+        // A thread waits in line; it shares the lock, and ends with the program where the patience does.
+        let (sender, receiver) = mpsc::channel();
+        let shared = file.try_clone()?;
+        thread::spawn(move || sender.send(lock(&shared)));
+        loop {
+            let answer = match self.pause()? {
+                Some(pause) => receiver.recv_timeout(pause),
+                None => receiver.recv().map_err(RecvTimeoutError::from),
+            };
+            match answer {
+                Ok(locked) => return locked,
+                Err(RecvTimeoutError::Disconnected) => return Err(ErrorKind::BrokenPipe.into()),
+                Err(RecvTimeoutError::Timeout) => self.tell(),
+            }
+        }
+    }
+
+    /// How long to wait before there is something to say or to do; for ever where there is nothing.
+    fn pause(&self) -> io::Result<Option<Duration>> {
+        let waited = self.begin.elapsed();
+        match self.patience {
+            Some(patience) if waited >= patience => Err(io::Error::new(
+                ErrorKind::TimedOut,
+                format!("another command has it, and {} s of waiting are over; nothing was saved", patience.as_secs()),
+            )),
+            Some(patience) if self.told => Ok(Some(patience - waited)),
+            Some(patience) => Ok(Some((patience - waited).min(SHORT.saturating_sub(waited)))),
+            None if self.told => Ok(None),
+            None => Ok(Some(SHORT.saturating_sub(waited))),
+        }
+    }
+
+    fn tell(&mut self) {
+        if !self.told && self.begin.elapsed() >= SHORT {
+            self.told = true;
+            let name = shown_path(self.path);
+            complain(&format!("ostrubel: {name}: waiting for another command that has it; --wait SECONDS gives up"));
+        }
+    }
+}
+
+/// Waits for the lock as long as it takes.
+pub fn lock(file: &File) -> io::Result<()> {
+    loop {
+        match file.lock() {
+            Err(error) if error.kind() == ErrorKind::Interrupted => {}
+            result => return result,
+        }
+    }
+}
+
+/// Whether the path still names the open file.
+pub fn names_file(path: &Path, file: &File) -> io::Result<bool> {
+    let named = match fs::metadata(path) {
+        Err(error) if error.kind() == ErrorKind::NotFound => return Ok(false),
+        named => named?,
+    };
+    let open = file.metadata()?;
+    Ok((named.dev(), named.ino()) == (open.dev(), open.ino()))
+}
+
+/// Opens a file, but neither a folder nor a pipe, where opening would wait for another program.
+pub fn open_regular(path: &Path, options: &OpenOptions) -> io::Result<File> {
+    check_regular(&fs::metadata(path)?)?;
+    let file = options.open(path)?;
+    check_regular(&file.metadata()?)?;
+    Ok(file)
+}
+
+fn check_regular(about: &Metadata) -> io::Result<()> {
+    if about.is_file() {
+        Ok(())
+    } else {
+        Err(io::Error::new(ErrorKind::InvalidInput, "is not a file that can hold a shelf"))
+    }
+}

@@ -1,0 +1,252 @@
+//! Files that are replaced as a whole.
+//!
+//! A file is never written in place. The new bytes go into a new file in the same folder, which is synced to the disk and
+//! then renamed over the old one, and the folder is synced: after a crash the file has the old bytes or the new ones. A
+//! failure before the renaming removes the new file. Permissions, access control lists and other extended attributes are
+//! kept, or nothing is saved; the owner is kept where the system allows it. A symbolic link is followed: the file that it
+//! leads to is replaced. A hard link's other names keep the old bytes. Programs that do not lock can replace the file
+//! too: just before the renaming it is looked up once more.
+
+use crate::failure::Failure;
+use crate::locked_file::{lock, names_file, LockedFile, Patience};
+use crate::new_file::{remove_leftovers, NewFile};
+use crate::system;
+use crate::text::shown_path;
+use std::fs::{self, File};
+use std::io::{self, ErrorKind, Read};
+use std::os::unix::fs::{fchown, MetadataExt};
+use std::path::Path;
+
+const THERE_ALREADY: &str = "is there already, and stays as it is";
+const REPLACED: &str = "was replaced meanwhile by another program, and stays as it is now; nothing was saved";
+
+/// Linux and macOS have this number for "operation not permitted", also where a file system has no hard links.
+const EPERM: i32 = 1;
+
+/// Whether anything has the name, be it a link that leads nowhere.
+pub fn check_free(path: &Path) -> Result<(), Failure> {
+    match fs::symlink_metadata(path) {
+        Ok(_) => Err(Failure::io(path, THERE_ALREADY)),
+        Err(_) => Ok(()),
+    }
+}
+
+/// A new file with these bytes, which is there whole or not at all. What is there already stays as it is.
+pub fn create(path: &Path, bytes: &[u8]) -> Result<(), Failure> {
+    check_free(path)?;
+    let new = NewFile::with_bytes(folder(path), 0o666, bytes).map_err(|error| not_made(path, &error))?;
+    new.file.sync_all().map_err(|error| Failure::io(path, error))?;
+    match fs::hard_link(&new.path, path) {
+        // Its first name goes.
+        Ok(()) => drop(new),
+        Err(error) if no_links(&error) => take_name(new, path)?,
+        Err(error) => return Err(not_made(path, &error)),
+    }
+    saved(path, path)
+}
+
+fn not_made(path: &Path, error: &io::Error) -> Failure {
+    match error.kind() {
+        ErrorKind::AlreadyExists => Failure::io(path, THERE_ALREADY),
+        ErrorKind::NotFound if !folder(path).exists() => no_folder(path),
+        _ => Failure::io(path, error),
+    }
+}
+
+pub fn no_folder(path: &Path) -> Failure {
+    Failure::io(path, format!("the folder {} does not exist", shown_path(folder(path))))
+}
+
+/// Whether the file system seems to have no hard links.
+fn no_links(error: &io::Error) -> bool {
+    use ErrorKind::{AlreadyExists, NotFound, PermissionDenied};
+    error.raw_os_error() == Some(EPERM) || !matches!(error.kind(), AlreadyExists | NotFound | PermissionDenied)
+}
+
+/// Gives a new file its name without a link: an empty file, which is locked, takes the name, and is replaced. A crash
+/// in between leaves the empty file.
+fn take_name(new: NewFile, path: &Path) -> Result<(), Failure> {
+    let empty = File::create_new(path).map_err(|error| not_made(path, &error))?;
+    let left = |error: io::Error| Failure::io(path, format!("an empty file is left there: {error}"));
+    lock(&empty).map_err(left)?;
+    if !names_file(path, &empty).map_err(left)? {
+        return Err(Failure::io(path, REPLACED));
+    }
+    new.rename(path).map_err(left)
+}
+
+/// Replaces the locked file. After a failure it is still there, and no new file is.
+pub fn replace(path: &Path, old: &LockedFile, bytes: &[u8]) -> Result<(), Failure> {
+    let not_saved = |error: io::Error| Failure::io(path, format!("not saved, and as it was before: {error}"));
+    let new = NewFile::with_bytes(folder(&old.target), 0o600, bytes).map_err(not_saved)?;
+    keep_access(&new.file, &old.file).and_then(|()| new.file.sync_all()).map_err(not_saved)?;
+    if !names_file(&old.target, &old.file).map_err(not_saved)? {
+        return Err(Failure::io(path, REPLACED));
+    }
+    new.rename(&old.target).map_err(not_saved)?;
+    saved(path, &old.target)
+}
+
+/// Puts bytes into a file: it has the old bytes or the new ones. Of a file that is there, `may_go` is asked about its
+/// bytes, of which at most `most` are read; where they may not go, `what` says what it is not.
+pub fn write_over(
+    path: &Path,
+    bytes: &[u8],
+    patience: Patience,
+    (what, most): (&str, usize),
+    may_go: impl FnOnce(&[u8]) -> bool,
+) -> Result<(), Failure> {
+    if !path.is_symlink() && !path.exists() {
+        let new = NewFile::with_bytes(folder(path), 0o666, bytes).map_err(|error| not_made(path, &error))?;
+        new.file.sync_all().and_then(|()| new.rename(path)).map_err(|error| Failure::io(path, error))?;
+        return saved(path, path);
+    }
+    let old = LockedFile::open(path, patience).map_err(|error| Failure::io(path, error))?;
+    let before = read_at_most(&old.file, most).map_err(|error| Failure::io(path, error))?;
+    if !may_go(&before) {
+        return Err(Failure::io(path, format!("is there already and is no {what}, and stays as it is")));
+    }
+    replace(path, &old, bytes)
+}
+
+/// The bytes of a source to its end, but at most one more than `most`.
+pub fn read_at_most(source: impl Read, most: usize) -> io::Result<Vec<u8>> {
+    let mut bytes = Vec::new();
+    source.take(most as u64 + 1).read_to_end(&mut bytes)?;
+    Ok(bytes)
+}
+
+/// Gives a new file the owner, the extended attributes and the permissions of the old one. The owner only where that is
+/// allowed. The permissions come last: with a list, those of the group say what the list may give at most.
+fn keep_access(new: &File, old: &File) -> io::Result<()> {
+    let (own, wanted) = (new.metadata()?, old.metadata()?);
+    let (user, group) = (wanted.uid(), wanted.gid());
+    if (own.uid(), own.gid()) != (user, group) && fchown(new, Some(user), Some(group)).is_err() {
+        let _ = fchown(new, None, Some(group));
+    }
+    keep_attributes(new, old)?;
+    new.set_permissions(wanted.permissions())
+}
+
+/// Those that the folder gave to the new file go, if the old file has not got them.
+fn keep_attributes(new: &File, old: &File) -> io::Result<()> {
+    let (given, wanted) = (system::attributes(new)?, system::attributes(old)?);
+    let not_kept = |name: &std::ffi::CStr, error: io::Error| {
+        io::Error::new(error.kind(), format!("the attribute {} cannot be kept: {error}", name.to_string_lossy()))
+    };
+    for (name, _) in given.iter().filter(|(name, _)| !wanted.iter().any(|(kept, _)| kept == name)) {
+        system::remove_attribute(new, name).map_err(|error| not_kept(name, error))?;
+    }
+    for (name, value) in wanted.iter().filter(|attribute| !given.contains(attribute)) {
+        system::set_attribute(new, name, value).map_err(|error| not_kept(name, error))?;
+    }
+    Ok(())
+}
+
+/// The folder of a file.
+pub fn folder(path: &Path) -> &Path {
+    match path.parent() {
+        None => Path::new("/"),
+        Some(folder) if folder.as_os_str().is_empty() => Path::new("."),
+        Some(folder) => folder,
+    }
+}
+
+/// Makes a new name last, and tidies its folder. Some file systems cannot sync a folder, and say so: that is no failure.
+fn saved(path: &Path, target: &Path) -> Result<(), Failure> {
+    remove_leftovers(folder(target));
+    match File::open(folder(target)).and_then(|folder| folder.sync_all()) {
+        Err(error) if !matches!(error.kind(), ErrorKind::InvalidInput | ErrorKind::Unsupported) => Err(Failure::io(
+            path,
+            format!("saved, but a power cut could undo it: the folder cannot be synced: {error}"),
+        )),
+        _ => Ok(()),
+    }
+}
+
+#[cfg(test)]
+mod tests {
+    use super::*;
+    use crate::test_folder::TestFolder;
+    use std::ffi::CString;
+    use std::os::unix::fs::PermissionsExt;
+
+    #[test]
+    fn a_new_file_without_links() {
+        let folder = TestFolder::new("no-links");
+        let path = folder.path("s");
+        let new = || NewFile::with_bytes(folder.root(), 0o666, &[0; 32]).unwrap();
+        take_name(new(), &path).unwrap();
+        assert_eq!((fs::read(&path).unwrap(), folder.names()), (vec![0; 32], vec!["s".to_string()]));
+        fs::write(&path, "a file").unwrap();
+        let failure = take_name(new(), &path).unwrap_err().to_string();
+        assert!(failure.ends_with("/s: is there already, and stays as it is"), "{failure}");
+        assert_eq!((fs::read(&path).unwrap(), folder.names()), (b"a file".to_vec(), vec!["s".to_string()]));
+    }
+
+    #[test]
+    fn errors_that_mean_no_links() {
+        for (number, expected) in [(EPERM, true), (95, true), (13, false), (17, false), (2, false)] {
+            assert_eq!(no_links(&io::Error::from_raw_os_error(number)), expected, "{number}");
+        }
+    }
+
+    /// An access control list as Linux keeps it: the owner may read and write, one more user too, the group nothing.
+    fn access_list() -> Vec<u8> {
+        let entries: [(u16, u16, u32); 5] =
+            [(0x01, 6, u32::MAX), (0x02, 6, 1234), (0x04, 0, u32::MAX), (0x10, 6, u32::MAX), (0x20, 0, u32::MAX)];
+        let mut bytes = 2_u32.to_le_bytes().to_vec();
+        for (kind, rights, user) in entries {
+            bytes.extend(kind.to_le_bytes().into_iter().chain(rights.to_le_bytes()).chain(user.to_le_bytes()));
+        }
+        bytes
+    }
+
+    type Attributes = Vec<(CString, Vec<u8>)>;
+
+    /// Replaces a file that has an attribute, where the file system has such ones. Its attributes before and after.
+    fn replaced_with(name: &str, value: &[u8]) -> Option<[Attributes; 2]> {
+        let folder = TestFolder::new(name);
+        let path = folder.path("s");
+        fs::write(&path, "old").unwrap();
+        system::set_attribute(&File::open(&path).unwrap(), &CString::new(name).unwrap(), value).ok()?;
+        let mode = fs::metadata(&path).unwrap().permissions().mode();
+        let old = LockedFile::open(&path, None).unwrap();
+        let before = system::attributes(&old.file).unwrap();
+        replace(&path, &old, b"new").unwrap();
+        assert_eq!(fs::read(&path).unwrap(), b"new");
+        assert_eq!(fs::metadata(&path).unwrap().permissions().mode(), mode);
+        Some([before, system::attributes(&File::open(&path).unwrap()).unwrap()])
+    }
+
+    #[test]
+    fn extended_attributes_are_kept() {
+        for (name, value) in [("user.office", b"north".to_vec()), ("system.posix_acl_access", access_list())] {
+            match replaced_with(name, &value) {
+                Some([before, after]) => {
+                    assert!(before.iter().any(|(kept, bytes)| kept.to_bytes() == name.as_bytes() && *bytes == value));
+                    assert_eq!(after, before);
+                }
+                None => eprintln!("not tested: this file system has no {name}"),
+            }
+        }
+    }
+
+    /// A list that the folder gives to new files is not the old file's.
+    #[test]
+    fn a_folder_s_own_list_is_not_taken_over() {
+        let folder = TestFolder::new("default-list");
+        let path = folder.path("s");
+        fs::write(&path, "old").unwrap();
+        let default = CString::new("system.posix_acl_default").unwrap();
+        if system::set_attribute(&File::open(folder.root()).unwrap(), &default, &access_list()).is_err() {
+            eprintln!("not tested: this file system has no access control lists");
+            return;
+        }
+        let probe = folder.path("probe");
+        fs::write(&probe, "").unwrap();
+        assert_eq!(system::attributes(&File::open(&probe).unwrap()).unwrap().len(), 1);
+        replace(&path, &LockedFile::open(&path, None).unwrap(), b"new").unwrap();
+        assert_eq!(system::attributes(&File::open(&path).unwrap()).unwrap(), []);
+    }
+}
