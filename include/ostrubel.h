@@ -71,7 +71,8 @@ enum {
     OSTRUBEL_INVALID_MASK = 5,         /* the mask, or the vector of the keys in hand, is no valid matrix */
     OSTRUBEL_INVALID_OUTPUT = 6,       /* old C is no valid matrix */
     OSTRUBEL_INDEX_OUT_OF_BOUNDS = 7,  /* an index list shorter than 1 or longer than 1,000, or with an index twice;
-                                          an index, row or column past A (as transposed) or past the matrix named;
+                                          an index, row or column past A (as transposed) or past the matrix named,
+                                          which is C for an assign;
                                           an allowance above 1,000 */
     OSTRUBEL_INVALID_SHAPE = 8,        /* rows or columns outside 1 to 1,000; shapes of inputs, mask, C and result
                                           disagree; no vector (one row) where one is due */
@@ -278,6 +279,21 @@ uint64_t ostrubel_reduce_rows(uint32_t flags, uint32_t has_mask, uint32_t has_ac
                               ostrubel_size mask_len, uint32_t *c, ostrubel_size c_len, uint32_t *work,
                               ostrubel_size work_len);
 
+/* A written into C: at row is[k] and column js[l] the cell of A at row k and column l, empty ones too; with an accumulator
+   the union of C's and A's. The other cells of C stay, as far as the mask lets them, which has C's shape. A (as transposed)
+   has as many rows and columns as the lists have indexes; these are held against C, and none may occur twice in one list. */
+uint64_t ostrubel_assign(uint32_t flags, uint32_t has_mask, uint32_t has_accumulator, uint32_t accumulator,
+                         const uint32_t *a, ostrubel_size a_len, const uint32_t *is, ostrubel_size is_len, const uint32_t *js,
+                         ostrubel_size js_len, const uint32_t *mask, ostrubel_size mask_len, uint32_t *c, ostrubel_size c_len,
+                         uint32_t *work, ostrubel_size work_len);
+
+/* The Kronecker product: at (i p + k, j q + l) op of A's value at (i, j) and B's at (k, l), where B (as transposed) has p
+   rows and q columns. Refused by 8 where it would have more than 1,000 rows or columns. */
+uint64_t ostrubel_kronecker(uint32_t flags, uint32_t has_mask, uint32_t has_accumulator, uint32_t accumulator,
+                            uint32_t op, const uint32_t *a, ostrubel_size a_len, const uint32_t *b, ostrubel_size b_len,
+                            const uint32_t *mask, ostrubel_size mask_len, uint32_t *c, ostrubel_size c_len, uint32_t *work,
+                            ostrubel_size work_len);
+
 /* ---- Matrices in the slots of a store ---- */
 
 /* An empty matrix in a slot, whatever was there. Refused by 12, 8, 11. */
@@ -305,7 +321,7 @@ uint64_t ostrubel_store_reduce(ostrubel_size slot, uint32_t monoid, const uint32
 /*
  * The operations by slots, with options, operators and workspace as above. One slot may have several roles: all are
  * read before C is written. The slot of a mask is not looked at where has_mask is 0. Refused by 12, then 1, 2, 13, and 7
- * to 11; 7 only by extract.
+ * to 11; 7 only by extract and assign.
  */
 
 uint64_t ostrubel_store_mxm(uint32_t flags, uint32_t has_mask, uint32_t has_accumulator, uint32_t accumulator,
@@ -343,6 +359,15 @@ uint64_t ostrubel_store_select(uint32_t flags, uint32_t has_mask, uint32_t has_a
 uint64_t ostrubel_store_reduce_rows(uint32_t flags, uint32_t has_mask, uint32_t has_accumulator, uint32_t accumulator,
                                     uint32_t monoid, ostrubel_size a, ostrubel_size mask, ostrubel_size c,
                                     uint32_t *store, ostrubel_size store_len, uint32_t *work, ostrubel_size work_len);
+
+uint64_t ostrubel_store_assign(uint32_t flags, uint32_t has_mask, uint32_t has_accumulator, uint32_t accumulator,
+                               ostrubel_size a, ostrubel_size mask, ostrubel_size c, uint32_t *store, ostrubel_size store_len,
+                               const uint32_t *is, ostrubel_size is_len, const uint32_t *js, ostrubel_size js_len, uint32_t *work,
+                               ostrubel_size work_len);
+
+uint64_t ostrubel_store_kronecker(uint32_t flags, uint32_t has_mask, uint32_t has_accumulator, uint32_t accumulator,
+                                  uint32_t op, ostrubel_size a, ostrubel_size b, ostrubel_size mask, ostrubel_size c, uint32_t *store,
+                                  ostrubel_size store_len, uint32_t *work, ostrubel_size work_len);
 
 /* ---- Files and texts: bytes that the caller owns, passed as a pointer and their number ---- */
 
@@ -398,36 +423,36 @@ uint64_t ostrubel_open_doors(uint32_t allowance, const uint32_t *locks, ostrubel
  * matrix's. The day matrix and the marks must fit their buffers afterwards. Refused by 4 (day), 5 (marks), 6 (row), 7 (no
  * row i in the day matrix), 8, 10, 11.
  */
-uint64_t ostrubel_day_rewrite(uint32_t i, const uint32_t *row, size_t row_len, uint32_t *day, size_t day_len,
-                              uint32_t *marks, size_t marks_len);
+uint64_t ostrubel_day_rewrite(uint32_t i, const uint32_t *row, ostrubel_size row_len, uint32_t *day, ostrubel_size day_len,
+                              uint32_t *marks, ostrubel_size marks_len);
 
 /*
  * A rewrite is taken back: row i of the day matrix becomes empty, marked or not, and its mark goes, if there is one. The
  * answer's entries are the day matrix's. Refused by 4 (day), 5 (marks), 7 (no row i in the day matrix), 8.
  */
-uint64_t ostrubel_day_back(uint32_t i, uint32_t *day, size_t day_len, uint32_t *marks, size_t marks_len);
+uint64_t ostrubel_day_back(uint32_t i, uint32_t *day, ostrubel_size day_len, uint32_t *marks, ostrubel_size marks_len);
 
 /*
  * The cell at row i and column j as it is shown. Take the answer apart as that of ostrubel_read_cell; the position is
  * counted in the matrix that the row is shown from. Refused by 3 (base), 4 (day), 5 (marks), 7 (past the base matrix), 8.
  */
-uint64_t ostrubel_day_read(uint32_t i, uint32_t j, const uint32_t *base, size_t base_len, const uint32_t *day,
-                           size_t day_len, const uint32_t *marks, size_t marks_len);
+uint64_t ostrubel_day_read(uint32_t i, uint32_t j, const uint32_t *base, ostrubel_size base_len, const uint32_t *day,
+                           ostrubel_size day_len, const uint32_t *marks, ostrubel_size marks_len);
 
 /*
  * A new matrix at the front of out, whatever was there, with all rows as they are shown. Refused by 3 (base), 4 (day), 5
  * (marks), 8, 10, 11.
  */
-uint64_t ostrubel_day_fold(const uint32_t *base, size_t base_len, const uint32_t *day, size_t day_len,
-                           const uint32_t *marks, size_t marks_len, uint32_t *out, size_t out_len);
+uint64_t ostrubel_day_fold(const uint32_t *base, ostrubel_size base_len, const uint32_t *day, ostrubel_size day_len,
+                           const uint32_t *marks, ostrubel_size marks_len, uint32_t *out, ostrubel_size out_len);
 
 /*
  * Where row i lies as it is shown: as ostrubel_row_view, with the day matrix as the second. values: 0 for the row's
  * column numbers, else for its values. Where a matrix is not valid, the shapes differ or there is no row i, the answer is
  * 0: no words.
  */
-uint64_t ostrubel_day_show(uint32_t i, uint32_t values, const uint32_t *base, size_t base_len, const uint32_t *day,
-                           size_t day_len, const uint32_t *marks, size_t marks_len);
+uint64_t ostrubel_day_show(uint32_t i, uint32_t values, const uint32_t *base, ostrubel_size base_len, const uint32_t *day,
+                           ostrubel_size day_len, const uint32_t *marks, ostrubel_size marks_len);
 
 #ifdef __cplusplus
 }

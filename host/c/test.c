@@ -216,6 +216,41 @@ static void test_select_and_reduce(void) {
     REFUSED(ostrubel_reduce_rows(PLAIN, OSTRUBEL_PLUS, WORDS(matrix), NO_MASK, WORDS(columns), WORDS(work)),
             OSTRUBEL_INVALID_SHAPE);
 
+    /* 7 and an empty cell into columns 2 and 0 of row 1: (1,0) becomes empty, and the cells that are not listed stay */
+    const uint32_t seven[] = {2, 1, 2, 2, 0, 1, 1, 0, 1, 7};
+    const uint32_t row[] = {1};
+    const uint32_t turned[] = {2, 0};
+    uint32_t into[20] = {2, 2, 3, 3, 0, 1, 4, 4, 2, 0, 1, 2, 4, 2, 10, 11, 12};
+    ACCEPTED(ostrubel_assign(PLAIN, WORDS(seven), WORDS(row), WORDS(turned), NO_MASK, WORDS(into), WORDS(work)), 3);
+    SAME(into, 2, 2, 3, 3, 0, 1, 3, 3, 2, 1, 2, 3, 2, 11, 7);
+    /* the listed places are A again */
+    uint32_t back[10] = {0};
+    ACCEPTED(ostrubel_new_empty(1, 2, WORDS(back)), 0);
+    ACCEPTED(ostrubel_extract(PLAIN, WORDS(into), WORDS(row), WORDS(turned), NO_MASK, WORDS(back), WORDS(work)), 1);
+    CHECK(memcmp(back, seven, sizeof(seven)) == 0);
+    /* with an accumulator an empty cell of A leaves C's; 3 is past C's columns; A must be 1 by 2 */
+    ACCEPTED(ostrubel_assign(0, 0, 1, OSTRUBEL_MINUS, WORDS(seven), WORDS(row), WORDS(turned), NO_MASK, WORDS(into),
+                             WORDS(work)), 3);
+    SAME(into, 2, 2, 3, 3, 0, 1, 3, 3, 2, 1, 2, 3, 2, 11, 0);
+    const uint32_t past[] = {3, 0};
+    REFUSED(ostrubel_assign(PLAIN, WORDS(seven), WORDS(row), WORDS(past), NO_MASK, WORDS(into), WORDS(work)),
+            OSTRUBEL_INDEX_OUT_OF_BOUNDS);
+    REFUSED(ostrubel_assign(PLAIN, WORDS(seven), WORDS(turned), WORDS(row), NO_MASK, WORDS(into), WORDS(work)),
+            OSTRUBEL_INDEX_OUT_OF_BOUNDS);
+    REFUSED(ostrubel_assign(PLAIN, WORDS(seven), WORDS(row), WORDS(row), NO_MASK, WORDS(into), WORDS(work)),
+            OSTRUBEL_INVALID_SHAPE);
+
+    /* 7 minus 10, 20 and 40, in a block of one row and four columns of the eight */
+    uint32_t blocks[20] = {0};
+    ACCEPTED(ostrubel_new_empty(1, 8, WORDS(blocks)), 0);
+    ACCEPTED(ostrubel_kronecker(PLAIN, OSTRUBEL_MINUS, WORDS(seven), WORDS(strip), NO_MASK, WORDS(blocks), WORDS(work)),
+             3);
+    SAME(blocks, 2, 1, 8, 2, 0, 3, 3, 0, 1, 3, 3, 4294967293, 4294967283, 4294967263);
+    REFUSED(ostrubel_kronecker(PLAIN, OSTRUBEL_MINUS, WORDS(seven), WORDS(strip), NO_MASK, WORDS(back), WORDS(work)),
+            OSTRUBEL_INVALID_SHAPE);
+    REFUSED(ostrubel_kronecker(PLAIN, 8, WORDS(seven), WORDS(strip), NO_MASK, WORDS(blocks), WORDS(work)),
+            OSTRUBEL_UNKNOWN_OPERATOR);
+
     ACCEPTED(ostrubel_reduce(OSTRUBEL_PLUS, WORDS(strip)), 70);
     CHECK(ostrubel_number(ostrubel_reduce(OSTRUBEL_TIMES, WORDS(strip))) == 8000);
     const uint32_t empty[] = {1, 0, 2, 1, 1, 2, 0, 0, 0, 0};
@@ -333,6 +368,18 @@ static void test_store_operations(void) {
     ACCEPTED(ostrubel_store_reduce_rows(PLAIN, OSTRUBEL_PLUS, 1, 9, 0, WORDS(store), WORDS(work)), 4);
     SAME(store, 18, 1, 5, 2, 1, 4, 2, 0, 4, 4, 0, 1, 2, 3, 4, 5, 15, 4, 5, 29);
     ACCEPTED(ostrubel_store_reduce(1, OSTRUBEL_PLUS, WORDS(store)), 29);
+
+    /* row 1 of the 2 by 2 slot 2 becomes columns 0 and 1 of a 1 by 2 slot 3; then slot 3 in one block */
+    const uint32_t one_row[] = {1};
+    const uint32_t two_cols[] = {0, 1};
+    ACCEPTED(ostrubel_store_new_empty(3, 1, 2, WORDS(store)), 0);
+    ACCEPTED(ostrubel_store_set_cell(3, 0, 0, 6, WORDS(store)), 1);
+    ACCEPTED(ostrubel_store_assign(PLAIN, 3, 9, 2, WORDS(store), WORDS(one_row), WORDS(two_cols), WORDS(work)), 3);
+    REFUSED(ostrubel_store_assign(PLAIN, 3, 9, 3, WORDS(store), WORDS(one_row), WORDS(two_cols), WORDS(work)),
+            OSTRUBEL_INDEX_OUT_OF_BOUNDS);
+    ACCEPTED(ostrubel_store_new_empty(4, 2, 4, WORDS(store)), 0);
+    ACCEPTED(ostrubel_store_kronecker(PLAIN, OSTRUBEL_TIMES, 2, 3, 9, 4, WORDS(store), WORDS(work)), 3);
+    ACCEPTED(ostrubel_store_reduce(4, OSTRUBEL_PLUS, WORDS(store)), 66);
     REFUSED(ostrubel_store_reduce(8, OSTRUBEL_MINUS, WORDS(store)), OSTRUBEL_INVALID_STORE);
     REFUSED(ostrubel_store_reduce(7, OSTRUBEL_MINUS, WORDS(store)), OSTRUBEL_UNKNOWN_OPERATOR);
     REFUSED(ostrubel_store_reduce(7, OSTRUBEL_MAX, WORDS(store)), OSTRUBEL_EMPTY_SLOT);

@@ -25,7 +25,17 @@ use Rattle.operations.specs.declared.Accumulator.{Accumulator}
 use Rattle.operations.specs.declared.Accumulator.the-variants as accumulator
 use Rattle.operations.specs.declared.Call.{Call}
 use Rattle.operations.specs.declared.Operation.{Operation}
-use Rattle.operations.specs.declared.Operation.the-variants.{Mxm, EwiseMult, EwiseAdd, Apply, Extract, Select, ReduceRows}
+use Rattle.operations.specs.declared.Operation.the-variants.{
+  Mxm,
+  EwiseMult,
+  EwiseAdd,
+  Apply,
+  Extract,
+  Select,
+  ReduceRows,
+  Assign,
+  Kronecker,
+}
 use Rattle.call_codes.specs.declared.Options.{Options}
 use Rattle.call_codes.specs.declared.Verb.{Verb}
 use Rattle.call_codes.specs.declared.Verb.the-variants as verb
@@ -103,6 +113,13 @@ selectCall o op s = callOf o (selectKnown (selectNumbered op s)) (Select (select
 abbrev pub reduceRowsCall : Options → ℕ → Call
 reduceRowsCall o m = callOf o (monoidKnown (monoidNumbered m)) (ReduceRows (monoidOf (monoidNumbered m))) false
 
+-- an assign is told the accumulator of its call
+abbrev pub assignCall : Options → Call
+assignCall o = callOf o true (Assign (accumulatorOf o)) false
+
+abbrev pub kroneckerCall : Options → ℕ → Call
+kroneckerCall o op = callOf o (binaryKnown (binaryNumbered op)) (Kronecker (binaryOf (binaryNumbered op))) false
+
 -- a call of any of them
 abbrev pub decoded : Options → Verb → Call
 decoded o (verb.Mxm m op) = productCall false o m op
@@ -113,3 +130,5 @@ decoded o (verb.Apply kind op s) = applyCall o kind op s
 decoded o verb.Extract = callOf o true Extract false
 decoded o (verb.Select op s) = selectCall o op s
 decoded o (verb.ReduceRows m) = reduceRowsCall o m
+decoded o verb.Assign = assignCall o
+decoded o (verb.Kronecker op) = kroneckerCall o op

@@ -8,7 +8,15 @@ use Rattle.operators.specs.declared.Monoid.the-variants as monoid
 use Rattle.select_ops.specs.declared.SelectOp.the-variants.{ValueGe}
 use Rattle.operator_codes.specs.Codes.{binaryNumbered, monoidNumbered, selectNumbered}
 use Rattle.operations.specs.declared.Accumulator.the-variants as accumulator
-use Rattle.operations.specs.declared.Operation.the-variants.{Mxm, EwiseMult, EwiseAdd, Select, ReduceRows}
+use Rattle.operations.specs.declared.Operation.the-variants.{
+  Mxm,
+  EwiseMult,
+  EwiseAdd,
+  Select,
+  ReduceRows,
+  Assign,
+  Kronecker,
+}
 use Rattle.call_codes.specs.declared.Options.{Options}
 use Rattle.call_codes.specs.declared.Verb.the-variants as verb
 use Rattle.call_codes.specs.Decoding.{decoded}
@@ -72,3 +80,24 @@ rows-decoded = refl
 rows-unknown : decoded (options false 9) (verb.ReduceRows 4) .known ≡ false
 unfolding _and_ monoidNumbered
 rows-unknown = refl
+
+-- an assign is told the accumulator, or that there is none, and has no operator of its own; a Kronecker product takes any
+-- binary operator
+assign-accumulated : decoded (options true 4) verb.Assign .operation ≡ Assign (accumulator.Present binary.Minus)
+unfolding binaryNumbered
+assign-accumulated = refl
+
+assign-alone : decoded (options false 4) verb.Assign .operation ≡ Assign accumulator.Absent
+assign-alone = refl
+
+assign-unknown : decoded (options true 8) verb.Assign .known ≡ false
+unfolding _and_ binaryNumbered
+assign-unknown = refl
+
+kronecker-decoded : decoded (options false 9) (verb.Kronecker 4) .operation ≡ Kronecker binary.Minus
+unfolding binaryNumbered
+kronecker-decoded = refl
+
+kronecker-unknown : decoded (options false 9) (verb.Kronecker 8) .known ≡ false
+unfolding _and_ binaryNumbered
+kronecker-unknown = refl

@@ -19,6 +19,7 @@ ghost use Rattle.call_codes.specs.Decoding.{binaryKnown, binaryOf, monoi
 ghost use Rattle.call_codes.specs.Decoding.{accumulatorKnown, accumulatorOf, callOf, productCall};
 ghost use Rattle.call_codes.specs.Decoding.{ewiseMultCall, ewiseAddCall, applyCall, decoded};
 ghost use Rattle.call_codes.specs.Decoding.{selectKnown, selectOf, selectCall, reduceRowsCall};
+ghost use Rattle.call_codes.specs.Decoding.{assignCall, kroneckerCall};
 
 // What a call says beside its inputs: the flags, whether there is a mask, whether there is an accumulator and its number.
 pub struct Options {
@@ -29,7 +30,8 @@ pub struct Options {
 }
 
 // What a call computes, by its numbers as they come: for a product a monoid and an operator, for apply a kind, an operator
-// of that kind and a scalar, for select a condition and a scalar, for the reduction of rows a monoid.
+// of that kind and a scalar, for select a condition and a scalar, for the reduction of rows a monoid, for the Kronecker
+// product an operator.
 pub enum Verb {
     Mxm(u32, u32),
     Vxm(u32, u32),
@@ -39,6 +41,8 @@ pub enum Verb {
     Extract,
     Select(u32, u32),
     ReduceRows(u32),
+    Assign,
+    Kronecker(u32),
 }
 
 // A call with its numbers decoded.
@@ -54,6 +58,8 @@ pub fn decode(options: Options, verb: Verb) -> Call
         Verb::Extract => call_of(options, true, Operation::Extract, false),
         Verb::Select(op, scalar) => select_call(options, op, scalar),
         Verb::ReduceRows(monoid) => reduce_rows_call(options, monoid),
+        Verb::Assign => assign_call(options),
+        Verb::Kronecker(op) => kronecker_call(options, op),
     }
 }
 
@@ -234,6 +240,28 @@ fn reduce_rows_call(options: Options, monoid: u32) -> Call
         options,
         monoid_known(monoid),
         Operation::ReduceRows(monoid_of(monoid)),
+        false,
+    )
+}
+
+fn assign_call(options: Options) -> Call
+    ensures { λ r. ⌜ r ≡ assignCall options ⌝ }
+{
+    call_of(
+        options,
+        true,
+        Operation::Assign(accumulator_of(options)),
+        false,
+    )
+}
+
+fn kronecker_call(options: Options, op: u32) -> Call
+    ensures { λ r. ⌜ r ≡ kroneckerCall options op ⌝ }
+{
+    call_of(
+        options,
+        binary_known(op),
+        Operation::Kronecker(binary_of(op)),
         false,
     )
 }

@@ -36,7 +36,7 @@ use Rattle.operations.specs.Calls.{
   shapesAgree,
 }
 use Rattle.requests.specs.Refusal.{lentFinal}
-use Rattle.extract_rows.specs.Indices.{Inverse}
+use Rattle.extract_rows.specs.Indices.{Inverses}
 use Rattle.plain_results.specs.Rows.{Inputs}
 use Rattle.result_rows.specs.RowInputs.{rowShapes, rowNeeds, RowInputs, Buffers}
 use Rattle.result_rows.proofs.Inputs.{matrix-row}
@@ -127,12 +127,12 @@ module _ (call : Call) (a b m c is js x y : List ℕ) (r : Prepared call a b m c
       shapes-of-same (gridOf x) A (gridOf y) B (gridOf c) (gridOf c) is js (s .same) same-refl (call .operation) second-same
 
   -- what the row of T needs
-  pub row-inputs : (hasLists (call .operation) ≡ true → Inverse js y) → (i : ℕ) → i < rows c
+  pub row-inputs : (hasLists (call .operation) ≡ true → Inverses is js y) → (i : ℕ) → i < rows c
       → RowInputs (call .operation) x y c is js i
   row-inputs v i l = record {
     first = s .matrix;
     second = λ h. u h .matrix;
-    inverse = v;
+    inverses = v;
     output = r .inputs .output;
     agree = ap (λ (z : Shapes). inputsAgree z (needsOf (call .operation) z)) shapes-are ∙ shapes .inputs;
     lists = rw shapes-are lists;
@@ -147,7 +147,7 @@ module _ (call : Call) (a b m c is js x y : List ℕ) (r : Prepared call a b m c
   rows-are = rw shapes-are (shapes .result-rows)
 
   -- what all rows of T need
-  pub all-inputs : (hasLists (call .operation) ≡ true → Inverse js y) → Inputs (call .operation) x y c is js
+  pub all-inputs : (hasLists (call .operation) ≡ true → Inverses is js y) → Inputs (call .operation) x y c is js
   all-inputs v = record { output = r .inputs .output; row = row-inputs v; same-rows = rows-are; same-cols = cols-are }
 
   -- its cells are the definition's

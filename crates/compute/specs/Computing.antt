@@ -19,18 +19,18 @@ use Rattle.operations.specs.declared.WriteBack.{WriteBack}
 use Rattle.operations.specs.Calls.{transposeFirst, hasLists, indexesValid, shapesAgree}
 use Rattle.requests.specs.Refusal.{lentFinal}
 use Rattle.requests.specs.Inputs.{Valid}
-use Rattle.extract_rows.specs.Indices.{Inverse}
+use Rattle.extract_rows.specs.Indices.{Inverses}
 use Rattle.sources.specs.Sources.{secondFlag, Sources}
 use Rattle.results.specs.Staging.{Staged}
 use Rattle.compute.specs.declared.Outcome.{Outcome}
 use Rattle.compute.specs.declared.Outcome.the-variants.{Done, Full}
 
--- the inputs are valid and agree, and where there are lists the words b are the inverse of the second
+-- the inputs are valid and agree, and where there are lists the words b are their inverses
 pub record Prepared (call : Call) (a b m c is js : List ℕ) : Type 0 where
   pub inputs : Valid call a b m c
   pub indexes : indexesValid call (gridOf a) (gridOf b) (gridOf c) is js ≡ true
   pub shapes : shapesAgree call (gridOf a) (gridOf b) (gridOf m) (gridOf c) is js ≡ true
-  pub inverse : hasLists (call .operation) ≡ true → Inverse js b
+  pub inverses : hasLists (call .operation) ≡ true → Inverses is js b
 
 -- a mask has row i
 pub record MaskRow (m : List ℕ) (i : ℕ) : Type 0 where

@@ -1,5 +1,6 @@
 // Working out the final C of a call whose inputs are valid and agree. Inputs, mask and old C are only read; the result
 // is left at the front of the workspace, whose other regions hold the inputs that are transposed.
+use extract_rows::INVERSE_PLACES;
 use limits::MAX_ENTRIES;
 use limits::ROW_PLACES;
 use matrix::layout::MAX_MATRIX_WORDS;
@@ -38,7 +39,7 @@ pub enum Outcome {
     Full,
 }
 
-// The final C at the front of the workspace. An operation with lists has the inverse of the second as its second input.
+// The final C at the front of the workspace. An operation with lists has their inverses as its second input.
 // The engine is the product's.
 pub fn compute<'a>(
     call: Call,
@@ -59,9 +60,9 @@ pub fn compute<'a>(
     let operation = call.operation;
     let inputs = operations::inputs_of(operation);
     if inputs.lists {
-        let mut inverse = [0u32; ROW_PLACES];
-        extract_rows::invert(js, &mut inverse);
-        return compute_prepared(call, a, &inverse, mask, c, is, js, work, engine);
+        let mut inverses = [0u32; INVERSE_PLACES];
+        extract_rows::invert_lists(is, js, &mut inverses);
+        return compute_prepared(call, a, &inverses, mask, c, is, js, work, engine);
     }
     compute_prepared(call, a, b, mask, c, is, js, work, engine)
 }

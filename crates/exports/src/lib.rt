@@ -428,6 +428,74 @@ pub extern "C" fn ostrubel_reduce_rows(
     )
 }
 
+// Assign: A written into C at the listed rows and columns.
+#[no_mangle]
+pub extern "C" fn ostrubel_assign(
+    flags: u32,
+    has_mask: u32,
+    has_accumulator: u32,
+    accumulator: u32,
+    a: &[u32],
+    is: &[u32],
+    js: &[u32],
+    mask: &[u32],
+    c: &mut [u32],
+    work: &mut [u32],
+) -> u64
+    ensures { λ r. ⌜ LentCompleted (decoded (optionsOf flags «has_mask» «has_accumulator» accumulator) verbs.Assign)
+        (now (a .entry)) [] (now (mask .entry)) (now (c .entry)) (now (is .entry)) (now (js .entry)) (now (work .entry))
+        r (now (c .exit)) (now (work .exit)) ⌝ }
+{
+    lent(
+        flags,
+        has_mask,
+        has_accumulator,
+        accumulator,
+        Verb::Assign,
+        a,
+        &a[0..0],
+        mask,
+        is,
+        js,
+        c,
+        work,
+    )
+}
+
+// The Kronecker product of A and B, by an operator.
+#[no_mangle]
+pub extern "C" fn ostrubel_kronecker<'a>(
+    flags: u32,
+    has_mask: u32,
+    has_accumulator: u32,
+    accumulator: u32,
+    op: u32,
+    a: &'a [u32],
+    b: &'a [u32],
+    mask: &[u32],
+    c: &mut [u32],
+    work: &mut [u32],
+) -> u64
+    ensures { λ r. ⌜ LentCompleted (decoded (optionsOf flags «has_mask» «has_accumulator» accumulator) (verbs.Kronecker op))
+        (now (a .entry)) (now (b .entry)) (now (mask .entry)) (now (c .entry)) [] [] (now (work .entry))
+        r (now (c .exit)) (now (work .exit)) ⌝ }
+{
+    lent(
+        flags,
+        has_mask,
+        has_accumulator,
+        accumulator,
+        Verb::Kronecker(op),
+        a,
+        b,
+        mask,
+        &a[0..0],
+        &a[0..0],
+        c,
+        work,
+    )
+}
+
 // "Reduce" a whole matrix: the total of its values by a monoid.
 #[no_mangle]
 pub extern "C" fn ostrubel_reduce(monoid: u32, words: &[u32]) -> u64
@@ -799,6 +867,84 @@ pub extern "C" fn ostrubel_store_reduce_rows(
         Roles {
             first: a,
             second: a,
+            mask: mask,
+            output: c,
+        },
+        store,
+        &[],
+        &[],
+        work,
+    )
+}
+
+// Assign: A written into C at the listed rows and columns.
+#[no_mangle]
+pub extern "C" fn ostrubel_store_assign(
+    flags: u32,
+    has_mask: u32,
+    has_accumulator: u32,
+    accumulator: u32,
+    a: usize,
+    mask: usize,
+    c: usize,
+    store: &mut [u32],
+    is: &[u32],
+    js: &[u32],
+    work: &mut [u32],
+) -> u64
+    ensures { λ r. ⌜ StorePerformed (now (store .entry)) (operate
+        (optionsOf flags «has_mask» «has_accumulator» accumulator) verbs.Assign (rolesNamed a a mask c)
+        (now (is .entry)) (now (js .entry)) (length (now (work .entry)))) r (now (store .exit)) ⌝
+        ∗ ⌜ now (work .exit) ≡ replicate (length (now (work .entry))) 0 ⌝ }
+{
+    stored(
+        flags,
+        has_mask,
+        has_accumulator,
+        accumulator,
+        Verb::Assign,
+        Roles {
+            first: a,
+            second: a,
+            mask: mask,
+            output: c,
+        },
+        store,
+        is,
+        js,
+        work,
+    )
+}
+
+// The Kronecker product of A and B, by an operator.
+#[no_mangle]
+pub extern "C" fn ostrubel_store_kronecker(
+    flags: u32,
+    has_mask: u32,
+    has_accumulator: u32,
+    accumulator: u32,
+    op: u32,
+    a: usize,
+    b: usize,
+    mask: usize,
+    c: usize,
+    store: &mut [u32],
+    work: &mut [u32],
+) -> u64
+    ensures { λ r. ⌜ StorePerformed (now (store .entry)) (operate
+        (optionsOf flags «has_mask» «has_accumulator» accumulator) (verbs.Kronecker op) (rolesNamed a b mask c)
+        [] [] (length (now (work .entry)))) r (now (store .exit)) ⌝
+        ∗ ⌜ now (work .exit) ≡ replicate (length (now (work .entry))) 0 ⌝ }
+{
+    stored(
+        flags,
+        has_mask,
+        has_accumulator,
+        accumulator,
+        Verb::Kronecker(op),
+        Roles {
+            first: a,
+            second: b,
             mask: mask,
             output: c,
         },

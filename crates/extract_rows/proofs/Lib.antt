@@ -1,2 +1,3 @@
 pub mod Inverting
 pub mod Extracting
+pub mod Both

@@ -2,7 +2,7 @@
 use Prim.Native.Nat.{ℕ, _+_, _≤_, _<_}
 use mathlib.Core.Path.{_≡_}
 use mathlib.Core.List.{List}
-use lib.ListN.{length, set}
+use lib.ListN.{length, set, take, drop}
 use Rattle.limits.specs.Limits.{maxCols}
 use Rattle.words.specs.Words.{at}
 use Rattle.bit_rows.specs.Bits.{Marking}
@@ -23,6 +23,11 @@ pub record InverseTo (n : ℕ) (list inv : List ℕ) : Type 0 where
 -- those of the whole list
 abbrev pub Inverse : List ℕ → List ℕ → Type 0
 Inverse list inv = InverseTo (length list) list inv
+
+-- the inverses of two lists, one behind the other: of the second, then of the first
+pub record Inverses (is js inv : List ℕ) : Type 0 where
+  pub columns : Inverse js (take maxCols inv)
+  pub rows : Inverse is (drop maxCols inv)
 
 -- a value is put at its place, counted from 1, and marked there; at 0 nothing is
 pub record Placed (place v top : ℕ) (map ov : List ℕ) (top′ : ℕ) (map′ ov′ : List ℕ) : Type 0 where

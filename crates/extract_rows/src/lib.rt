@@ -3,17 +3,29 @@
 use bit_rows::MAP_WORDS;
 use limits::ROW_PLACES;
 ghost use mathlib.Core.Path.{_≡_};
-ghost use Prim.Native.Nat.{_≤_};
+ghost use Prim.Native.Nat.{_*_, _≤_};
 ghost use lib.ListN.{length, replicate};
 ghost use Rattle.limits.specs.Limits.{maxCols};
 ghost use Rattle.words.specs.Words.{at};
 ghost use Rattle.rows.specs.Row.{lookup, Row, Holds};
 ghost use Rattle.bit_rows.specs.Bits.{Tracked};
-ghost use Rattle.extract_rows.specs.Indices.{Indices, Inverse, Placed};
+ghost use Rattle.extract_rows.specs.Indices.{Indices, Inverse, Inverses, Placed};
 
-// The inverse of an index list, in an array of zeros: at each column that the list names its place in the list, counted
+// The words of both inverses.
+pub const INVERSE_PLACES: usize = 2 * ROW_PLACES;
+
+// The inverses of two index lists, in zeros: of the second one, then of the first.
+pub fn invert_lists(is: &[u32], js: &[u32], out: &mut [u32])
+    requires { ⌜ Indices (now is) ⌝ ∗ ⌜ Indices (now js) ⌝ ∗ ⌜ now out ≡ replicate (2 * maxCols) 0 ⌝ }
+    ensures { λ _. ⌜ Inverses (now (is .entry)) (now (js .entry)) (now (out .exit)) ⌝ }
+{
+    invert(js, &mut out[..ROW_PLACES]);
+    invert(is, &mut out[ROW_PLACES..]);
+}
+
+// The inverse of an index list, in zeros: at each column that the list names its place in the list, counted
 // from 1.
-pub fn invert(list: &[u32], out: &mut [u32; ROW_PLACES])
+fn invert(list: &[u32], out: &mut [u32])
     requires { ⌜ Indices (now list) ⌝ ∗ ⌜ now out ≡ replicate maxCols 0 ⌝ }
     ensures { λ _. ⌜ Inverse (now (list .entry)) (now (out .exit)) ⌝ }
 {

@@ -61,6 +61,14 @@ use Rattle.exports.proofs.ostrubel_store_reduce_rows.Reads as reduce-rows-reads
 use Rattle.exports.proofs.ostrubel_store_reduce_rows.Statement as reduce-rows-statement
 use Rattle.exports.proofs.ostrubel_store_reduce_rows.Kinds as reduce-rows-kinds
 use Rattle.exports.proofs.ostrubel_store_reduce_rows.Met as reduce-rows-met
+use Rattle.exports.proofs.ostrubel_store_assign.Reads as assign-reads
+use Rattle.exports.proofs.ostrubel_store_assign.Statement as assign-statement
+use Rattle.exports.proofs.ostrubel_store_assign.Kinds as assign-kinds
+use Rattle.exports.proofs.ostrubel_store_assign.Met as assign-met
+use Rattle.exports.proofs.ostrubel_store_kronecker.Reads as kronecker-reads
+use Rattle.exports.proofs.ostrubel_store_kronecker.Statement as kronecker-statement
+use Rattle.exports.proofs.ostrubel_store_kronecker.Kinds as kronecker-kinds
+use Rattle.exports.proofs.ostrubel_store_kronecker.Met as kronecker-met
 use Rattle.exports.proofs.ostrubel_store_reduce.Reads as reduce-reads
 use Rattle.exports.proofs.ostrubel_store_reduce.Statement as reduce-statement
 use Rattle.exports.proofs.ostrubel_store_reduce.Kinds as reduce-kinds
@@ -152,6 +160,23 @@ pub data HostStep : List ℕ → StoreCall → ℕ → List ℕ → Type 0 where
       → HostStep s
       (operate (optionsOf flags masked accumulated number) (verbs.ReduceRows monoid) (rolesNamed a a m c) [] [] (length w))
       answer s′
+  assign-step : (κs : Lfts 4) (p q x y : Address) (w w′ : List ℕ) {s s′ : List ℕ} (is js : List ℕ)
+      (flags masked accumulated number a m c : ℕ) {answer : ℕ}
+      → assign-reads.Learnt κs
+      (flags, (masked, (accumulated, (number, (a, (m, (c, (lent p s, (lent x is, (lent y js, (lent q w, tt)))))))))))
+      answer
+      (flags, (masked, (accumulated, (number, (a, (m, (c, (lent p s′, (lent x is, (lent y js, (lent q w′, tt)))))))))))
+      → HostStep s
+      (operate (optionsOf flags masked accumulated number) verbs.Assign (rolesNamed a a m c) is js (length w))
+      answer s′
+  kronecker-step : (κs : Lfts 2) (p q : Address) (w w′ : List ℕ) {s s′ : List ℕ}
+      (flags masked accumulated number op a b m c : ℕ) {answer : ℕ}
+      → kronecker-reads.Learnt κs
+      (flags, (masked, (accumulated, (number, (op, (a, (b, (m, (c, (lent p s, (lent q w, tt)))))))))))
+      answer (flags, (masked, (accumulated, (number, (op, (a, (b, (m, (c, (lent p s′, (lent q w′, tt)))))))))))
+      → HostStep s
+      (operate (optionsOf flags masked accumulated number) (verbs.Kronecker op) (rolesNamed a b m c) [] [] (length w))
+      answer s′
   reduce-step : (κs : Lfts 1) (p : Address) {s : List ℕ} {k monoid answer : ℕ}
       → reduce-reads.Learnt κs (k, (monoid, (lent p s, tt))) answer (k, (monoid, (lent p s, tt)))
       → HostStep s (reduceSlot k monoid) answer s
@@ -179,6 +204,8 @@ tells (apply-step κs p q w w′ flags masked accumulated number kind op scalar 
 tells (extract-step κs p q x y w w′ is js flags masked accumulated number a m c t) = operated w w′ (t .0) (t .1)
 tells (select-step κs p q w w′ flags masked accumulated number op scalar a m c t) = operated w w′ (t .0) (t .1)
 tells (reduce-rows-step κs p q w w′ flags masked accumulated number monoid a m c t) = operated w w′ (t .0) (t .1)
+tells (assign-step κs p q x y w w′ is js flags masked accumulated number a m c t) = operated w w′ (t .0) (t .1)
+tells (kronecker-step κs p q w w′ flags masked accumulated number op a b m c t) = operated w w′ (t .0) (t .1)
 tells (reduce-step κs p t) = totalled t
 
 -- of each function: its code meets its contract, what a caller learns follows from that, and a caller has nothing to show
@@ -238,6 +265,14 @@ pub record HostFunctions : Type 3 where
       (KnownAs 2 reduce-rows-kinds.ps reduce-rows-kinds.r reduce-rows-reads.Ghost
       reduce-rows-reads.requires reduce-rows-reads.ensures reduce-rows-reads.Asked
       reduce-rows-reads.Learnt)
+  pub assign : Exported 4 assign-statement.statement (λ κs a. assign-reads.Asked κs a)
+      (KnownAs 4 assign-kinds.ps assign-kinds.r assign-reads.Ghost
+      assign-reads.requires assign-reads.ensures assign-reads.Asked
+      assign-reads.Learnt)
+  pub kronecker : Exported 2 kronecker-statement.statement (λ κs a. kronecker-reads.Asked κs a)
+      (KnownAs 2 kronecker-kinds.ps kronecker-kinds.r kronecker-reads.Ghost
+      kronecker-reads.requires kronecker-reads.ensures kronecker-reads.Asked
+      kronecker-reads.Learnt)
   pub reduce : Exported 1 reduce-statement.statement (λ κs a. reduce-reads.Asked κs a)
       (KnownAs 1 reduce-kinds.ps reduce-kinds.r reduce-reads.Ghost
       reduce-reads.requires reduce-reads.ensures reduce-reads.Asked
@@ -258,5 +293,7 @@ host-functions = record {
   extract = record { met = extract-met.met; known = extract-reads.known; free = λ κs a. tt };
   select = record { met = select-met.met; known = select-reads.known; free = λ κs a. tt };
   reduce-rows = record { met = reduce-rows-met.met; known = reduce-rows-reads.known; free = λ κs a. tt };
+  assign = record { met = assign-met.met; known = assign-reads.known; free = λ κs a. tt };
+  kronecker = record { met = kronecker-met.met; known = kronecker-reads.known; free = λ κs a. tt };
   reduce = record { met = reduce-met.met; known = reduce-reads.known; free = λ κs a. tt };
 }

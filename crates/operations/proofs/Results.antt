@@ -1,5 +1,5 @@
 -- T depends only on the cells of its inputs within their shapes.
-use Prim.Native.Nat.{ℕ, zero, suc, _<_}
+use Prim.Native.Nat.{ℕ, zero, suc, _/_, _%_, _<_}
 use native.Mathlib.Omega.{arith}
 use mathlib.Core.Path.{_≡_, refl, sym, ap, _∙_}
 use mathlib.Core.List.{List}
@@ -15,8 +15,18 @@ use Rattle.operators.specs.declared.Monoid.{Monoid}
 use Rattle.reductions.specs.Reductions.{reducedRow}
 use Rattle.reductions.proofs.Same.{row-same}
 use Rattle.operations.specs.declared.Operation.{Operation}
-use Rattle.operations.specs.declared.Operation.the-variants.{Mxm, EwiseMult, EwiseAdd, Apply, Extract, Select, ReduceRows}
-use Rattle.operations.specs.CellOperations.{dot, intersect, unite, applyCell, selectCell}
+use Rattle.operations.specs.declared.Operation.the-variants.{
+  Mxm,
+  EwiseMult,
+  EwiseAdd,
+  Apply,
+  Extract,
+  Select,
+  ReduceRows,
+  Assign,
+  Kronecker,
+}
+use Rattle.operations.specs.CellOperations.{dot, intersect, unite, applyCell, selectCell, unlistedCell}
 use Rattle.operations.specs.declared.Needs.{Needs}
 use Rattle.operations.specs.declared.Shape.{Shape}
 use Rattle.operations.specs.declared.Shapes.{Shapes}
@@ -31,6 +41,8 @@ use Rattle.operations.specs.GridOperations.{
 use Rattle.operations.specs.Lists.{Small}
 use Rattle.operations.specs.Calls.{hasSecond, hasLists, inputsAgree, listsValid}
 use Rattle.operations.proofs.Lists.{list-facts}
+use Rattle.operations.proofs.Listed.{listed-same}
+use Rattle.operations.proofs.Blocks.{block-below, place-below}
 
 -- a dot product depends only on the terms that it adds up
 dot-same : (monoid : Monoid) (op : BinaryOp) (n : ℕ) (f f′ g g′ : ℕ → Cell) → ((k : ℕ) → k < n → f k ≡ f′ k)
@@ -55,6 +67,8 @@ module _ (a b b′ c : Grid) (is is′ js js′ : List ℕ) where
   second-cells Extract h = refl
   second-cells (Select op) h = refl
   second-cells (ReduceRows monoid) h = refl
+  second-cells (Assign accumulator) h = refl
+  second-cells (Kronecker op) h = absurd (false≢true (sym h))
 
   lists-cells : (op : Operation) → hasLists op ≡ false
       → resultCell op a b c is js ≡ resultCell op a b c is′ js′
@@ -65,6 +79,8 @@ module _ (a b b′ c : Grid) (is is′ js js′ : List ℕ) where
   lists-cells Extract h = absurd (false≢true (sym h))
   lists-cells (Select op) h = refl
   lists-cells (ReduceRows monoid) h = refl
+  lists-cells (Assign accumulator) h = absurd (false≢true (sym h))
+  lists-cells (Kronecker op) h = refl
 
 -- the shapes of a call, one by one
 abbrev shapesFrom : Shape → Shape → Shape → Shape → Shapes
@@ -80,6 +96,8 @@ lists-needs (Apply op) s l h = refl
 lists-needs Extract s l h = absurd (false≢true (sym h))
 lists-needs (Select op) s l h = refl
 lists-needs (ReduceRows monoid) s l h = refl
+lists-needs (Assign accumulator) s l h = absurd (false≢true (sym h))
+lists-needs (Kronecker op) s l h = refl
 
 -- the bounds of the indexes are the shape of a matrix of the call
 pub bounds-small : (n : ℕ) (s : Shapes) → Small n (s .first) → Small n (s .output) → (op : Operation)
@@ -91,6 +109,8 @@ bounds-small n s first output (Apply op) = first
 bounds-small n s first output Extract = first
 bounds-small n s first output (Select op) = first
 bounds-small n s first output (ReduceRows monoid) = first
+bounds-small n s first output (Assign accumulator) = output
+bounds-small n s first output (Kronecker op) = first
 
 -- the shapes of grids that agree
 shape-same : (g h : Grid) → Same g h → shapeOf g ≡ shapeOf h
@@ -139,6 +159,21 @@ module _ (a a′ b b′ c c′ : Grid) (is js : List ℕ) (s : Same a a′) (u :
   cell-same (ReduceRows monoid) t g v i j l m =
       ap (λ (n : ℕ). reducedRow monoid n (a .cell j)) (s .cols)
       ∙ row-same monoid (a′ .cols) _ _ (λ k q. s .cell j k m q)
+
+  cell-same (Assign accumulator) t g v i j l m =
+      let e : a′ .rows ≡ length is = eqb-true _ _ (and-left _ _ (and-left _ _ g)) in
+      let f : a′ .cols ≡ length js = eqb-true _ _ (and-right _ _ (and-left _ _ g)) in
+      let old = ap (unlistedCell accumulator) (u .cell i j l m) in
+      listed-same (length is) is i _ _ _ _
+      (λ k p. listed-same (length js) js j _ _ _ _ (λ h q. s .cell k h (omega arith) (omega arith)) old) old
+  cell-same (Kronecker op) t g v i j l m =
+      ap (λ (n : ℕ). intersect op (a .cell (i / n) (j / b .cols)) (b .cell (i % n) (j % b .cols))) (t refl .rows)
+      ∙ ap (λ (n : ℕ). intersect op (a .cell (i / b′ .rows) (j / n)) (b .cell (i % b′ .rows) (j % n))) (t refl .cols)
+      ∙ ap (λ (x : Cell). intersect op x (b .cell (i % b′ .rows) (j % b′ .cols)))
+      (s .cell (i / b′ .rows) (j / b′ .cols) (block-below (a′ .rows) (b′ .rows) i l) (block-below (a′ .cols) (b′ .cols) j m))
+      ∙ ap (intersect op (a′ .cell (i / b′ .rows) (j / b′ .cols)))
+      (t refl .cell (i % b′ .rows) (j % b′ .cols) (place-below (a′ .rows) (b′ .rows) i l)
+      (place-below (a′ .cols) (b′ .cols) j m))
 
   -- the shapes of a call
   pub shapes-of-same : (op : Operation) → (hasSecond op ≡ true → Same b b′)

@@ -1,6 +1,10 @@
--- What the operations do with the cells at one position (document 01, "The six operations", and document 02, A4).
+-- What the operations do with the cells at one position (document 01, "The six operations", and document 02, A4 and A14).
 use Prim.Native.Nat.{ℕ, zero, suc}
+use mathlib.Core.List.{List}
 use mathlib.Core.Bool.{cond}
+use lib.ListN.{length}
+use lib.Dec.{eqb}
+use Rattle.words.specs.Words.{at}
 use Rattle.grid.specs.declared.Cell.{Cell}
 use Rattle.grid.specs.declared.Cell.the-variants.{Absent, Present}
 use Rattle.operators.specs.declared.ApplyOp.{ApplyOp}
@@ -9,6 +13,8 @@ use Rattle.operators.specs.declared.Monoid.{Monoid}
 use Rattle.operators.specs.Operators.{binaryWord, monoidOp, entryWord}
 use Rattle.select_ops.specs.declared.SelectOp.{SelectOp}
 use Rattle.select_ops.specs.Selects.{selects}
+use Rattle.operations.specs.declared.Accumulator.{Accumulator}
+use Rattle.operations.specs.declared.Accumulator.the-variants.{Absent as NoAccumulator, Present as By}
 
 -- "the operator where both are present, otherwise nothing"
 abbrev pub intersect : BinaryOp → Cell → Cell → Cell
@@ -37,3 +43,19 @@ applyCell op i j (Present x) = Present (entryWord op x i j)
 abbrev pub selectCell : SelectOp → ℕ → ℕ → Cell → Cell
 selectCell op i j Absent = Absent
 selectCell op i j (Present x) = cond (selects op x i j) (Present x) Absent
+
+-- what stands in a row or column that a list may name: where i is one of its first n indexes, index k, the cell that f has
+-- for k, and else the cell c
+unfoldable pub listedCell : ℕ → List ℕ → ℕ → (ℕ → Cell) → Cell → Cell
+listedCell zero list i f c = c
+listedCell (suc n) list i f c = cond (eqb (at list n) i) (f n) (listedCell n list i f c)
+
+-- the place (i, j) of an assign: where I[k] is i and J[l] is j it takes the cell (k, l), and else c
+abbrev pub assignedCell : List ℕ → List ℕ → (ℕ → ℕ → Cell) → Cell → ℕ → ℕ → Cell
+assignedCell is js cell c i j = listedCell (length is) is i (λ k. listedCell (length js) js j (cell k) c) c
+
+-- assign, at a place of old C that is not listed: "a place not listed keeps old C before the mask is applied". Under an
+-- accumulator T has nothing there, and the union of old C and T keeps old C.
+abbrev pub unlistedCell : Accumulator → Cell → Cell
+unlistedCell NoAccumulator c = c
+unlistedCell (By op) c = Absent

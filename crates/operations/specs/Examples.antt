@@ -2,8 +2,9 @@
 use Prim.Native.Nat.{ℕ, zero, suc, _+_, _*_}
 use mathlib.Core.Path.{_≡_, refl}
 use mathlib.Core.List.{List, [], _∷_, _++_}
-use mathlib.Core.Bool.{Bool, true, false}
+use mathlib.Core.Bool.{Bool, true, false, cond}
 use lib.ListN.{replicate}
+use lib.Dec.{eqb}
 use Rattle.limits.specs.Limits.{maxList}
 use Rattle.conditions.specs.Tests.{_and_, all}
 use Rattle.twos_complement.specs.TwosComplement.{signed, word}
@@ -25,10 +26,20 @@ use Rattle.reductions.specs.Reductions.{reducedRow}
 use Rattle.operations.specs.declared.Accumulator.the-variants.{Absent as NoAccumulator, Present as By}
 use Rattle.operations.specs.declared.Call.{Call}
 use Rattle.operations.specs.declared.Operation.{Operation}
-use Rattle.operations.specs.declared.Operation.the-variants.{Mxm, EwiseMult, EwiseAdd, Apply, Extract, Select, ReduceRows}
-use Rattle.operations.specs.CellOperations.{intersect, unite, dot, applyCell}
+use Rattle.operations.specs.declared.Operation.the-variants.{
+  Mxm,
+  EwiseMult,
+  EwiseAdd,
+  Apply,
+  Extract,
+  Select,
+  ReduceRows,
+  Assign,
+  Kronecker,
+}
+use Rattle.operations.specs.CellOperations.{intersect, unite, dot, applyCell, listedCell}
 use Rattle.operations.specs.GridOperations.{oriented}
-use Rattle.operations.specs.WriteBacks.{accumulated}
+use Rattle.operations.specs.WriteBacks.{accumulated, writeBack}
 use Rattle.operations.specs.Calls.{
   flagSet,
   transposeFirst,
@@ -36,6 +47,7 @@ use Rattle.operations.specs.Calls.{
   hasSecond,
   hasLists,
   callResult,
+  callFinal,
   listValid,
   indexesValid,
   shapesAgree,
@@ -65,6 +77,13 @@ above = Select (ValueGt 10)
 
 abbrev sums : Operation
 sums = ReduceRows monoid.Plus
+
+-- an assign without an accumulator, and a Kronecker product
+abbrev assign : Operation
+assign = Assign NoAccumulator
+
+abbrev kronecker : Operation
+kronecker = Kronecker binary.Minus
 
 -- calls without mask, with one, and with a vector as first input
 abbrev plain : ℕ → Operation → Call
@@ -178,6 +197,18 @@ sums-second = refl
 
 sums-lists : hasLists sums ≡ false
 sums-lists = refl
+
+assign-second : hasSecond assign ≡ false
+assign-second = refl
+
+assign-lists : hasLists assign ≡ true
+assign-lists = refl
+
+kronecker-second : hasSecond kronecker ≡ true
+kronecker-second = refl
+
+kronecker-lists : hasLists kronecker ≡ false
+kronecker-lists = refl
 
 -- the shapes of a call without lists: a, b, mask and C
 abbrev agree : Call → Grid → Grid → Grid → Grid → Bool
@@ -448,6 +479,160 @@ indexes-transposed = refl
 indexes-none : indexesValid (plain 0 mxm) wide (by 5 7) (by 1 1) [] [] ≡ true
 unfolding indexesValid listValid all _and_
 indexes-none = refl
+
+-- ---- document 02, A14
+
+-- "A (as transposed) has the list lengths as its shape, and that need not be C's shape (8)."
+abbrev assigns : Call → Grid → Grid → Grid → Bool
+assigns call a m c = shapesAgree call a (by 5 7) m c (1 ∷ []) (2 ∷ 0 ∷ [])
+
+assign-agrees : assigns (plain 0 assign) (by 1 2) (by 1 1) (by 4 3) ≡ true
+unfolding shapesAgree _and_
+assign-agrees = refl
+
+assign-turned : assigns (plain 0 assign) (by 2 1) (by 1 1) (by 4 3) ≡ false
+unfolding shapesAgree _and_
+assign-turned = refl
+
+assign-transposed : assigns (plain 8 assign) (by 2 1) (by 1 1) (by 4 3) ≡ true
+unfolding shapesAgree _and_
+assign-transposed = refl
+
+assign-larger : assigns (plain 0 assign) (by 4 3) (by 1 1) (by 4 3) ≡ false
+unfolding shapesAgree _and_
+assign-larger = refl
+
+-- "The mask has C's shape and covers all of C."
+assign-mask : assigns (masked 0 assign) (by 1 2) (by 4 3) (by 4 3) ≡ true
+unfolding shapesAgree _and_
+assign-mask = refl
+
+assign-mask-listed : assigns (masked 0 assign) (by 1 2) (by 1 2) (by 4 3) ≡ false
+unfolding shapesAgree _and_
+assign-mask-listed = refl
+
+-- "No index stands twice or past C; here 7 is counted against C and not against A": past A and within C, and within A and
+-- past C
+assign-past-first : indexesValid (plain 0 assign) (by 1 1) (by 5 7) (by 4 3) (3 ∷ []) (2 ∷ []) ≡ true
+unfolding indexesValid listValid all _and_
+assign-past-first = refl
+
+assign-past-output : indexesValid (plain 0 assign) (by 5 5) (by 5 7) (by 4 3) (4 ∷ []) (2 ∷ []) ≡ false
+unfolding indexesValid listValid all _and_
+assign-past-output = refl
+
+assign-twice : indexesValid (plain 0 assign) (by 2 1) (by 5 7) (by 4 3) (3 ∷ 3 ∷ []) (2 ∷ []) ≡ false
+unfolding indexesValid listValid all _and_
+assign-twice = refl
+
+-- A has 7 and an empty cell, for columns 2 and 0 of row 1; `wide` is old C
+abbrev half : ℕ → ℕ → Cell
+half k zero = Present 7
+half k (suc l) = Absent
+
+abbrev lone : Grid
+lone = record { rows = 1; cols = 2; cell = half }
+
+-- C after an assign of it, with a mask that has a place only at row 1 and column 2, where the call has one
+abbrev corner : ℕ → ℕ → Cell
+corner i j = cond (eqb i 1 and eqb j 2) (Present 1) Absent
+
+abbrev assigned : Call → ℕ → ℕ → Cell
+assigned call i j =
+    callFinal call lone (by 5 7) (record { rows = 2; cols = 3; cell = corner }) wide (1 ∷ []) (2 ∷ 0 ∷ []) .cell i j
+
+-- "Without an accumulator a listed place takes A's emptiness too"
+assign-listed : assigned (plain 0 assign) 1 2 ≡ Present 7
+unfolding callFinal writeBack listedCell _and_
+assign-listed = refl
+
+assign-emptied : assigned (plain 0 assign) 1 0 ≡ Absent
+unfolding callFinal writeBack listedCell _and_
+assign-emptied = refl
+
+-- "a place not listed keeps old C": its column is not listed, or its row
+assign-column : assigned (plain 0 assign) 1 1 ≡ Present 11
+unfolding callFinal writeBack listedCell _and_
+assign-column = refl
+
+assign-row : assigned (plain 0 assign) 0 2 ≡ Present 2
+unfolding callFinal writeBack listedCell _and_
+assign-row = refl
+
+-- with an accumulator a listed place has the union of old C and A, and a place not listed old C once
+abbrev accumulating : Call
+accumulating = record {
+  flags = 0;
+  known = true;
+  operation = Assign (By binary.Minus);
+  «vector_first» = false;
+  «has_mask» = false;
+  accumulator = By binary.Minus;
+}
+
+accumulate-listed : assigned accumulating 1 2 ≡ Present 5
+unfolding callFinal writeBack listedCell _and_ binaryWord signed word
+accumulate-listed = refl
+
+accumulate-empty : assigned accumulating 1 0 ≡ Present 10
+unfolding callFinal writeBack listedCell _and_
+accumulate-empty = refl
+
+accumulate-unlisted : assigned accumulating 1 1 ≡ Present 11
+unfolding callFinal writeBack listedCell _and_
+accumulate-unlisted = refl
+
+-- the mask covers all of C: outside it a listed place keeps old C, and replace empties every place, listed or not
+outside-listed : assigned (masked 0 assign) 1 0 ≡ Present 10
+unfolding callFinal writeBack listedCell _and_
+outside-listed = refl
+
+replaced-listed : assigned (masked 1 assign) 1 0 ≡ Absent
+unfolding callFinal writeBack listedCell _and_
+replaced-listed = refl
+
+replaced-unlisted : assigned (masked 1 assign) 0 2 ≡ Absent
+unfolding callFinal writeBack listedCell _and_
+replaced-unlisted = refl
+
+replaced-inside : assigned (masked 1 assign) 1 2 ≡ Present 7
+unfolding callFinal writeBack listedCell _and_
+replaced-inside = refl
+
+-- the Kronecker product of 2 by 3 and 4 by 5 is 8 by 15; B may be transposed
+kronecker-agrees : agree (plain 0 kronecker) (by 2 3) (by 4 5) (by 1 1) (by 8 15) ≡ true
+unfolding shapesAgree _and_
+kronecker-agrees = refl
+
+kronecker-turned : agree (plain 0 kronecker) (by 2 3) (by 4 5) (by 1 1) (by 15 8) ≡ false
+unfolding shapesAgree _and_
+kronecker-turned = refl
+
+kronecker-transposed : agree (plain 16 kronecker) (by 2 3) (by 4 5) (by 1 1) (by 10 12) ≡ true
+unfolding shapesAgree _and_
+kronecker-transposed = refl
+
+-- "If its shape goes past 1,000 either way it is refused by 8", also where no place is inside: 1,000 and 1,040 rows
+kronecker-most : agree (plain 2 kronecker) (by 40 1) (by 25 1) (by 1 1) (by 1000 1) ≡ true
+unfolding shapesAgree _and_
+kronecker-most = refl
+
+kronecker-past : agree (plain 2 kronecker) (by 40 1) (by 26 1) (by 1 1) (by 1000 1) ≡ false
+unfolding shapesAgree _and_
+kronecker-past = refl
+
+-- "entry (i·p + k, j·q + l) from A(i,j) and a p by q B(k,l)", A's value first: with `wide` and a 2 by 4 B that has 3k + l,
+-- place (3, 8) is by A(1,2) and B(1,0), and place (2, 7) by A(1,1) and B(0,3)
+abbrev block : Grid
+block = record { rows = 2; cols = 4; cell = λ k l. Present (3 * k + l) }
+
+kronecker-cell : callResult (plain 0 kronecker) wide block (by 4 12) [] [] .cell 3 8 ≡ Present 9
+unfolding binaryWord signed word
+kronecker-cell = refl
+
+kronecker-next : callResult (plain 0 kronecker) wide block (by 4 12) [] [] .cell 2 7 ≡ Present 8
+unfolding binaryWord signed word
+kronecker-next = refl
 
 -- ---- which operand is first, and which operator is which
 

@@ -1,7 +1,7 @@
--- What each operation is, on plain grids (document 01, "The six operations", and document 02, A4): which inputs it has, the
--- shapes that it asks for, and T: "T is worked out first, in every place (i, j)". Whatever else depends on the operation
--- follows from these.
-use Prim.Native.Nat.{ℕ}
+-- What each operation is, on plain grids (document 01, "The six operations", and document 02, A4 and A14): which inputs it
+-- has, the shapes that it asks for, and T: "T is worked out first, in every place (i, j)". Whatever else depends on the
+-- operation follows from these.
+use Prim.Native.Nat.{ℕ, _*_, _/_, _%_}
 use mathlib.Core.List.{List}
 use mathlib.Core.Bool.{Bool, true, false, cond}
 use lib.ListN.{length}
@@ -9,9 +9,27 @@ use Rattle.words.specs.Words.{at}
 use Rattle.grid.specs.declared.Cell.{Cell}
 use Rattle.grid.specs.Grid.{Grid}
 use Rattle.reductions.specs.Reductions.{reducedRow}
-use Rattle.operations.specs.CellOperations.{intersect, unite, dot, applyCell, selectCell}
+use Rattle.operations.specs.CellOperations.{
+  intersect,
+  unite,
+  dot,
+  applyCell,
+  selectCell,
+  assignedCell,
+  unlistedCell,
+}
 use Rattle.operations.specs.declared.Operation.{Operation}
-use Rattle.operations.specs.declared.Operation.the-variants.{Mxm, EwiseMult, EwiseAdd, Apply, Extract, Select, ReduceRows}
+use Rattle.operations.specs.declared.Operation.the-variants.{
+  Mxm,
+  EwiseMult,
+  EwiseAdd,
+  Apply,
+  Extract,
+  Select,
+  ReduceRows,
+  Assign,
+  Kronecker,
+}
 use Rattle.operations.specs.declared.Inputs.{Inputs}
 use Rattle.operations.specs.declared.Shape.{Shape}
 use Rattle.operations.specs.declared.Shapes.{Shapes}
@@ -43,6 +61,8 @@ inputsOf (Apply op) = record { second = false; lists = false }
 inputsOf Extract = record { second = false; lists = true }
 inputsOf (Select op) = record { second = false; lists = false }
 inputsOf (ReduceRows monoid) = record { second = false; lists = false }
+inputsOf (Assign accumulator) = record { second = false; lists = true }
+inputsOf (Kronecker op) = record { second = true; lists = false }
 
 -- What it asks for: the shapes that both inputs have to have, the bounds of the indexes, and T's shape, each by what it is
 -- made of. An input that may have any shape is asked for its own; the bounds matter where there are lists.
@@ -61,6 +81,12 @@ rulesOf Extract = rules part.First part.Second part.First part.Lists
 rulesOf (Select op) = rules part.First part.Second part.First part.First
 -- "rows into a strip 1 by R"
 rulesOf (ReduceRows monoid) = rules part.First part.Second part.First part.OfRows
+-- "A (as transposed) has the list lengths as its shape, and that need not be C's shape"; "7 is counted against C and not
+-- against A"
+rulesOf (Assign accumulator) = rules part.Lists part.Second part.Output part.Output
+-- "entry (i·p + k, j·q + l) from A(i,j) and a p by q B(k,l)". C has at most 1,000 rows and columns, so a shape that "goes
+-- past 1,000 either way" is never C's.
+rulesOf (Kronecker op) = rules part.First part.Second part.First part.Blocks
 
 -- the shape that a part names, of the shapes of a call: those of the inputs as their flags ask and of the old C, and the
 -- lengths of the lists
@@ -72,6 +98,7 @@ partShape part.Outer s = s .first .rows by s .second .cols
 partShape part.Lists s = s .lists
 partShape part.Output s = s .output
 partShape part.OfRows s = 1 by s .first .rows
+partShape part.Blocks s = s .first .rows * s .second .rows by s .first .cols * s .second .cols
 
 -- what it asks of the shapes of a call
 abbrev pub needsOf : Operation → Shapes → Needs
@@ -99,6 +126,12 @@ resultCell Extract a b c is js i j = a .cell (at is i) (at js j)
 resultCell (Select op) a b c is js i j = selectCell op i j (a .cell i j)
 -- column j of the strip has the total of row j
 resultCell (ReduceRows monoid) a b c is js i j = reducedRow monoid (a .cols) (a .cell j)
+
+-- assign: A(k,l) at the place (I[k], J[l]), "A's emptiness too"
+resultCell (Assign accumulator) a b c is js i j = assignedCell is js (a .cell) (unlistedCell accumulator (c .cell i j)) i j
+-- the Kronecker product: place (i·p + k, j·q + l) by A(i,j) and B(k,l), where B is p by q
+resultCell (Kronecker op) a b c is js i j =
+    intersect op (a .cell (i / b .rows) (j / b .cols)) (b .cell (i % b .rows) (j % b .cols))
 
 -- the shape of a grid
 abbrev pub shapeOf : Grid → Shape

@@ -5,10 +5,13 @@ use operators::BinaryOp;
 use operators::Monoid;
 use select_ops::SelectOp;
 ghost use mathlib.Core.Path.{_≡_};
+ghost use Rattle.limits.specs.Limits.{maxCols};
 ghost use Rattle.operations.specs.GridOperations.{inputsOf, rulesOf, partShape, needsOf};
+ghost use Rattle.operations.specs.Lists.{Small};
 
 // Document 01's operations that give a T, and document 02's. A vector times a matrix is the product with a first input of one
-// row.
+// row. Assign has the accumulator that it is written back with: T's places that are not listed depend on whether there is
+// one.
 pub enum Operation {
     Mxm(Monoid, BinaryOp),
     EwiseMult(BinaryOp),
@@ -17,6 +20,8 @@ pub enum Operation {
     Extract,
     Select(SelectOp),
     ReduceRows(Monoid),
+    Assign(Accumulator),
+    Kronecker(BinaryOp),
 }
 
 // "Whether there is a mask or an accumulator is said apart from its words or number."
@@ -98,11 +103,14 @@ pub fn inputs_of(operation: Operation) -> Inputs
         Operation::Extract => with_lists,
         Operation::Select(_) => alone,
         Operation::ReduceRows(_) => alone,
+        Operation::Assign(_) => with_lists,
+        Operation::Kronecker(_) => with_second,
     }
 }
 
 // A shape that an operation asks for or gives, by what it is made of: the first input, the second, A's columns by B's
-// columns, A's rows by B's columns, the lengths of the lists, the old C, a vector with a place for each of A's rows.
+// columns, A's rows by B's columns, the lengths of the lists, the old C, a vector with a place for each of A's rows, a
+// block of B's shape for each place of A.
 pub enum Part {
     First,
     Second,
@@ -111,6 +119,7 @@ pub enum Part {
     Lists,
     Output,
     OfRows,
+    Blocks,
 }
 
 // What an operation asks for: the shapes of its inputs, the bounds of the indexes, and T's shape.
@@ -156,6 +165,18 @@ fn rules_of(operation: Operation) -> Rules
         bounds: Part::First,
         result: Part::OfRows,
     };
+    let into_lists = Rules {
+        first: Part::Lists,
+        second: Part::Second,
+        bounds: Part::Output,
+        result: Part::Output,
+    };
+    let in_blocks = Rules {
+        first: Part::First,
+        second: Part::Second,
+        bounds: Part::First,
+        result: Part::Blocks,
+    };
     match operation {
         Operation::Mxm(_, _) => product,
         Operation::EwiseMult(_) => same,
@@ -164,11 +185,14 @@ fn rules_of(operation: Operation) -> Rules
         Operation::Extract => listed,
         Operation::Select(_) => single,
         Operation::ReduceRows(_) => by_row,
+        Operation::Assign(_) => into_lists,
+        Operation::Kronecker(_) => in_blocks,
     }
 }
 
 // The shape that a part names.
 fn part_shape(part: Part, shapes: Shapes) -> Shape
+    requires { ⌜ Small maxCols (shapes .first) ⌝ ∗ ⌜ Small maxCols (shapes .second) ⌝ }
     ensures { λ r. ⌜ r ≡ partShape part shapes ⌝ }
 {
     let first = shapes.first;
@@ -192,11 +216,16 @@ fn part_shape(part: Part, shapes: Shapes) -> Shape
             rows: 1,
             cols: first.rows,
         },
+        Part::Blocks => Shape {
+            rows: first.rows * second.rows,
+            cols: first.cols * second.cols,
+        },
     }
 }
 
 // What an operation asks of the shapes of its call.
 pub fn needs_of(operation: Operation, shapes: Shapes) -> Needs
+    requires { ⌜ Small maxCols (shapes .first) ⌝ ∗ ⌜ Small maxCols (shapes .second) ⌝ }
     ensures { λ r. ⌜ r ≡ needsOf operation shapes ⌝ }
 {
     let rules = rules_of(operation);

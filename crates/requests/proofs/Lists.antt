@@ -16,13 +16,14 @@ use Rattle.conditions.specs.Tests.{_and_, all}
 use Rattle.conditions.proofs.Tests.{and-both, all-none, all-more, all-not}
 use Rattle.bit_rows.specs.Bits.{mapWords, mark, Marking}
 use Rattle.bit_rows.proofs.Marks.{tracked-none, mark-none}
+use Rattle.grid.specs.Grid.{Grid}
 use Rattle.matrix.specs.Layout.{gridOf}
 use Rattle.matrix.specs.Facts.{Matrix}
 use Rattle.operations.specs.declared.Call.{Call}
 use Rattle.operations.specs.declared.Needs.{Needs}
 use Rattle.operations.specs.declared.Shapes.{Shapes}
-use Rattle.operations.specs.GridOperations.{oriented, needsOf, shapeOf}
-use Rattle.operations.specs.Calls.{transposeFirst, callShapes, fresh, indexFits}
+use Rattle.operations.specs.GridOperations.{oriented, needsOf, shapeOf, noShape}
+use Rattle.operations.specs.Calls.{transposeFirst, transposeSecond, hasSecond, callShapes, fresh, indexFits}
 use Rattle.operations.specs.Lists.{Small}
 use Rattle.operations.proofs.Results.{bounds-small}
 use Rattle.requests.specs.Inputs.{Valid}
@@ -115,6 +116,21 @@ module _ {n : ℕ} {l : List ℕ} {k top : ℕ} {map : List ℕ} (p : Passed n l
 oriented-small : (flag : Bool) (a : List ℕ) → Matrix a → Small maxCols (shapeOf (oriented flag (gridOf a)))
 oriented-small true a m = (m .header .col-range .most, omega (arith, m .header .row-range .most))
 oriented-small false a m = (omega (arith, m .header .row-range .most), m .header .col-range .most)
+
+-- and so do the shapes of both inputs, where there are two
+second-small : (there : Bool) (g : Grid) → (there ≡ true → Small maxCols (shapeOf g))
+    → Small maxCols (cond there (shapeOf g) noShape)
+second-small true g h = h refl
+second-small false g h = (omega arith, omega arith)
+
+pub inputs-small : (call : Call) (a b m c is js : List ℕ) → Valid call a b m c → (s : Shapes)
+    → s ≡ callShapes call (gridOf a) (gridOf b) (gridOf c) is js
+    → Small maxCols (s .first) × Small maxCols (s .second)
+inputs-small call a b m c is js v s e = rw e (
+  oriented-small (transposeFirst call) a (v .first),
+  second-small (hasSecond (call .operation)) (oriented (transposeSecond call) (gridOf b))
+      (λ t. oriented-small (transposeSecond call) b (v .second t)),
+)
 
 -- and so do the bounds of the lists
 pub lists-within : (call : Call) (a b m c is js : List ℕ) → Valid call a b m c → (s : Shapes) (n : Needs)

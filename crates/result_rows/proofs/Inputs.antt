@@ -4,7 +4,7 @@ use native.Mathlib.Omega.{arith}
 use mathlib.Core.Path.{_≡_, refl, sym, ap, _∙_, fun-ext}
 use mathlib.Core.List.{List, []}
 use mathlib.Core.Bool.{true, not, false≢true}
-use lib.ListN.{length}
+use lib.ListN.{length, length-take}
 use borrow.Author.Tests.{eqb-true, eq-eqb}
 use Rattle.limits.specs.Limits.{maxCols}
 use Rattle.words.specs.Words.{at}
@@ -15,15 +15,23 @@ use Rattle.matrix.specs.Layout.{rows, cols, rowColumns, rowValues, cellOf}
 use Rattle.matrix.specs.Facts.{Matrix, RowSpan}
 use Rattle.matrix.proofs.Facts.{matrix-made, row-span}
 use Rattle.encoding.proofs.Canonical.{valid-row}
-use Rattle.operators.specs.declared.ApplyOp.{ApplyOp}
 use Rattle.operators.specs.declared.BinaryOp.{BinaryOp}
 use Rattle.operators.specs.declared.Monoid.{Monoid}
-use Rattle.operations.specs.declared.Operation.the-variants.{Mxm, EwiseMult, EwiseAdd, Apply, Extract}
+use Rattle.operations.specs.declared.Accumulator.{Accumulator}
+use Rattle.operations.specs.declared.Operation.the-variants.{Mxm, EwiseMult, EwiseAdd, Extract, Assign, Kronecker}
 use Rattle.operations.specs.Calls.{fresh, indexFits, listValid}
 use Rattle.operations.specs.Lists.{IndexList}
 use Rattle.operations.proofs.Lists.{list-facts}
-use Rattle.extract_rows.specs.Indices.{Indices}
-use Rattle.result_rows.specs.RowInputs.{RowInputs, Buffers, ProductInputs, PairInputs, ListInputs}
+use Rattle.extract_rows.specs.Indices.{Indices, Inverses}
+use Rattle.result_rows.specs.RowInputs.{
+  RowInputs,
+  Buffers,
+  ProductInputs,
+  PairInputs,
+  ListInputs,
+  AssignInputs,
+  BlockInputs,
+}
 
 -- a row of a valid matrix, and where it lies
 pub matrix-row : (s : List ℕ) → Matrix s → (i : ℕ) → i < rows s → Row (cols s) (rowColumns s i) (rowValues s i)
@@ -50,7 +58,7 @@ pub wider-row : {n m : ℕ} {cs vs : List ℕ} → n ≤ m → Row n cs vs → R
 wider-row h r = record { even = r .even; rises = r .rises; small = λ a l. let s = r .small a l in omega arith }
 
 -- an index of a valid list does not stand before
-list-once : (n : ℕ) (l : List ℕ) → listValid n l ≡ true → (a b : ℕ) → a < b → b < length l → at l a ≡ at l b → ⊥
+pub list-once : (n : ℕ) (l : List ℕ) → listValid n l ≡ true → (a b : ℕ) → a < b → b < length l → at l a ≡ at l b → ⊥
 unfolding listValid
 list-once n l h a b m k e =
     let fits = all-at (indexFits n l) (length l) b k (and-right _ _ (and-right _ _ h)) in
@@ -66,6 +74,10 @@ list-indices n l m h =
       index = λ k b. omega (arith, f .below k b);
       once = list-once n l h;
     }
+
+-- there is a word for each column in the first of two inverses
+inverses-long : {is js inv : List ℕ} → Inverses is js inv → maxCols ≤ length inv
+inverses-long {inv = inv} v = omega (arith, length-take maxCols inv, v .columns .sized)
 
 module _ (a b c is js : List ℕ) (i : ℕ) where
   pub product-inputs : (monoid : Monoid) (op : BinaryOp) → RowInputs (Mxm monoid op) a b c is js i → ProductInputs a b i
@@ -102,8 +114,35 @@ module _ (a b c is js : List ℕ) (i : ℕ) where
         row = h .row;
         listed = r .below i (h .row);
         indices = list-indices _ _ (h .first .header .col-range .most) (and-right _ _ (h .lists));
-        inverse = h .inverse refl;
+        long = inverses-long (h .inverses refl);
+        inverse = h .inverses refl .columns;
       }
+
+  pub assign-inputs : (accumulator : Accumulator) → RowInputs (Assign accumulator) a b c is js i
+      → AssignInputs a b c is js i
+  assign-inputs accumulator h =
+      let v = h .inverses refl in
+      let height = h .output .header .row-range .most in
+      record {
+        first = h .first;
+        output = h .output;
+        row = h .row;
+        same-rows = eqb-true _ _ (and-left _ _ (and-left _ _ (h .agree)));
+        same-cols = eqb-true _ _ (and-right _ _ (and-left _ _ (h .agree)));
+        rows-listed = record {
+          indices = list-indices _ _ (omega arith) (and-left _ _ (h .lists));
+          below = list-facts _ _ (and-left _ _ (h .lists)) .below;
+          inverse = v .rows;
+        };
+        cols-listed = record {
+          indices = list-indices _ _ (h .output .header .col-range .most) (and-right _ _ (h .lists));
+          below = list-facts _ _ (and-right _ _ (h .lists)) .below;
+          inverse = v .columns;
+        };
+      }
+
+  pub block-inputs : (op : BinaryOp) → RowInputs (Kronecker op) a b c is js i → BlockInputs a b i
+  block-inputs op h = record { first = h .first; second = h .second refl; row = h .row }
 
 -- buffers for a row of T, said of their lengths
 pub buffers : {g : Grid} {oc ov : List ℕ} → Buffers g oc ov → (g .cols ≤ length oc) × (g .cols ≤ length ov)

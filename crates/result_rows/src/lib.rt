@@ -1,6 +1,8 @@
 // A row of T for any of the operations. The inputs are valid matrices, as their transpose flags ask; so is the old C.
-// Where there are lists and no second input, the inverse of the second list stands in its place.
+// Where there are lists and no second input, the inverses of both lists stand in its place.
+use limits::ROW_PLACES;
 use merge::Combine;
+use operations::Accumulator;
 use operations::Operation;
 use operators::ApplyOp;
 use operators::BinaryOp;
@@ -8,16 +10,17 @@ use operators::Monoid;
 use products::Engine;
 use select_ops::SelectOp;
 ghost use mathlib.Core.Path.{_≡_};
-ghost use Prim.Native.Nat.{_≤_, _<_};
+ghost use Prim.Native.Nat.{_*_, _/_, _%_, _≤_, _<_};
 ghost use lib.ListN.{length};
 ghost use Rattle.words.specs.Words.{at};
 ghost use Rattle.rows.specs.Row.{Holds};
 ghost use Rattle.matrix.specs.Layout.{rows, cols, cellOf, gridOf};
 ghost use Rattle.matrix.specs.Facts.{Matrix};
-ghost use Rattle.operations.specs.CellOperations.{dot, applyCell, selectCell};
+ghost use Rattle.operations.specs.CellOperations.{intersect, dot, applyCell, selectCell, assignedCell, unlistedCell};
 ghost use Rattle.operations.specs.GridOperations.{resultGrid};
 ghost use Rattle.merge.specs.Combined.{combined};
 ghost use Rattle.result_rows.specs.RowInputs.{RowInputs, Buffers, ProductInputs, PairInputs, ListInputs, noCell};
+ghost use Rattle.result_rows.specs.RowInputs.{AssignInputs, BlockInputs};
 
 // Row i of T, left at the front of `oc` and `ov`: its number of entries. The engine is the product's.
 pub fn result_row(
@@ -49,6 +52,8 @@ pub fn result_row(
         Operation::Extract => extracted(a, b, is, js, i, oc, ov),
         Operation::Select(op) => selected(op, a, i, oc, ov),
         Operation::ReduceRows(monoid) => reduce_rows::reduce_rows(monoid, a, oc, ov),
+        Operation::Assign(accumulator) => assigned(accumulator, a, b, c, is, js, i, oc, ov),
+        Operation::Kronecker(op) => blocks(op, a, b, i, oc, ov),
     }
 }
 
@@ -122,7 +127,7 @@ fn applied(op: ApplyOp, a: &[u32], i: usize, oc: &mut [u32], ov: &mut [u32]) -> 
     )
 }
 
-// A row of extract, where b is the inverse of js.
+// A row of extract, where b has the inverse of js first.
 fn extracted(
     a: &[u32],
     b: &[u32],
@@ -143,7 +148,7 @@ fn extracted(
         matrix::row_columns(a, row),
         matrix::row_values(a, row),
         js,
-        b,
+        &b[..ROW_PLACES],
         oc,
         ov,
     )
@@ -163,6 +168,76 @@ fn selected(op: SelectOp, a: &[u32], i: usize, oc: &mut [u32], ov: &mut [u32]) -
         i as u32,
         matrix::row_columns(a, i),
         matrix::row_values(a, i),
+        oc,
+        ov,
+    )
+}
+
+// A row of assign, where b has the inverse of js, then that of is: the latter tells which row of A comes here, if any.
+fn assigned(
+    accumulator: Accumulator,
+    a: &[u32],
+    b: &[u32],
+    c: &[u32],
+    is: &[u32],
+    js: &[u32],
+    i: usize,
+    oc: &mut [u32],
+    ov: &mut [u32],
+) -> usize
+    requires { ⌜ AssignInputs (now a) (now b) (now c) (now is) (now js) i ⌝ }
+    requires { ⌜ (cols (now c) ≤ length (now oc)) × (cols (now c) ≤ length (now ov)) ⌝ }
+    ensures { λ r. ⌜ Holds (cols (now (c .entry)))
+        (λ j. assignedCell (now (is .entry)) (now (js .entry)) (cellOf (now (a .entry)))
+        (unlistedCell accumulator (cellOf (now (c .entry)) i j)) i j)
+        r (now (oc .exit)) (now (ov .exit)) ⌝ }
+{
+    let place = b[ROW_PLACES + i];
+    if place == 0 {
+        return assign_rows::unlisted_row(
+            accumulator,
+            matrix::col_count(c),
+            matrix::row_columns(c, i),
+            matrix::row_values(c, i),
+            oc,
+            ov,
+        );
+    }
+    let row = place as usize - 1;
+    assign_rows::assign_row(
+        accumulator,
+        matrix::col_count(c),
+        matrix::row_columns(a, row),
+        matrix::row_values(a, row),
+        matrix::row_columns(c, i),
+        matrix::row_values(c, i),
+        js,
+        &b[..ROW_PLACES],
+        oc,
+        ov,
+    )
+}
+
+// A row of the Kronecker product.
+fn blocks(op: BinaryOp, a: &[u32], b: &[u32], i: usize, oc: &mut [u32], ov: &mut [u32]) -> usize
+    requires { ⌜ BlockInputs (now a) (now b) i ⌝ }
+    requires { ⌜ (cols (now a) * cols (now b) ≤ length (now oc)) × (cols (now a) * cols (now b) ≤ length (now ov)) ⌝ }
+    ensures { λ r. ⌜ Holds (cols (now (a .entry)) * cols (now (b .entry)))
+        (λ j. intersect op (cellOf (now (a .entry)) (i / rows (now (b .entry))) (j / cols (now (b .entry))))
+        (cellOf (now (b .entry)) (i % rows (now (b .entry))) (j % cols (now (b .entry)))))
+        r (now (oc .exit)) (now (ov .exit)) ⌝ }
+{
+    let height = matrix::row_count(b) as usize;
+    let row = i / height;
+    let inner = i % height;
+    kronecker_rows::kronecker_row(
+        op,
+        matrix::col_count(a),
+        matrix::col_count(b),
+        matrix::row_columns(a, row),
+        matrix::row_values(a, row),
+        matrix::row_columns(b, inner),
+        matrix::row_values(b, inner),
         oc,
         ov,
     )

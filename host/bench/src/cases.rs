@@ -179,6 +179,10 @@ fn extract(scene: &Scene) -> Operation {
     Operation::Extract { rows: scene.row_list.clone(), cols: scene.col_list.clone() }
 }
 
+fn assign(scene: &Scene) -> Operation {
+    Operation::Assign { rows: scene.row_list.clone(), cols: scene.col_list.clone() }
+}
+
 fn plain_text(pattern: &str) -> String {
     match pattern {
         "" => "plain".to_string(),
@@ -191,6 +195,7 @@ fn lent_cases(scene: &Scene) -> Result<Vec<Case>, String> {
     let (left, right, factors_text) = &scene.factors;
     let (addend, addend_text) = &scene.addend;
     let all = EVERYTHING_TEXT.to_string();
+    let one = Entries { rows: 1, cols: 1, cells: [((0, 0), 3)].into() };
     let jobs = [
         ("`mxm`", plain_text(factors_text), lent_job(Operation::Mxm, PLAIN, [left, right, mask, c])),
         ("`mxm`", MASKED_TEXT.to_string(), lent_job(Operation::Mxm, MASKED, [a, b, mask, c])),
@@ -209,7 +214,11 @@ fn lent_cases(scene: &Scene) -> Result<Vec<Case>, String> {
         ("`select`", plain_text(""), lent_job(Operation::Select, PLAIN, [a, b, mask, c])),
         ("`select`", all.clone(), lent_job(Operation::Select, EVERYTHING, [a, b, mask, c])),
         ("`reduce_rows`", plain_text(""), lent_job(Operation::ReduceRows, PLAIN, [a, b, vector_mask, w])),
-        ("`reduce_rows`", all, lent_job(Operation::ReduceRows, EVERYTHING, [a, b, vector_mask, w])),
+        ("`reduce_rows`", all.clone(), lent_job(Operation::ReduceRows, EVERYTHING, [a, b, vector_mask, w])),
+        ("`assign`", plain_text(""), lent_job(assign(scene), PLAIN, [a, b, mask, c])),
+        ("`assign`", all.clone(), lent_job(assign(scene), EVERYTHING, [a, b, mask, c])),
+        ("`kronecker`", plain_text("B of one cell"), lent_job(Operation::Kronecker, PLAIN, [a, &one, mask, c])),
+        ("`kronecker`", all, lent_job(Operation::Kronecker, EVERYTHING, [a, &one, mask, c])),
     ];
     jobs.into_iter().map(|(call, variant, job)| lent_case(*size, call, variant, job)).collect()
 }
@@ -265,6 +274,7 @@ fn store_cases(scene: &Scene) -> Result<Vec<Case>, String> {
         ("`store_extract`", "plain", operation(extract(scene), PLAIN, [A, A, A, C])),
         ("`store_select`", "plain", operation(Operation::Select, PLAIN, [A, A, A, C])),
         ("`store_reduce_rows`", "plain", operation(Operation::ReduceRows, PLAIN, [A, A, W, W])),
+        ("`store_assign`", "plain", operation(assign(scene), PLAIN, [A, A, A, C])),
     ];
     let mut cases = Vec::new();
     for (call, variant, job) in cell_calls.into_iter().chain(operations) {

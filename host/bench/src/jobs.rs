@@ -47,6 +47,8 @@ pub enum Operation {
     Extract { rows: Vec<u32>, cols: Vec<u32> },
     Select,
     ReduceRows,
+    Assign { rows: Vec<u32>, cols: Vec<u32> },
+    Kronecker,
 }
 
 /// An operation on lent matrices. `c` is old C.
@@ -128,8 +130,8 @@ impl Job {
 impl LentJob {
     /// What the call reads beside old C; no words for what it has not.
     fn inputs(&self) -> [&[u32]; 5] {
-        use Operation::{EwiseAdd, EwiseMult, Mxm, Vxm};
-        let has_second = matches!(self.operation, Mxm | Vxm | EwiseMult | EwiseAdd);
+        use Operation::{EwiseAdd, EwiseMult, Kronecker, Mxm, Vxm};
+        let has_second = matches!(self.operation, Mxm | Vxm | EwiseMult | EwiseAdd | Kronecker);
         let b = if has_second { &self.b[..] } else { &[] };
         let mask = if self.options.has_mask != 0 { &self.mask[..] } else { &[] };
         let [rows, cols] = self.operation.lists();
@@ -140,7 +142,7 @@ impl LentJob {
 impl Operation {
     fn lists(&self) -> [&[u32]; 2] {
         match self {
-            Operation::Extract { rows, cols } => [rows, cols],
+            Operation::Extract { rows, cols } | Operation::Assign { rows, cols } => [rows, cols],
             _ => [&[], &[]],
         }
     }
@@ -195,6 +197,8 @@ macro_rules! program {
                     Operation::Extract { rows, cols } => $calls::extract(*options, a, rows, cols, mask, c, work),
                     Operation::Select => $calls::select(*options, VALUEGE, THRESHOLD, a, mask, c, work),
                     Operation::ReduceRows => $calls::reduce_rows(*options, PLUS, a, mask, c, work),
+                    Operation::Assign { rows, cols } => $calls::assign(*options, a, rows, cols, mask, c, work),
+                    Operation::Kronecker => $calls::kronecker(*options, TIMES, a, b, mask, c, work),
                 }
             }
 
@@ -232,6 +236,10 @@ macro_rules! program {
                     }
                     Operation::Select => $calls::store_select(options, VALUEGE, THRESHOLD, a, mask, c, words, work),
                     Operation::ReduceRows => $calls::store_reduce_rows(options, PLUS, a, mask, c, words, work),
+                    Operation::Assign { rows, cols } => {
+                        $calls::store_assign(options, a, mask, c, words, rows, cols, work)
+                    }
+                    Operation::Kronecker => $calls::store_kronecker(options, TIMES, a, b, mask, c, words, work),
                 }
             }
         }

@@ -52,6 +52,8 @@ macro_rules! program {
                     Operation::Extract { rows, cols } => $calls::extract(options, a, rows, cols, mask, c, work),
                     Operation::Select { op, scalar } => $calls::select(options, *op, *scalar, a, mask, c, work),
                     Operation::ReduceRows { monoid } => $calls::reduce_rows(options, *monoid, a, mask, c, work),
+                    Operation::Assign { rows, cols } => $calls::assign(options, a, rows, cols, mask, c, work),
+                    Operation::Kronecker { op } => $calls::kronecker(options, *op, a, b, mask, c, work),
                 };
                 (answer, vec![c_words, work_words])
             }
@@ -97,6 +99,10 @@ macro_rules! program {
                     Operation::ReduceRows { monoid } => {
                         $calls::store_reduce_rows(options, *monoid, a, mask, c, words, work)
                     }
+                    Operation::Assign { rows, cols } => {
+                        $calls::store_assign(options, a, mask, c, words, rows, cols, work)
+                    }
+                    Operation::Kronecker { op } => $calls::store_kronecker(options, *op, a, b, mask, c, words, work),
                 };
                 (answer, work_words)
             }

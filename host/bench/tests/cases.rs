@@ -13,10 +13,10 @@ fn all_sides_agree() {
     let count = |of: fn(Section) -> bool| cases.iter().filter(|case| of(case.section)).count();
     assert_eq!(count(|section| section == Section::Parts), 2 * SIZES.len() + 2);
     assert_eq!(count(|section| section == Section::Row), 1);
-    assert_eq!(count(|section| matches!(section, Section::Lent(_))), 18 * SIZES.len());
-    assert_eq!(count(|section| matches!(section, Section::Store(_))), 15 * SIZES.len());
+    assert_eq!(count(|section| matches!(section, Section::Lent(_))), 22 * SIZES.len());
+    assert_eq!(count(|section| matches!(section, Section::Store(_))), 16 * SIZES.len());
     let has_peer = |case: &&Case| case.subjects[2].is_some();
-    let peers = if cfg!(feature = "suitesparse") { (18 + 4 + 1) * SIZES.len() + 1 } else { 0 };
+    let peers = if cfg!(feature = "suitesparse") { (22 + 4 + 1) * SIZES.len() + 1 } else { 0 };
     assert_eq!(cases.iter().filter(has_peer).count(), peers);
 }
 

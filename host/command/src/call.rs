@@ -58,6 +58,8 @@ pub enum Kind {
     Extract { a: Whole, rows: IndexList, cols: IndexList },
     Select { op: SelectOp, a: Whole },
     ReduceRows { monoid: Monoid, a: Whole },
+    Assign { a: Whole, rows: IndexList, cols: IndexList },
+    Kronecker { op: BinaryOp, a: Whole, b: Whole },
 }
 
 /// The options that all operations share.
@@ -161,13 +163,16 @@ impl Operation {
         let first = |name, slot| Role { name, slot, transposed: *transpose_first };
         let second = |name, slot| Role { name, slot, transposed: *transpose_second };
         let mut roles = match &self.kind {
-            Kind::Mxm { a, b, .. } | Kind::EwiseMult { a, b, .. } | Kind::EwiseAdd { a, b, .. } => {
-                vec![first("A", a), second("B", b)]
-            }
+            Kind::Mxm { a, b, .. }
+            | Kind::EwiseMult { a, b, .. }
+            | Kind::EwiseAdd { a, b, .. }
+            | Kind::Kronecker { a, b, .. } => vec![first("A", a), second("B", b)],
             Kind::Vxm { u, a, .. } => vec![first("U", u), second("A", a)],
-            Kind::Apply { a, .. } | Kind::Extract { a, .. } | Kind::Select { a, .. } | Kind::ReduceRows { a, .. } => {
-                vec![first("A", a)]
-            }
+            Kind::Apply { a, .. }
+            | Kind::Extract { a, .. }
+            | Kind::Select { a, .. }
+            | Kind::ReduceRows { a, .. }
+            | Kind::Assign { a, .. } => vec![first("A", a)],
         };
         roles.extend(mask.as_ref().map(|slot| Role { name: "mask", slot, transposed: false }));
         roles.push(Role { name: "C", slot: &self.c, transposed: false });
@@ -248,6 +253,15 @@ fn kind(command: Command, arguments: &mut Arguments) -> Result<Kind, Usage> {
             let monoid = arguments.required("--monoid", parse_monoid)?;
             Ok(Kind::ReduceRows { monoid, a: arguments.whole(1)? })
         }
+        Command::Assign => {
+            let rows = arguments.required("--rows", IndexList::parse)?;
+            let cols = arguments.required("--cols", IndexList::parse)?;
+            Ok(Kind::Assign { a: arguments.whole(1)?, rows, cols })
+        }
+        Command::Kronecker => {
+            let op = arguments.required("--op", parse_binary)?;
+            Ok(Kind::Kronecker { op, a: arguments.whole(1)?, b: arguments.whole(2)? })
+        }
         _ => Err(arguments.wrong("this is no call on a shelf")),
     }
 }
@@ -288,7 +302,10 @@ fn write_back(kind: &Kind, arguments: &mut Arguments) -> Result<WriteBack, Usage
 
 /// Whether an operation has a second input.
 fn has_second(kind: &Kind) -> bool {
-    matches!(kind, Kind::Mxm { .. } | Kind::Vxm { .. } | Kind::EwiseMult { .. } | Kind::EwiseAdd { .. })
+    matches!(
+        kind,
+        Kind::Mxm { .. } | Kind::Vxm { .. } | Kind::EwiseMult { .. } | Kind::EwiseAdd { .. } | Kind::Kronecker { .. }
+    )
 }
 
 /// An option that would do nothing.

@@ -81,6 +81,11 @@ fn operate(operation: &Operation, store: &mut Store) -> Result<usize, Error> {
         }
         Kind::Select { op, a } => store.select(c, *op, a.size(), &options),
         Kind::ReduceRows { monoid, a } => store.reduce_rows(c, *monoid, a.size(), &options),
+        Kind::Assign { a, rows, cols } => {
+            let (all_rows, all_cols) = shape(&operation.c, false, store).unwrap_or((1, 1));
+            store.assign(c, a.size(), &indexes(rows, all_rows), &indexes(cols, all_cols), &options)
+        }
+        Kind::Kronecker { op, a, b } => store.kronecker(c, *op, a.size(), b.size(), &options),
     }
 }
 

@@ -23,6 +23,8 @@ pub enum Command {
     Day,
     Select,
     ReduceRows,
+    Assign,
+    Kronecker,
     Reduce,
     Run,
     Merge,
@@ -41,7 +43,7 @@ const WRITE_BACK: [&str; 7] =
     ["--mask", "--structural", "--complement", "--replace", "--accum", "--transpose-a", "--transpose-b"];
 
 impl Command {
-    pub const ALL: [Command; 32] = [
+    pub const ALL: [Command; 34] = [
         Command::New,
         Command::Lay,
         Command::Drop,
@@ -63,6 +65,8 @@ impl Command {
         Command::Day,
         Command::Select,
         Command::ReduceRows,
+        Command::Assign,
+        Command::Kronecker,
         Command::Reduce,
         Command::Run,
         Command::Merge,
@@ -99,6 +103,8 @@ impl Command {
             Command::Day => "day",
             Command::Select => "select",
             Command::ReduceRows => "reduceRows",
+            Command::Assign => "assign",
+            Command::Kronecker => "kronecker",
             Command::Reduce => "reduce",
             Command::Run => "run",
             Command::Merge => "merge",
@@ -132,9 +138,9 @@ impl Command {
             Command::Clear | Command::Read => &["PLACE", "ROW", "COL"],
             Command::List | Command::Print | Command::Convert | Command::Man | Command::Help => &[],
             Command::Import | Command::Export => &["PLACE", "SHEET"],
-            Command::Mxm | Command::EwiseMult | Command::EwiseAdd => &["C", "A", "B"],
+            Command::Mxm | Command::EwiseMult | Command::EwiseAdd | Command::Kronecker => &["C", "A", "B"],
             Command::Vxm => &["C", "U", "A"],
-            Command::Apply | Command::Extract | Command::Select | Command::ReduceRows => &["C", "A"],
+            Command::Apply | Command::Extract | Command::Select | Command::ReduceRows | Command::Assign => &["C", "A"],
             Command::Doors => &["LOCKS", "CABINETS", "HAND", "ALLOWANCE"],
             Command::Run => &["SCRIPT"],
             Command::Merge => &["PLACE", "SHEET.."],
@@ -198,8 +204,11 @@ impl Command {
 
     /// Whether it is one of the operations that write a sheet.
     pub fn is_operation(self) -> bool {
-        use Command::{Apply, EwiseAdd, EwiseMult, Extract, Mxm, ReduceRows, Select, Vxm};
-        matches!(self, Mxm | Vxm | EwiseMult | EwiseAdd | Apply | Extract | Select | ReduceRows)
+        use Command::{Apply, Assign, EwiseAdd, EwiseMult, Extract, Kronecker, Mxm, ReduceRows, Select, Vxm};
+        matches!(
+            self,
+            Mxm | Vxm | EwiseMult | EwiseAdd | Apply | Extract | Select | ReduceRows | Assign | Kronecker
+        )
     }
 
     /// The command of a name, in any case and with hyphens or underscores anywhere but in front.

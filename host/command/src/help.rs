@@ -131,6 +131,8 @@ fn command_text(command: Command) -> &'static str {
         Command::Day => include_str!("help/day.txt"),
         Command::Select => include_str!("help/select.txt"),
         Command::ReduceRows => include_str!("help/reduce_rows.txt"),
+        Command::Assign => include_str!("help/assign.txt"),
+        Command::Kronecker => include_str!("help/kronecker.txt"),
         Command::Reduce => include_str!("help/reduce.txt"),
         Command::Run => include_str!("help/run.txt"),
         Command::Merge => include_str!("help/merge.txt"),

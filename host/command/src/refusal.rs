@@ -201,6 +201,19 @@ fn misfits(operation: &Operation, store: &Store) -> (Option<String>, Vec<String>
         (Kind::ReduceRows { .. }, [a, .., c]) => {
             ("C must have one row, and a column for each row of A", facts([c.must_be((1, a.rows))]))
         }
+        (Kind::Assign { rows, cols, .. }, [a, .., c]) => {
+            let (rows, cols) = (chosen(rows, c.rows), chosen(cols, c.cols));
+            let fits = (a.rows as usize, a.cols as usize) == (rows, cols);
+            let chosen = (!fits).then(|| {
+                let (rows, cols) = (counted(rows, "row", "rows"), counted(cols, "column", "columns"));
+                format!("{rows} and {cols} are chosen, {}", a.is())
+            });
+            ("A must have as many rows and columns as are chosen", facts([chosen]))
+        }
+        (Kind::Kronecker { .. }, [a, b, .., c]) => {
+            let need = "C must have as many rows and columns as A's times B's";
+            (need, facts([c.must_be((a.rows * b.rows, a.cols * b.cols))]))
+        }
         (Kind::Extract { rows, cols, .. }, [a, .., c]) => {
             let (rows, cols) = (chosen(rows, a.rows), chosen(cols, a.cols));
             let fits = (c.rows as usize, c.cols as usize) == (rows, cols);
@@ -254,15 +267,23 @@ fn outside(call: &Call, store: &Store) -> Vec<String> {
         Call::Operation(operation) => index_lists(operation, store),
         _ => Vec::new(),
     };
-    let sheet = call.roles().first().and_then(|role| Sheet::of(role, store));
+    let roles = call.roles();
+    // The indexes of an assign are those of C.
+    let held = match call {
+        Call::Operation(Operation { kind: Kind::Assign { .. }, .. }) => roles.last(),
+        _ => roles.first(),
+    };
+    let sheet = held.and_then(|role| Sheet::of(role, store));
     asked.into_iter().chain(sheet.map(|sheet| sheet.is())).collect()
 }
 
 fn index_lists(operation: &Operation, store: &Store) -> Vec<String> {
-    let Kind::Extract { a, rows, cols } = &operation.kind else {
-        return Vec::new();
+    let (held, transposed, rows, cols) = match &operation.kind {
+        Kind::Extract { a, rows, cols } => (a, operation.write_back.transpose_first, rows, cols),
+        Kind::Assign { rows, cols, .. } => (&operation.c, false, rows, cols),
+        _ => return Vec::new(),
     };
-    let Some((row_count, col_count)) = carry_out::shape(a, operation.write_back.transpose_first, store) else {
+    let Some((row_count, col_count)) = carry_out::shape(held, transposed, store) else {
         return Vec::new();
     };
     [index_list("--rows", rows, row_count), index_list("--cols", cols, col_count)].into_iter().flatten().collect()

@@ -149,6 +149,29 @@ fn select_by_each_condition() {
 }
 
 #[test]
+fn assign_into_chosen_cells() {
+    let folder = Folder::with_shelf();
+    folder.script("s", "lay 0 1 2\nset 0 0 0 7\nlay 1 2 3\nset 1 0 2 2\nset 1 1 0 10\nset 1 1 1 11\nset 1 1 2 12\n");
+    folder.prints("assign s 1 0 --rows 1 --cols 2,0", "place 1: 3 entries\n");
+    folder.prints("show s 1", "   0   1  2\n0  .   .  2\n1  .  11  7\n");
+    folder.prints("assign s 1 0 --rows 1 --cols 1,2 --accum minus", "place 1: 3 entries\n");
+    folder.prints("show s 1", "   0  1  2\n0  .  .  2\n1  .  4  7\n");
+    folder.script("s", "lay 2 2 3\nset 2 1 1 1\n");
+    folder.prints("assign s 1 0 --rows 0 --cols 0..1 --mask 2 --replace", "place 1: 1 entry\n");
+    folder.prints("show s 1", "   0  1  2\n0  .  .  .\n1  .  4  .\n");
+}
+
+#[test]
+fn kronecker_by_minus() {
+    let folder = Folder::with_shelf();
+    folder.script("s", "lay 0 2 1\nset 0 1 0 9\nlay 1 1 2\nset 1 0 0 4\nset 1 0 1 2\nlay 2 2 2\nlay 3 4 1\n");
+    folder.prints("kronecker s 2 0 1 --op minus", "place 2: 2 entries\n");
+    folder.prints("show s 2", "   0  1\n0  .  .\n1  5  7\n");
+    folder.prints("kronecker s 3 0 1 --op minus --transpose-b", "place 3: 2 entries\n");
+    folder.prints("show s 3", "   0\n0  .\n1  .\n2  5\n3  7\n");
+}
+
+#[test]
 fn reduce_rows_and_all() {
     let folder = Folder::with_shelf();
     folder.script("s", "lay 0 3 2\nset 0 0 0 5\nset 0 0 1 -5\nset 0 2 0 7\nlay 1 1 3\nlay 2 1 2\n");
@@ -404,8 +427,8 @@ fn the_examples_of_all_pages() {
     let folder = Folder::new();
     let mut lines = vec!["ostrubel new keys.shelf 5000; ostrubel new other.shelf 1000".to_string()];
     folder.write("house.names", "row 2 medicine cupboard\n");
-    let pages = "lay set clear read show list drop mxm vxm eWiseMult eWiseAdd apply extract select reduceRows reduce \
-                 revision doors run export import diff merge copy resize convert names man";
+    let pages = "lay set clear read show list drop mxm vxm eWiseMult eWiseAdd apply extract select reduceRows assign \
+                 kronecker reduce revision doors run export import diff merge copy resize convert names man";
     let shapes = [
         ("mxm", "0 4 4, 1 4 4"),
         ("vxm", "1 1 5, 2 5 3, 3 1 3"),
@@ -418,6 +441,8 @@ fn the_examples_of_all_pages() {
         ("reduceRows", "0 5 4, 3 1 5"),
         ("export", "0 5 4, 1 5 4"),
         ("merge", "0 5 4, 1 5 4"),
+        ("assign", "0 1 4, 1 5 4"),
+        ("kronecker", "0 2 3, 1 4 1, 2 8 3"),
     ];
     for name in pages.split(' ') {
         let laid = shapes.iter().filter(|(page, _)| *page == name).flat_map(|(_, shapes)| shapes.split(", "));

@@ -135,6 +135,16 @@ fn shapes_that_do_not_fit_an_operation() {
             "C must have one row, and a column for each row of A",
             "place 1 (C) is 3 by 3 and must be 1 by 2",
         ),
+        (
+            "assign s 1 0 --rows 0 --cols all",
+            "A must have as many rows and columns as are chosen",
+            "1 row and 3 columns are chosen, place 0 (A) is 2 by 3",
+        ),
+        (
+            "kronecker s 3 0 1 --op times",
+            "C must have as many rows and columns as A's times B's",
+            "place 3 (C) is 2 by 2 and must be 6 by 9",
+        ),
         ("apply s 0 0 --op abs --mask 1", mask, "place 1 (mask) is 3 by 3, place 0 (C) is 2 by 3"),
         (
             "apply s 0 0 --op abs --mask 1 --transpose-a",

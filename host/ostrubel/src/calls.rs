@@ -291,6 +291,14 @@ operation!(
     /// In one row, at column j, the values of A's row j added up with the monoid.
     reduce_rows ostrubel_reduce_rows store_reduce_rows ostrubel_store_reduce_rows, [monoid], [a a_n], [a], []
 );
+operation!(
+    /// At (`is[k]`, `js[l]`) of C the cell of A at row k and column l; elsewhere C keeps what it has.
+    assign ostrubel_assign store_assign ostrubel_store_assign, [], [a a_n], [a], [is is_n, js js_n]
+);
+operation!(
+    /// At (i p + k, j q + l) op of A's value at (i, j) and B's at (k, l), where B has p rows and q columns.
+    kronecker ostrubel_kronecker store_kronecker ostrubel_store_kronecker, [op], [a a_n, b b_n], [a, b], []
+);
 
 unsafe extern "C" {
     fn ostrubel_day_rewrite(

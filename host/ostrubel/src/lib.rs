@@ -1,8 +1,9 @@
 //! Sparse whole-number matrices with GraphBLAS operations: a safe interface to the proved library.
 //!
-//! A [`Matrix`] has a value or none in each cell. Eight operations write into one: [`Matrix::mxm`], [`Matrix::vxm`],
-//! [`Matrix::ewise_mult`], [`Matrix::ewise_add`], [`Matrix::apply`], [`Matrix::extract`], [`Matrix::select`] and
-//! [`Matrix::reduce_rows`], each by its [`Options`]: a mask, an accumulator and flags. [`Matrix::reduce`] gives one number.
+//! A [`Matrix`] has a value or none in each cell. Ten operations write into one: [`Matrix::mxm`], [`Matrix::vxm`],
+//! [`Matrix::ewise_mult`], [`Matrix::ewise_add`], [`Matrix::apply`], [`Matrix::extract`], [`Matrix::select`],
+//! [`Matrix::reduce_rows`], [`Matrix::assign`] and [`Matrix::kronecker`], each by its [`Options`]: a mask, an accumulator
+//! and flags. [`Matrix::reduce`] gives one number.
 //! [`Matrix::to_bytes`] and [`Matrix::from_bytes`] carry one in a file. [`Matrix::open_doors`] answers which doors open by
 //! keys of which some are behind doors. [`DayOver`] keeps rewritten rows beside a matrix. A [`Store`] has eight matrices in
 //! one buffer, and the same operations by slots. A refused call is an [`Error`] and changes nothing.

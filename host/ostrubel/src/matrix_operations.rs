@@ -232,6 +232,61 @@ impl Matrix {
         })
     }
 
+    /// A written into the matrix: at (`rows[k]`, `cols[l]`) the cell of A at row k and column l; the other cells stay. Where
+    /// A is empty, so becomes the cell, but with an accumulator it keeps its value. The mask has this matrix's shape and
+    /// covers all of it.
+    ///
+    /// `IndexOutOfBounds` where a list is empty, has over [`MAX_INDEXES`](crate::MAX_INDEXES) indexes or has one of them
+    /// twice, or an index is outside this matrix; `InvalidShape` where A (as transposed) has not as many rows and columns
+    /// as the lists have indexes.
+    ///
+    /// ```
+    /// use ostrubel::{Error, Matrix, Options};
+    ///
+    /// let mut c = Matrix::from_triples(2, 3, [(0, 2, 2), (1, 0, 10), (1, 1, 11), (1, 2, 12)])?;
+    /// let a = Matrix::from_triples(1, 2, [(0, 0, 7)])?;
+    /// c.assign(&a, &[1], &[2, 0], &Options::new())?;
+    /// assert_eq!(c.to_triples(), [(0, 2, 2), (1, 1, 11), (1, 2, 7)]);
+    /// let mut back = Matrix::new(1, 2)?;
+    /// back.extract(&c, &[1], &[2, 0], &Options::new())?;
+    /// assert_eq!(back.to_triples(), a.to_triples());
+    /// # Ok::<(), Error>(())
+    /// ```
+    pub fn assign(
+        &mut self,
+        a: &Matrix,
+        rows: &[u32],
+        cols: &[u32],
+        options: &Options<&Matrix>,
+    ) -> Result<usize, Error> {
+        self.operate(options, |numbers, mask, c, work| calls::assign(numbers, a.words(), rows, cols, mask, c, work))
+    }
+
+    /// The Kronecker product: at (i p + k, j q + l) op of A's value at (i, j) and B's at (k, l), where B has p rows and q
+    /// columns.
+    ///
+    /// ```
+    /// use ostrubel::{BinaryOp, Error, Matrix, Options};
+    ///
+    /// let a = Matrix::from_triples(2, 1, [(1, 0, 9)])?;
+    /// let b = Matrix::from_triples(1, 2, [(0, 0, 4), (0, 1, 2)])?;
+    /// let mut c = Matrix::new(2, 2)?;
+    /// c.kronecker(BinaryOp::Minus, &a, &b, &Options::new())?;
+    /// assert_eq!(c.to_triples(), [(1, 0, 5), (1, 1, 7)]);
+    /// # Ok::<(), Error>(())
+    /// ```
+    pub fn kronecker(
+        &mut self,
+        op: BinaryOp,
+        a: &Matrix,
+        b: &Matrix,
+        options: &Options<&Matrix>,
+    ) -> Result<usize, Error> {
+        self.operate(options, |numbers, mask, c, work| {
+            calls::kronecker(numbers, op.number(), a.words(), b.words(), mask, c, work)
+        })
+    }
+
     /// Lends an operation its options, the mask's words, those of C and a workspace. Where there is no mask, it gets a
     /// word that the library does not look at.
     fn operate(

@@ -151,6 +151,40 @@ impl Store {
         })
     }
 
+    /// A written into C: at (`rows[k]`, `cols[l]`) the cell of A at row k and column l; the other cells stay. Where A is
+    /// empty, so becomes the cell, but with an accumulator it keeps its value. The mask has C's shape and covers all of it.
+    ///
+    /// `IndexOutOfBounds` where a list is empty, has over [`MAX_INDEXES`](crate::MAX_INDEXES) indexes or has one of them
+    /// twice, or an index is outside C; `InvalidShape` where A (as transposed) has not as many rows and columns as the
+    /// lists have indexes.
+    pub fn assign(
+        &mut self,
+        c: usize,
+        a: usize,
+        rows: &[u32],
+        cols: &[u32],
+        options: &Options<usize>,
+    ) -> Result<usize, Error> {
+        self.operate(options, |numbers, mask, store, work| {
+            calls::store_assign(numbers, a, mask, c, store, rows, cols, work)
+        })
+    }
+
+    /// The Kronecker product: at (i p + k, j q + l) op of A's value at (i, j) and B's at (k, l), where B has p rows and q
+    /// columns.
+    pub fn kronecker(
+        &mut self,
+        c: usize,
+        op: BinaryOp,
+        a: usize,
+        b: usize,
+        options: &Options<usize>,
+    ) -> Result<usize, Error> {
+        self.operate(options, |numbers, mask, store, work| {
+            calls::store_kronecker(numbers, op.number(), a, b, mask, c, store, work)
+        })
+    }
+
     /// Lends an operation its options, the mask's slot, the words of the store and a workspace. Where there is no mask,
     /// it gets a slot that the library does not look at.
     fn operate(

@@ -7,10 +7,6 @@ fn plus_times() -> Semiring {
     Semiring::new(Monoid::Plus, BinaryOp::Times)
 }
 
-fn plus_times() -> Semiring {
-    Semiring::new(Monoid::Plus, BinaryOp::Times)
-}
-
 fn square() -> Result<Matrix, Error> {
     Matrix::from_triples(2, 2, [(0, 0, 1), (0, 1, 2), (1, 1, 3)])
 }

@@ -25,6 +25,8 @@ const TRANSPOSED: OptionNumbers = OptionNumbers { flags: 8 + 16, has_mask: 0, ha
 struct Buffers {
     a: Vec<u32>,
     b: Vec<u32>,
+    /// One row and one column.
+    one: Vec<u32>,
     mask: Vec<u32>,
     vector: Vec<u32>,
     c: Vec<u32>,
@@ -68,9 +70,12 @@ impl Buffers {
             store.put(slot, &matrix(entries, seed + slot as u32)?)?;
         }
         store.put(4, &Matrix::new(1, MAX_COLS)?)?;
+        let one = Matrix::from_triples(1, 1, [(0, 0, seed as i32)])?;
+        store.put(5, &one)?;
         Ok(Buffers {
             a: a.into_words(),
             b: b.into_words(),
+            one: one.into_words(),
             mask: mask.into_words(),
             vector: vector.into_words(),
             c: long(matrix(100, seed + 3)?.into_words()),
@@ -102,7 +107,7 @@ impl Buffers {
     }
 
     fn lent_calls(&mut self) -> Vec<u64> {
-        let Buffers { a, b, mask, vector, c, c_row, rows, cols, work, .. } = self;
+        let Buffers { a, b, one, mask, vector, c, c_row, rows, cols, work, .. } = self;
         vec![
             calls::check(a),
             calls::read_cell(999, 999, a),
@@ -118,6 +123,9 @@ impl Buffers {
             calls::extract(TRANSPOSED, a, rows, cols, mask, c, work),
             calls::select(EVERYTHING, TRIL, 5, a, mask, c, work),
             calls::reduce_rows(TRANSPOSED, PLUS, a, mask, c_row, work),
+            calls::assign(EVERYTHING, a, rows, cols, mask, c, work),
+            calls::assign(TRANSPOSED, a, rows, cols, mask, c, work),
+            calls::kronecker(EVERYTHING, TIMES, a, one, mask, c, work),
             calls::reduce(PLUS, a),
             calls::new_empty(MAX_ROWS, MAX_COLS, c_row),
         ]
@@ -125,7 +133,7 @@ impl Buffers {
 
     /// Where C takes the result as it is: other buffers are on the stack.
     fn plain_calls(&mut self) -> Vec<u64> {
-        let Buffers { a, b, mask, vector, c, rows, cols, work, .. } = self;
+        let Buffers { a, b, one, mask, vector, c, rows, cols, work, .. } = self;
         let mut c_row = vec![0; MAX_MATRIX_WORDS];
         calls::new_empty(1, MAX_COLS, &mut c_row);
         vec![
@@ -135,6 +143,8 @@ impl Buffers {
             calls::apply(PLAIN, INDEX, DIAGINDEX, 5, a, mask, c, work),
             calls::extract(PLAIN, a, rows, cols, mask, c, work),
             calls::select(PLAIN, TRIL, 5, a, mask, c, work),
+            calls::assign(PLAIN, a, rows, cols, mask, c, work),
+            calls::kronecker(PLAIN, TIMES, one, a, mask, c, work),
         ]
     }
 
@@ -154,6 +164,8 @@ impl Buffers {
             calls::store_vxm(TRANSPOSED, PLUS, TIMES, 4, 0, 4, 4, store, work),
             calls::store_select(EVERYTHING, TRIL, 5, 0, 2, 3, store, work),
             calls::store_reduce_rows(TRANSPOSED, PLUS, 0, 4, 4, store, work),
+            calls::store_assign(EVERYTHING, 0, 2, 3, store, rows, cols, work),
+            calls::store_kronecker(EVERYTHING, TIMES, 0, 5, 2, 3, store, work),
             calls::store_reduce(0, PLUS, store),
             calls::store_set_cell(0, 500, 999, 7, store),
             calls::store_read_cell(0, 500, 999, store),

@@ -56,6 +56,9 @@ faults! {
     RowMonoidChanged: "the next monoid adds up the rows",
     RowsReversed: "extract takes the list of rows from its end",
     ColsReversed: "extract takes the list of columns from its end",
+    AssignedRowsReversed: "assign takes the list of rows from its end",
+    AssignedColsReversed: "assign takes the list of columns from its end",
+    BlockOperatorChanged: "the Kronecker product takes the operator with the next number",
     // Adjustments that are left out.
     DiagonalAsTheirs: "DIAGINDEX is j - (i + s)",
     ScalarFirstByFlag16: "with the scalar first, flag 16 transposes and flag 8 does not",
@@ -143,7 +146,8 @@ impl Fault {
                 *monoid = next(Monoid::ALL, *monoid);
             }
             (Fault::MultiplierChanged, Step::Mxm(_, op) | Step::Vxm(_, op))
-            | (Fault::PairOperatorChanged, Step::EwiseMult(op) | Step::EwiseAdd(op)) => {
+            | (Fault::PairOperatorChanged, Step::EwiseMult(op) | Step::EwiseAdd(op))
+            | (Fault::BlockOperatorChanged, Step::Kronecker(op)) => {
                 *op = next(Binary::ALL, *op);
             }
             (Fault::UnionIsIntersection, step @ &mut Step::EwiseAdd(op)) => *step = Step::EwiseMult(op),
@@ -153,6 +157,8 @@ impl Fault {
             (Fault::RowMonoidChanged, Step::ReduceRows(monoid)) => *monoid = next(Monoid::ALL, *monoid),
             (Fault::RowsReversed, Step::Extract(rows, _)) => rows.reverse(),
             (Fault::ColsReversed, Step::Extract(_, cols)) => cols.reverse(),
+            (Fault::AssignedRowsReversed, Step::Assign(rows, _)) => rows.reverse(),
+            (Fault::AssignedColsReversed, Step::Assign(_, cols)) => cols.reverse(),
             (_, Step::Apply(apply)) => *apply = self.changed_apply(*apply),
             _ => {}
         }

@@ -23,6 +23,8 @@ pub enum Step {
     Extract(Vec<u64>, Vec<u64>),
     Select(Condition, i32),
     ReduceRows(Monoid),
+    Assign(Vec<u64>, Vec<u64>),
+    Kronecker(Binary),
 }
 
 /// A call of SuiteSparse; the roles are positions among the case's matrices.
@@ -107,6 +109,8 @@ fn step_of(operation: &Operation) -> Option<Step> {
         Operation::Extract { rows, cols } => Step::Extract(wide(rows), wide(cols)),
         Operation::Select { op, scalar } => Step::Select(Condition::numbered(*op)?, *scalar as i32),
         Operation::ReduceRows { monoid } => Step::ReduceRows(Monoid::numbered(*monoid)?),
+        Operation::Assign { rows, cols } => Step::Assign(wide(rows), wide(cols)),
+        Operation::Kronecker { op } => Step::Kronecker(Binary::numbered(*op)?),
     })
 }
 

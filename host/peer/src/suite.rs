@@ -4,8 +4,8 @@ use crate::plan::{Plan, Step};
 use second::grid::Grid;
 use std::collections::BTreeMap;
 use suitesparse::{
-    apply, ewise_add, ewise_mult, extract, mxm, reduce, reduce_rows, select, vxm, Binary, Descriptor, Error, Matrix,
-    Monoid, Semiring, Vector, WriteBack,
+    apply, assign, ewise_add, ewise_mult, extract, kronecker, mxm, reduce, reduce_rows, select, vxm, Binary, Descriptor,
+    Error, Matrix, Monoid, Semiring, Vector, WriteBack,
 };
 
 /// Row, column and value.
@@ -63,6 +63,8 @@ impl Tools {
             Step::Apply(kind) => apply(c, write, *kind, a)?,
             Step::Extract(rows, cols) => extract(c, write, a, rows, cols)?,
             Step::Select(op, scalar) => select(c, write, *op, *scalar, a)?,
+            Step::Assign(rows, cols) => assign(c, write, a, rows, cols)?,
+            Step::Kronecker(op) => kronecker(c, write, *op, a, b)?,
             Step::ReduceRows(_) => unreachable!("it has a vector for C"),
         }
         c.triples()

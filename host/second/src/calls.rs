@@ -49,23 +49,44 @@ pub enum Operation {
     Extract { rows: Vec<u32>, cols: Vec<u32> },
     Select { op: u32, scalar: u32 },
     ReduceRows { monoid: u32 },
+    Assign { rows: Vec<u32>, cols: Vec<u32> },
+    Kronecker { op: u32 },
 }
 
 impl Operation {
     pub fn has_second(&self) -> bool {
         matches!(
             self,
-            Operation::Mxm { .. } | Operation::Vxm { .. } | Operation::EwiseMult { .. } | Operation::EwiseAdd { .. }
+            Operation::Mxm { .. }
+                | Operation::Vxm { .. }
+                | Operation::EwiseMult { .. }
+                | Operation::EwiseAdd { .. }
+                | Operation::Kronecker { .. }
         )
+    }
+
+    /// The lists of rows and of columns, where the operation has them.
+    pub fn lists(&self) -> Option<[&Vec<u32>; 2]> {
+        match self {
+            Operation::Extract { rows, cols } | Operation::Assign { rows, cols } => Some([rows, cols]),
+            _ => None,
+        }
+    }
+
+    pub fn lists_mut(&mut self) -> Option<[&mut Vec<u32>; 2]> {
+        match self {
+            Operation::Extract { rows, cols } | Operation::Assign { rows, cols } => Some([rows, cols]),
+            _ => None,
+        }
     }
 
     /// The numbers that choose what is computed.
     pub fn numbers(&self) -> (u32, u32) {
         match *self {
             Operation::Mxm { monoid, op } | Operation::Vxm { monoid, op } => (monoid, op),
-            Operation::EwiseMult { op } | Operation::EwiseAdd { op } => (0, op),
+            Operation::EwiseMult { op } | Operation::EwiseAdd { op } | Operation::Kronecker { op } => (0, op),
             Operation::Apply { kind, op, .. } => (kind, op),
-            Operation::Extract { .. } => (0, 0),
+            Operation::Extract { .. } | Operation::Assign { .. } => (0, 0),
             Operation::Select { op, .. } => (0, op),
             Operation::ReduceRows { monoid } => (monoid, 0),
         }
@@ -81,6 +102,8 @@ impl Operation {
             Operation::Extract { .. } => "extract",
             Operation::Select { .. } => "select",
             Operation::ReduceRows { .. } => "reduce_rows",
+            Operation::Assign { .. } => "assign",
+            Operation::Kronecker { .. } => "kronecker",
         }
     }
 }
@@ -195,6 +218,8 @@ impl StoreCall {
                 Operation::Extract { .. } => "store_extract",
                 Operation::Select { .. } => "store_select",
                 Operation::ReduceRows { .. } => "store_reduce_rows",
+                Operation::Assign { .. } => "store_assign",
+                Operation::Kronecker { .. } => "store_kronecker",
             },
         }
     }

@@ -73,13 +73,17 @@ fn operation_text(operation: &Operation) -> String {
         Operation::Mxm { monoid, op } | Operation::Vxm { monoid, op } => {
             format!("{name}, monoid {}, operator {}", binary_name(*monoid), binary_name(*op))
         }
-        Operation::EwiseMult { op } | Operation::EwiseAdd { op } => format!("{name}, operator {}", binary_name(*op)),
+        Operation::EwiseMult { op } | Operation::EwiseAdd { op } | Operation::Kronecker { op } => {
+            format!("{name}, operator {}", binary_name(*op))
+        }
         Operation::Apply { kind, op, scalar } => {
             let kinds = ["unary", "scalar first", "scalar second", "index-unary"];
             let kind_name = kinds.get(*kind as usize).unwrap_or(&"unknown");
             format!("{name}, kind {kind} ({kind_name}), operator {op}, scalar {}", *scalar as i32)
         }
-        Operation::Extract { rows, cols } => format!("{name}, I {}, J {}", list_text(rows), list_text(cols)),
+        Operation::Extract { rows, cols } | Operation::Assign { rows, cols } => {
+            format!("{name}, I {}, J {}", list_text(rows), list_text(cols))
+        }
         Operation::Select { op, scalar } => format!("{name}, condition {op}, scalar {}", *scalar as i32),
         Operation::ReduceRows { monoid } => format!("{name}, monoid {}", binary_name(*monoid)),
     }

@@ -51,6 +51,14 @@ faults! {
     ExtremesExchanged: "the identities of MIN and MAX are exchanged",
     EmptyTotalRefused: "an empty sheet is not reduced to a number",
     RefusedTotalIdentity: "a refused reduction to a number answers the identity",
+    // Assign and Kronecker.
+    UnlistedEmptied: "assign empties places that are not listed",
+    ListedRowsEmptied: "assign empties the whole of a listed row",
+    EmptinessIgnored: "assign keeps old C where A is empty",
+    AssignAgainstA: "the indices of an assign are held against A",
+    BlockRowsExchanged: "i and k are exchanged in the rows of a Kronecker product",
+    KroneckerSwapped: "the operator of a Kronecker product takes B's value first",
+    PastOnlyInside: "8 of a Kronecker product is given only where a place is inside the mask",
     // Write-back.
     OldKeptInside: "without an accumulator an old entry stays inside the mask where T is empty",
     MaskZeroIsTrue: "a stored 0 of the mask counts as true",

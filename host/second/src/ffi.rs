@@ -36,6 +36,8 @@ pub fn operation(
         Operation::Extract { .. } => calls::extract(options, a, rows, cols, mask, c, work),
         Operation::Select { op, scalar } => calls::select(options, op, scalar, a, mask, c, work),
         Operation::ReduceRows { monoid } => calls::reduce_rows(options, monoid, a, mask, c, work),
+        Operation::Assign { .. } => calls::assign(options, a, rows, cols, mask, c, work),
+        Operation::Kronecker { op } => calls::kronecker(options, op, a, b, mask, c, work),
     }
 }
 
@@ -58,5 +60,7 @@ pub fn store_operation(
         Operation::Extract { .. } => calls::store_extract(options, a, mask, c, store, rows, cols, work),
         Operation::Select { op, scalar } => calls::store_select(options, op, scalar, a, mask, c, store, work),
         Operation::ReduceRows { monoid } => calls::store_reduce_rows(options, monoid, a, mask, c, store, work),
+        Operation::Assign { .. } => calls::store_assign(options, a, mask, c, store, rows, cols, work),
+        Operation::Kronecker { op } => calls::store_kronecker(options, op, a, b, mask, c, store, work),
     }
 }

@@ -109,11 +109,11 @@ pub fn options(rng: &mut Rng) -> Options {
     Options { flags, has_mask: rng.percent(50), has_accumulator, accumulator, yes }
 }
 
-/// An operation with known numbers; an extract's lists are still empty.
+/// An operation with known numbers; index lists are still empty.
 pub fn operation(rng: &mut Rng) -> Operation {
     let op = rng.between(0, 7);
     let monoid = rng.pick(&[3, 5, 6, 7]);
-    match rng.below(8) {
+    match rng.below(10) {
         0 => Operation::Mxm { monoid, op },
         1 => Operation::Vxm { monoid, op },
         2 => Operation::EwiseMult { op },
@@ -129,6 +129,8 @@ pub fn operation(rng: &mut Rng) -> Operation {
         }
         5 => Operation::Select { op, scalar: select_scalar(rng, op) as u32 },
         6 => Operation::ReduceRows { monoid },
+        7 => Operation::Assign { rows: Vec::new(), cols: Vec::new() },
+        8 => Operation::Kronecker { op },
         _ => Operation::Extract { rows: Vec::new(), cols: Vec::new() },
     }
 }
@@ -179,7 +181,7 @@ pub fn work(rng: &mut Rng) -> Work {
         1 => WORK_WORDS + rng.below(4000),
         _ => WORK_WORDS,
     };
-    Work { length, seed: rng.seed() }
+    Work { length, seed: rng.next() }
 }
 
 /// Puts a number that is refused, or a list or work buffer that is, into an operation.
@@ -206,7 +208,10 @@ fn spoil_operation(rng: &mut Rng, operation: &mut Operation) {
                 *monoid = rng.pick(&[0, 1, 2, 4, 4, 8, u32::MAX]);
             }
         }
-        Operation::EwiseMult { op } | Operation::EwiseAdd { op } | Operation::Select { op, .. } => *op = not_binary,
+        Operation::EwiseMult { op }
+        | Operation::EwiseAdd { op }
+        | Operation::Select { op, .. }
+        | Operation::Kronecker { op } => *op = not_binary,
         Operation::ReduceRows { monoid } => *monoid = rng.pick(&[0, 1, 2, 4, 4, 8, u32::MAX]),
         Operation::Apply { kind, op, .. } => match rng.below(3) {
             0 => *kind = rng.pick(&[4, 4, 5, 256, u32::MAX]),
@@ -218,7 +223,7 @@ fn spoil_operation(rng: &mut Rng, operation: &mut Operation) {
                 }
             }
         },
-        Operation::Extract { rows, cols } => {
+        Operation::Extract { rows, cols } | Operation::Assign { rows, cols } => {
             let list = if rng.percent(50) { rows } else { cols };
             match rng.below(7) {
                 0 => list.clear(),

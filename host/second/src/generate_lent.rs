@@ -100,7 +100,7 @@ fn turned(shape: (u32, u32), turn: bool) -> (u32, u32) {
     }
 }
 
-/// Fitting shapes from the sides m, k, n; fills an extract's lists.
+/// Fitting shapes from the sides m, k, n; fills the index lists.
 fn fit(rng: &mut Rng, operation: &mut Operation, options: &Options, [m, k, n]: [u32; 3]) -> Shapes {
     let (first, second) = (options.has(TRANSPOSE_FIRST), options.has(TRANSPOSE_SECOND));
     match operation {
@@ -118,6 +118,26 @@ fn fit(rng: &mut Rng, operation: &mut Operation, options: &Options, [m, k, n]: [
             *cols = index_list(rng, n as usize, width);
             Shapes { a: turned((height, width), first), b: (1, 1), c: (m, n) }
         }
+        Operation::Assign { rows, cols } => {
+            let (height, width) = (m.min(k), side(rng).min(n));
+            *rows = index_list(rng, height as usize, m);
+            *cols = index_list(rng, width as usize, n);
+            Shapes { a: turned((height, width), first), b: (1, 1), c: (m, n) }
+        }
+        Operation::Kronecker { .. } => {
+            let (height, width) = (block_side(rng, m), block_side(rng, n));
+            let c = ((m * height).min(MAX_SIDE), (n * width).min(MAX_SIDE));
+            Shapes { a: turned((m, n), first), b: turned((height, width), second), c }
+        }
+    }
+}
+
+/// A side of B beside a side of A in a Kronecker product, seldom past the limit.
+fn block_side(rng: &mut Rng, side: u32) -> u32 {
+    match rng.below(20) {
+        0 => MAX_SIDE / side + 1,
+        1 | 2 => MAX_SIDE / side,
+        _ => rng.between(1, (MAX_SIDE / side).min(9)),
     }
 }
 
@@ -136,7 +156,7 @@ fn operation_call(rng: &mut Rng) -> LentOperation {
             }
             let mut a = grid(rng, shapes.a.0, shapes.a.1);
             let mut b = grid(rng, shapes.b.0, shapes.b.1);
-            if matches!(operation, Operation::Mxm { .. } | Operation::Vxm { .. }) {
+            if matches!(operation, Operation::Mxm { .. } | Operation::Vxm { .. } | Operation::Kronecker { .. }) {
                 limit_product(&mut a, &mut b);
             }
             let mask = grid(rng, shapes.c.0, shapes.c.1);
@@ -177,7 +197,10 @@ fn assemble(rng: &mut Rng, operation: Operation, options: Options, inputs: [Grid
         mask: Some(mask).filter(|_| options.has_mask),
         c: &c,
     };
-    let needed = SOUND.final_c(&operation, &options, &sheets).grid.size();
+    let needed = match SOUND.has_other_shapes(&operation, &options, &sheets) {
+        true => c.size(),
+        false => SOUND.final_c(&operation, &options, &sheets).grid.size(),
+    };
     let mut words: Vec<Vec<u32>> = inputs.iter().map(|grid| sheet(rng, grid)).collect();
     if !options.has_mask && rng.percent(60) {
         damage(rng, &mut words[2]);
@@ -227,7 +250,10 @@ fn at_the_limit(rng: &mut Rng, mut operation: Operation, mut options: Options) -
     let sides = [rng.between(46, 70), rng.between(1, 5), rng.between(46, 70)];
     options.has_mask = false;
     options.flags &= !COMPLEMENT;
-    let shapes = fit(rng, &mut operation, &options, sides);
+    let mut shapes = fit(rng, &mut operation, &options, sides);
+    while shapes.c.0 == MAX_SIDE || shapes.c.1 == MAX_SIDE {
+        shapes = fit(rng, &mut operation, &options, sides);
+    }
     let entries = rng.below(30);
     let mut a = grid_of(rng, shapes.a.0, shapes.a.1, entries);
     let mut b = grid_of(rng, shapes.b.0, shapes.b.1, entries);
@@ -266,10 +292,10 @@ fn grown(rng: &mut Rng, grid: &Grid, wanted: usize) -> Grid {
 
 /// Square sheets, one buffer in several roles.
 fn shared_roles(rng: &mut Rng, mut operation: Operation, options: Options, n: u32) -> LentOperation {
-    let n = if matches!(operation, Operation::Vxm { .. } | Operation::ReduceRows { .. }) { 1 } else { n };
-    if let Operation::Extract { rows, cols } = &mut operation {
-        *rows = index_list(rng, n as usize, n);
-        *cols = index_list(rng, n as usize, n);
+    let strip = matches!(operation, Operation::Vxm { .. } | Operation::ReduceRows { .. } | Operation::Kronecker { .. });
+    let n = if strip { 1 } else { n };
+    for list in operation.lists_mut().into_iter().flatten() {
+        *list = index_list(rng, n as usize, n);
     }
     let grids = [grid(rng, n, n), grid(rng, n, n), grid(rng, n, n)];
     let [a, b, mask] = [rng.below(2), rng.below(2), rng.below(3)];

@@ -223,10 +223,16 @@ fn operation_calls(rng: &mut Rng, grids: Option<&StoreGrids>) -> Vec<StoreCall> 
     }
     // Some tries for inputs that agree.
     for _ in 0..12 {
-        if shape_of_t(grids, &operation, &options, a, b).is_some() {
+        if inputs_agree(grids, &operation, &options, [a, b, c]) {
             break;
         }
         (a, b) = (slot(rng, grids), slot(rng, grids));
+    }
+    if let (Operation::Assign { rows, cols }, Some(grid)) = (&mut operation, grid_in(grids, a)) {
+        let (height, width) = grid_in(grids, c).map_or((2, 2), Grid::shape);
+        let shape = grid.transposed_if(options.has(TRANSPOSE_FIRST)).shape();
+        *rows = index_list(rng, shape.0 as usize, height);
+        *cols = index_list(rng, shape.1 as usize, width);
     }
     if let (Operation::Extract { rows, cols }, Some(grid)) = (&mut operation, grid_in(grids, a)) {
         let shape = grid_in(grids, c).map_or((2, 2), Grid::shape);
@@ -234,7 +240,7 @@ fn operation_calls(rng: &mut Rng, grids: Option<&StoreGrids>) -> Vec<StoreCall> 
         *rows = index_list(rng, shape.0.min(height) as usize, height);
         *cols = index_list(rng, shape.1.min(width) as usize, width);
     }
-    if let (Some(grids), Some(shape)) = (grids, shape_of_t(grids, &operation, &options, a, b)) {
+    if let (Some(grids), Some(shape)) = (grids, shape_of_t(grids, &operation, &options, [a, b, c])) {
         let fitting: Vec<usize> =
             (0..SLOTS).filter(|&slot| grids.slots[slot].as_ref().is_some_and(|grid| grid.shape() == shape)).collect();
         if !fitting.is_empty() && rng.percent(95) {
@@ -266,14 +272,27 @@ fn operation_calls(rng: &mut Rng, grids: Option<&StoreGrids>) -> Vec<StoreCall> 
     calls
 }
 
+/// T's shape; without a sheet in C's place that of A stands for it.
 fn shape_of_t(
     grids: Option<&StoreGrids>,
     operation: &Operation,
     options: &Options,
-    a: usize,
-    b: usize,
+    [a, b, c]: [usize; 3],
 ) -> Option<(u32, u32)> {
     let a = grid_in(grids, a)?;
     let b = if operation.has_second() { Some(grid_in(grids, b)?) } else { None };
-    SOUND.shape_of_t(operation, options, &Sheets { a, b, mask: None, c: a })
+    let c = grid_in(grids, c).unwrap_or(a);
+    SOUND.shape_of_t(operation, options, &Sheets { a, b, mask: None, c })
+}
+
+/// Whether the inputs' shapes agree; for an assign, whose lists are still empty, whether A is no larger than C.
+fn inputs_agree(grids: Option<&StoreGrids>, operation: &Operation, options: &Options, named: [usize; 3]) -> bool {
+    let [a, _, c] = named.map(|slot| grid_in(grids, slot));
+    match (operation, a, c) {
+        (Operation::Assign { .. }, Some(a), Some(c)) => {
+            let a = a.transposed_if(options.has(TRANSPOSE_FIRST));
+            a.rows <= c.rows && a.cols <= c.cols
+        }
+        _ => shape_of_t(grids, operation, options, named).is_some(),
+    }
 }

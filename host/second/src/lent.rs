@@ -115,7 +115,7 @@ impl Model {
         if c.is_none() {
             applying.push(6);
         }
-        if a.as_ref().is_some_and(|a| self.has_bad_list(operation, options, a)) {
+        if self.has_bad_list(operation, options, a.as_ref(), c.as_ref()) {
             applying.push(7);
         }
         if self.has_short_work(&call.work) {

@@ -39,16 +39,15 @@ impl Lent {
 }
 
 fn lists(operation: &Operation) -> [Lent; 2] {
-    match operation {
-        Operation::Extract { rows, cols } => [Lent::new("list I", rows), Lent::new("list J", cols)],
-        _ => [Lent::new("list I", &[]), Lent::new("list J", &[])],
-    }
+    let empty = Vec::new();
+    let [rows, cols] = operation.lists().unwrap_or([&empty, &empty]);
+    [Lent::new("list I", rows), Lent::new("list J", cols)]
 }
 
 /// The work buffer and the index lists after the call, in the order of the model.
 fn side_buffers(operation: &Operation, work: Lent, lists: [Lent; 2]) -> Vec<Buffer> {
     let mut buffers = vec![work.returned()];
-    if let Operation::Extract { .. } = operation {
+    if operation.lists().is_some() {
         buffers.extend(lists.map(Lent::returned));
     }
     buffers

@@ -1,4 +1,4 @@
-//! Document 01 on plain grids: T, the write-back, and when a call is refused.
+//! Documents 01 and 02 on plain grids: T, the write-back, and when a call is refused.
 
 use crate::calls::*;
 use crate::fault::Fault;
@@ -71,6 +71,11 @@ impl Model {
                 Fault::ColumnOfTotals => Some((first.rows, 1)),
                 _ => Some((1, first.rows)),
             },
+            // Document 02, A14: "A (as transposed) has the list lengths as its shape, and that need not be C's shape".
+            Operation::Assign { rows, cols } => {
+                (first.shape() == (rows.len() as u32, cols.len() as u32)).then_some(sheets.c.shape())
+            }
+            Operation::Kronecker { .. } => Some((first.rows * second.rows, first.cols * second.cols)),
         }
     }
 
@@ -122,6 +127,10 @@ impl Model {
                 first.cells.iter().filter(|(at, x)| keeps(**at, **x)).map(|(&at, &x)| (at, x)).collect()
             }
             Operation::ReduceRows { monoid } => self.row_totals(&first, *monoid),
+            Operation::Assign { rows, cols } => {
+                first.cells.iter().map(|(&(k, l), &x)| ((rows[k as usize], cols[l as usize]), x)).collect()
+            }
+            Operation::Kronecker { op } => self.kronecker(&first, &second, *op),
         };
         let (rows, cols) = self.shape_of_t(operation, options, sheets).unwrap_or((1, 1));
         let mut t = Grid { cells, ..Grid::empty(rows, cols) };
@@ -138,6 +147,47 @@ impl Model {
                 let term = binary(op, x, y, self.fault);
                 cells.entry((i, j)).and_modify(|sum| *sum = binary(monoid, *sum, term, self.fault)).or_insert(term);
             }
+        }
+        cells
+    }
+
+    /// Document 02, A14: "entry (i·p + k, j·q + l) from A(i,j) and a p by q B(k,l)".
+    fn kronecker(&self, a: &Grid, b: &Grid, op: u32) -> BTreeMap<(u32, u32), i32> {
+        let mut cells = BTreeMap::new();
+        for (&(i, j), &x) in &a.cells {
+            for (&(k, l), &y) in &b.cells {
+                let row = if self.has(Fault::BlockRowsExchanged) { k * a.rows + i } else { i * b.rows + k };
+                let value = match self.fault {
+                    Fault::KroneckerSwapped => binary(op, y, x, self.fault),
+                    _ => binary(op, x, y, self.fault),
+                };
+                cells.insert((row, j * b.cols + l), value);
+            }
+        }
+        cells
+    }
+
+    /// Document 02, A14: "Without an accumulator a listed place takes A's emptiness too; a place not listed keeps old C".
+    fn assigned(&self, options: &Options, [rows, cols]: [&Vec<u32>; 2], c: &Grid, t: &Grid) -> BTreeMap<(u32, u32), i32> {
+        let mut cells = c.cells.clone();
+        let listed = |&(i, j): &(u32, u32)| rows.contains(&i) && cols.contains(&j);
+        if !options.has_accumulator {
+            cells.retain(|at, _| match self.fault {
+                Fault::UnlistedEmptied => false,
+                Fault::EmptinessIgnored => true,
+                Fault::ListedRowsEmptied => !rows.contains(&at.0),
+                _ => !listed(at),
+            });
+        }
+        for (&at, &y) in &t.cells {
+            let value = match cells.get(&at) {
+                Some(&x) if options.has_accumulator && self.has(Fault::AccumulatorSwapped) => {
+                    binary(options.accumulator, y, x, self.fault)
+                }
+                Some(&x) if options.has_accumulator => binary(options.accumulator, x, y, self.fault),
+                _ => y,
+            };
+            cells.insert(at, value);
         }
         cells
     }
@@ -219,9 +269,12 @@ impl Model {
         chosen != options.has(COMPLEMENT)
     }
 
-    pub fn write_back(&self, options: &Options, sheets: &Sheets, t: &Grid) -> Grid {
+    fn write_back(&self, operation: &Operation, options: &Options, sheets: &Sheets, t: &Grid) -> Grid {
         let c = sheets.c;
         let z = match options.has_accumulator {
+            _ if matches!(operation, Operation::Assign { .. }) => {
+                operation.lists().map(|lists| self.assigned(options, lists, c, t)).unwrap_or_default()
+            }
             false => t.cells.clone(),
             true if self.has(Fault::AccumulatorSwapped) => self.union(&t.cells, &c.cells, options.accumulator),
             true => self.union(&c.cells, &t.cells, options.accumulator),
@@ -260,14 +313,14 @@ impl Model {
             Operation::Mxm { monoid, op } | Operation::Vxm { monoid, op } => {
                 !is_monoid(monoid, self.fault) || !is_binary(op)
             }
-            Operation::EwiseMult { op } | Operation::EwiseAdd { op } => !is_binary(op),
+            Operation::EwiseMult { op } | Operation::EwiseAdd { op } | Operation::Kronecker { op } => !is_binary(op),
             Operation::Apply { kind, op, .. } => match kind {
                 0 => !is_unary(op),
                 1 | 2 => !is_binary(op),
                 3 => !is_index_unary(op),
                 _ => true,
             },
-            Operation::Extract { .. } => false,
+            Operation::Extract { .. } | Operation::Assign { .. } => false,
             Operation::Select { op, .. } => !is_condition(op),
             Operation::ReduceRows { monoid } => !is_monoid(monoid, self.fault),
         };
@@ -288,18 +341,29 @@ impl Model {
     }
 
     /// Whether refusal 7 applies to an operation.
-    pub fn has_bad_list(&self, operation: &Operation, options: &Options, a: &Grid) -> bool {
-        let Operation::Extract { rows, cols } = operation else {
+    pub fn has_bad_list(
+        &self,
+        operation: &Operation,
+        options: &Options,
+        a: Option<&Grid>,
+        c: Option<&Grid>,
+    ) -> bool {
+        let Some([rows, cols]) = operation.lists() else {
             return false;
         };
-        let a = a.transposed_if(options.has(TRANSPOSE_FIRST) && !self.has(Fault::IndexAsStored));
+        // Document 02, A14: in assign "7 is counted against C and not against A".
+        let against_c = matches!(operation, Operation::Assign { .. }) && !self.has(Fault::AssignAgainstA);
+        let turn = options.has(TRANSPOSE_FIRST) && !self.has(Fault::IndexAsStored) && !against_c;
+        let Some(held) = (if against_c { c } else { a }).map(|grid| grid.transposed_if(turn)) else {
+            return false;
+        };
         let longest = MAX_LIST - usize::from(self.has(Fault::LongestListRefused));
         let bad = |list: &[u32], side: u32| {
             let past = list.iter().any(|&index| index >= side);
             !(1..=longest).contains(&list.len()) || past || self.has_repeat(list)
         };
         let shared = self.has(Fault::SharedIndexRefused) && rows.iter().any(|index| cols.contains(index));
-        bad(rows, a.rows) || bad(cols, a.cols) || shared
+        bad(rows, held.rows) || bad(cols, held.cols) || shared
     }
 
     /// Document 02, A9: "Extract now refuses 7 if an index occurs twice in the same list."
@@ -315,6 +379,10 @@ impl Model {
     /// Whether refusal 8 applies to an operation whose sheets are all there.
     pub fn has_other_shapes(&self, operation: &Operation, options: &Options, sheets: &Sheets) -> bool {
         let shape = sheets.c.shape();
+        let no_place = sheets.mask.is_none() && options.has(COMPLEMENT);
+        if no_place && matches!(operation, Operation::Kronecker { .. }) && self.has(Fault::PastOnlyInside) {
+            return false;
+        }
         let mask_agrees = sheets.mask.is_none_or(|mask| mask.shape() == shape);
         self.shape_of_t(operation, options, sheets) != Some(shape) || !mask_agrees
     }
@@ -326,7 +394,7 @@ impl Model {
 
     pub fn final_c(&self, operation: &Operation, options: &Options, sheets: &Sheets) -> Final {
         let t = self.result(operation, options, sheets);
-        let grid = self.write_back(options, sheets, &t);
+        let grid = self.write_back(operation, options, sheets, &t);
         let old = if self.has(Fault::RevisionOfInput) { sheets.a } else { sheets.c };
         let revision = self.next_revision(old.revision, grid.cells != sheets.c.cells);
         Final { grid: Grid { revision, ..grid }, entries_of_t: t.cells.len() }
@@ -413,7 +481,7 @@ impl Model {
     /// The work buffer and the index lists after a call with this answer.
     pub fn side_buffers(&self, operation: &Operation, work: &Work, answer: u64) -> Vec<Buffer> {
         let mut buffers = vec![Buffer::new("work buffer", self.work_after(work, answer))];
-        if let Operation::Extract { rows, cols } = operation {
+        if let Some([rows, cols]) = operation.lists() {
             buffers.push(self.read_only("list I", rows));
             buffers.push(self.read_only("list J", cols));
         }

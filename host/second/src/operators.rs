@@ -123,6 +123,7 @@ pub fn identity(monoid: u32, fault: Fault) -> i32 {
         7 if fault == Fault::ExtremesExchanged => i32::MAX,
         6 => i32::MAX,
         7 => i32::MIN,
+        4 if fault == Fault::MonoidMinusAccepted => 0,
         _ => unreachable!("monoid {monoid}"),
     }
 }

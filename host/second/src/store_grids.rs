@@ -234,8 +234,8 @@ impl Model {
         if roles.iter().any(|&slot| grids.slots[slot].is_none()) {
             applying.push(13);
         }
-        let a = grids.slots[call.a].as_ref();
-        if a.is_some_and(|a| self.has_bad_list(operation, options, a)) {
+        let [a, c] = [call.a, call.c].map(|slot| grids.slots[slot].as_ref());
+        if self.has_bad_list(operation, options, a, c) {
             applying.push(7);
         }
         if self.has_short_work(&call.work) {

@@ -15,7 +15,8 @@ mod triples;
 pub use operators::{Apply, Binary, Condition, IndexUnary, Monoid, Unary};
 pub use raw::objects::{Descriptor, Matrix, Semiring, Vector};
 pub use raw::operations::{
-    apply, apply_index, ewise_add, ewise_mult, extract, mxm, reduce, reduce_rows, select, vxm, WriteBack,
+    apply, apply_index, assign, ewise_add, ewise_mult, extract, kronecker, mxm, reduce, reduce_rows, select, vxm,
+    WriteBack,
 };
 pub use raw::{threads, version, Error};
 

@@ -51,6 +51,18 @@ enum-known-verb-7 c = search needs
 reduce-rows-call-requires : tie.Need-reduce-rows-call-requires
 reduce-rows-call-requires c κs = search needs
 
+enum-told-2 : tie.Need-enum-told-2
+enum-told-2 c = search needs
+
+assign-call-requires : tie.Need-assign-call-requires
+assign-call-requires c κs = search needs
+
+enum-known-verb-8 : tie.Need-enum-known-verb-8
+enum-known-verb-8 c = search needs
+
+kronecker-call-requires : tie.Need-kronecker-call-requires
+kronecker-call-requires c κs = search needs
+
 returns : tie.Need-returns
 returns c = rw (c .before .before .verb .given .1) (c .product-call .ensures)
 
@@ -75,6 +87,12 @@ returns-7 c = rw (c .before .before .verb6 .given .1) (c .select-call .ensures)
 returns-8 : tie.Need-returns-8
 returns-8 c = rw (c .before .before .verb7 .given .1) (c .reduce-rows-call .ensures)
 
+returns-9 : tie.Need-returns-9
+returns-9 c = rw (c .before .enum-told2 .given .1) (c .assign-call .ensures)
+
+returns-10 : tie.Need-returns-10
+returns-10 c = rw (c .before .before .verb8 .given .1) (c .kronecker-call .ensures)
+
 pub decode-spec : {M : Type 1} → statement M
 decode-spec =
     tie.close
@@ -95,6 +113,10 @@ decode-spec =
     select-call-requires
     enum-known-verb-7
     reduce-rows-call-requires
+    enum-told-2
+    assign-call-requires
+    enum-known-verb-8
+    kronecker-call-requires
     returns
     returns-2
     returns-3
@@ -102,4 +124,6 @@ decode-spec =
     returns-5
     returns-6
     returns-7
-    returns-8)
+    returns-8
+    returns-9
+    returns-10)

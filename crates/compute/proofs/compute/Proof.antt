@@ -1,8 +1,14 @@
--- `compute` puts the inverse of the second list in the place of a second input, where there are lists.
+-- `compute` puts the inverses of the lists in the place of a second input, where there are lists.
 use mathlib.Core.Path.{_≡_, refl, sym, _∙_}
 use mathlib.Core.Bool.{true}
 use Rattle.operations.specs.Calls.{hasLists}
-use Rattle.compute.proofs.Prepared.{prepared-lent, listed-indices, prepared-listed, computed-listed}
+use Rattle.compute.proofs.Prepared.{
+  prepared-lent,
+  row-indices,
+  column-indices,
+  prepared-listed,
+  computed-listed,
+}
 use borrow.Author.Needs.{needs}
 use Rattle.compute.proofs.compute.Statement.{statement}
 use Rattle.compute.proofs.compute.Tie as tie
@@ -18,19 +24,24 @@ listed t = sym (t .before .inputs-of .ensures .1) ∙ t .if1 .taken
 inputs-of-requires : tie.Need-inputs-of-requires
 inputs-of-requires c κs = search needs
 
-invert-requires : tie.Need-invert-requires
-invert-requires c κs =
-    let t = c .before in (listed-indices (start (t .before) .pre .0) (listed t), refl)
+slice-aggregate-invert-lists : tie.Need-slice-aggregate-invert-lists
+slice-aggregate-invert-lists c = search needs
+
+invert-lists-requires : tie.Need-invert-lists-requires
+invert-lists-requires c κs =
+    let t = c .before in
+    let r = start (t .before) .pre .0 in
+    (row-indices r (listed t), (column-indices r (listed t), refl))
 
 slice-aggregate-compute-prepared : tie.Need-slice-aggregate-compute-prepared
 slice-aggregate-compute-prepared c = search needs
 
 compute-prepared-requires : tie.Need-compute-prepared-requires
 compute-prepared-requires c κs =
-    let v = c .before .before in
+    let v = c .before .before .before in
     let t = v .before .before in
     let p = start (t .before) .pre in
-    (prepared-listed (p .0) (listed t) _ (v .invert .ensures), p .1)
+    (prepared-listed (p .0) (listed t) _ (v .invert-lists .ensures), p .1)
 
 same-length : tie.Need-same-length
 same-length c = search needs
@@ -38,9 +49,9 @@ same-length c = search needs
 returns : tie.Need-returns
 returns c =
     let q = c .before .before in
-    let v = q .before .before .before in
+    let v = q .before .before .before .before in
     let t = v .before .before in
-    computed-listed (start (t .before) .pre .0) (listed t) (v .invert .last .1 .0) (q .compute-prepared .result) _
+    computed-listed (start (t .before) .pre .0) (listed t) (v .invert-lists .last .1 .1 .0) (q .compute-prepared .result) _
     (q .compute-prepared .ensures)
 
 compute-prepared-requires-2 : tie.Need-compute-prepared-requires-2
@@ -60,7 +71,8 @@ compute-spec =
     tie.close
     (tie.spec
     inputs-of-requires
-    invert-requires
+    slice-aggregate-invert-lists
+    invert-lists-requires
     slice-aggregate-compute-prepared
     compute-prepared-requires
     same-length

@@ -54,7 +54,7 @@ plain-rows-requires c κs =
     let t = c .before in
     let s = start t in (
       all-inputs (s .args .call) _ _ (now (s .args .mask)) _ _ _ _ _ (s .pre .0) (first-source t) (second-source t)
-          (s .pre .0 .inverse),
+          (s .pre .0 .inverses),
       s .pre .1 .1 .1,
     )
 

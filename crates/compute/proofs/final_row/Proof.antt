@@ -7,10 +7,10 @@ use denote.Ref.{now}
 use lib.ListN.{length, length-take}
 use Rattle.rows.proofs.Holds.{holds-most}
 use Rattle.operations.specs.Calls.{transposeFirst, transposeSecond, hasSecond, hasLists}
-use Rattle.extract_rows.specs.Indices.{Inverse}
+use Rattle.extract_rows.specs.Indices.{Inverses}
 use Rattle.sources.specs.Sources.{secondRegion, Source}
 use Rattle.sources.proofs.Sources.{first-read, second-read}
-use Rattle.compute.proofs.Prepared.{inverse-read}
+use Rattle.compute.proofs.Prepared.{inverses-read}
 use Rattle.compute.proofs.FinalRow.{row-inputs, row-buffers, mask-there, old-row, final-row}
 use borrow.Author.Needs.{needs}
 use Rattle.compute.proofs.final_row.Statement.{statement}
@@ -44,13 +44,13 @@ second-held q h =
     second-read (a .call) (a .second) (now (a .b)) (secondRegion (now (a .work))) _ (q .choose2 .ensures) (p .1 .1 .0 .1)
     (p .1 .0 .second) h
 
-inverse-held : (q : tie.After-choose2) → hasLists (start q .args .call .operation) ≡ true
-    → Inverse (now (start q .args .js)) (now (q .choose2 .result))
-inverse-held q h =
+inverses-held : (q : tie.After-choose2) → hasLists (start q .args .call .operation) ≡ true
+    → Inverses (now (start q .args .is)) (now (start q .args .js)) (now (q .choose2 .result))
+inverses-held q h =
     let a = start q .args in
     let p = start q .pre in
-    inverse-read (a .call) (a .second) (now (a .js)) (now (a .b)) (secondRegion (now (a .work))) _ (q .choose2 .ensures)
-    (p .1 .1 .0 .1) (p .0 .inverse) h
+    inverses-read (a .call) (a .second) (now (a .is)) (now (a .js)) (now (a .b)) (secondRegion (now (a .work))) _
+    (q .choose2 .ensures) (p .1 .1 .0 .1) (p .0 .inverses) h
 
 -- the row of T lies within its buffers
 row-fits : (s : tie.After-row-inside) → let x = start (chosen s) .args in
@@ -95,7 +95,7 @@ row-inside-requires c κs =
     let w = c .before .before in
     let q = w .before in
     let p = start q .pre in (
-      row-inputs _ _ _ _ _ _ _ _ _ (p .0) (first-source q) (second-held q) (inverse-held q) _ (p .1 .1 .1 .1 .0),
+      row-inputs _ _ _ _ _ _ _ _ _ (p .0) (first-source q) (second-held q) (inverses-held q) _ (p .1 .1 .1 .1 .0),
       (
         row-buffers _ _ _ _ _ _ _ _ _ (p .0) (first-source q) (second-held q) _ _ _ _ (p .1 .1 .1 .1 .1),
         mask-there _ _ _ _ _ _ _ _ _ (p .0) (first-source q) (second-held q) _ (w .write-back-of .ensures) _

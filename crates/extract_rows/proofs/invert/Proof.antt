@@ -1,8 +1,8 @@
 -- `invert` leaves the inverse: the places before j stand at their columns.
-use Prim.Native.Nat.{_-_, _≤_, _<_}
+use Prim.Native.Nat.{ℕ, _-_, _≤_, _<_}
 use native.Mathlib.Omega.{arith}
-use mathlib.Core.Path.{_≡_}
-use lib.ListN.{length}
+use mathlib.Core.Path.{_≡_, sym, ap, _∙_}
+use lib.ListN.{length, length-replicate}
 use denote.Ref.{now}
 use Rattle.limits.specs.Limits.{maxCols}
 use Rattle.words.specs.Words.{at}
@@ -42,8 +42,8 @@ add-out c = omega (arith, c .before .before .before .pre .0 .few)
 mul-out : tie.Need-mul-out Inv-loop μ-loop
 mul-out c = omega (arith, index (c .before))
 
-element-write-out : tie.Need-element-write-out Inv-loop μ-loop
-element-write-out c = omega (arith, index (c .before))
+slice-write-out : tie.Need-slice-write-out Inv-loop μ-loop
+slice-write-out c = omega (arith, index (c .before), c .before .before .loop .inv .1 .sized)
 
 add-j : tie.Need-add-j Inv-loop μ-loop
 add-j c = omega arith
@@ -55,6 +55,11 @@ loop-again : tie.Need-loop-again Inv-loop μ-loop
 loop-again c =
     let b = c .before in
     (omega arith, inverse-step (b .before .before .pre .0) (b .before .loop .inv .1) (b .loop-test .taken))
+
+same-length : tie.Need-same-length Inv-loop μ-loop
+same-length c =
+    let l = c .before in
+    l .loop .inv .1 .sized ∙ sym (ap length (l .before .pre .1) ∙ length-replicate {A = ℕ} maxCols 0)
 
 returns : tie.Need-returns Inv-loop μ-loop
 returns c =
@@ -75,8 +80,9 @@ invert-spec =
     cast-out
     add-out
     mul-out
-    element-write-out
+    slice-write-out
     add-j
     loop-less
     loop-again
+    same-length
     returns)

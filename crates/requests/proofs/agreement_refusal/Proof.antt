@@ -5,7 +5,7 @@ use denote.Ref.{now}
 use Rattle.conditions.proofs.Tests.{said-no, said-yes}
 use Rattle.matrix.specs.Layout.{gridOf}
 use Rattle.operations.specs.Calls.{indexesValid, shapesAgree}
-use Rattle.requests.proofs.Lists.{lists-within}
+use Rattle.requests.proofs.Lists.{inputs-small, lists-within}
 use Rattle.requests.proofs.Refusals.{
   lists-tested,
   shapes-tested,
@@ -43,7 +43,9 @@ shapes-of-requires : tie.Need-shapes-of-requires
 shapes-of-requires c κs = search needs
 
 needs-of-requires : tie.Need-needs-of-requires
-needs-of-requires c κs = search needs
+needs-of-requires c κs =
+    let s = c .before .before .before .before .before .before .before in
+    inputs-small _ _ _ _ _ (now (s .args .is)) (now (s .args .js)) (s .pre) _ (c .shapes-of .ensures)
 
 indexes-valid-requires : tie.Need-indexes-valid-requires
 indexes-valid-requires c κs =

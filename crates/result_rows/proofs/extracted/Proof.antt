@@ -26,13 +26,16 @@ row-values-requires c κs =
 
 extract-row-requires : tie.Need-extract-row-requires
 extract-row-requires c κs =
-    let p = c .before .before .before .before .before .before .before .before .before .before .before .pre in
+    let p = c .before .before .before .before .before .before .before .before .before .before .before .before .pre in
     let h = p .0 in
-    let r = c .before .before in (
+    let r = c .before .before .before in (
       rw (r .before .row-columns .ensures .words, r .row-values .ensures .words)
           (wider-row (h .first .header .col-range .most) (matrix-row _ (h .first) _ (h .listed))),
       (h .indices, (h .inverse, p .1)),
     )
+
+slice-aggregate-extract-row : tie.Need-slice-aggregate-extract-row
+slice-aggregate-extract-row c = search needs
 
 same-length : tie.Need-same-length
 same-length c = search needs
@@ -44,7 +47,7 @@ returns : tie.Need-returns
 unfolding cellOf
 returns c =
     let q = c .before .before .before .before in
-    let r = q .before .before .before in
+    let r = q .before .before .before .before in
     rw (← (r .before .row-columns .ensures .words), ← (r .row-values .ensures .words)) (q .extract-row .ensures)
 
 pub extracted-spec : {M : Type 1} → statement M
@@ -56,6 +59,7 @@ extracted-spec =
     cast-row
     row-columns-requires
     row-values-requires
+    slice-aggregate-extract-row
     extract-row-requires
     same-length
     same-length-2

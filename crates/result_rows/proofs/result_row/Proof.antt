@@ -1,6 +1,14 @@
 -- `result_row` is a row of T, whichever the operation.
 use Rattle.merge.specs.Combined.{combined}
-use Rattle.result_rows.proofs.Inputs.{product-inputs, mult-inputs, add-inputs, list-inputs, buffers}
+use Rattle.result_rows.proofs.Inputs.{
+  product-inputs,
+  mult-inputs,
+  add-inputs,
+  list-inputs,
+  assign-inputs,
+  block-inputs,
+  buffers,
+}
 use borrow.Author.Needs.{needs}
 use Rattle.result_rows.proofs.result_row.Statement.{statement}
 use Rattle.result_rows.proofs.result_row.Tie as tie
@@ -70,6 +78,24 @@ reduce-rows-requires c κs =
     let e = c .before .before .before .operation6 .given .1 in
     let h = rw e at (p .0) in
     (h .first, buffers (rw e at (p .1)))
+
+enum-known-operation-7 : tie.Need-enum-known-operation-7
+enum-known-operation-7 c = search needs
+
+assigned-requires : tie.Need-assigned-requires
+assigned-requires c κs =
+    let p = c .before .before .before .before .before .before .before .before .before .before .before .before .pre in
+    let e = c .before .before .before .operation7 .given .1 in
+    (assign-inputs _ _ _ _ _ _ _ (rw e at (p .0)), buffers (rw e at (p .1)))
+
+enum-known-operation-8 : tie.Need-enum-known-operation-8
+enum-known-operation-8 c = search needs
+
+blocks-requires : tie.Need-blocks-requires
+blocks-requires c κs =
+    let p = c .before .before .before .before .before .before .before .before .before .before .before .before .pre in
+    let e = c .before .before .before .operation8 .given .1 in
+    (block-inputs _ _ _ _ _ _ _ (rw e at (p .0)), buffers (rw e at (p .1)))
 
 same-length : tie.Need-same-length
 same-length c = search needs
@@ -150,6 +176,28 @@ returns-7 c =
     let q = c .before .before .before .before in
     rw (q .before .before .before .before .operation6 .given .1) (q .reduce-rows .ensures)
 
+same-length-15 : tie.Need-same-length-15
+same-length-15 c = search needs
+
+same-length-16 : tie.Need-same-length-16
+same-length-16 c = search needs
+
+returns-8 : tie.Need-returns-8
+returns-8 c =
+    let q = c .before .before .before .before in
+    rw (q .before .before .before .before .operation7 .given .1) (q .assigned .ensures)
+
+same-length-17 : tie.Need-same-length-17
+same-length-17 c = search needs
+
+same-length-18 : tie.Need-same-length-18
+same-length-18 c = search needs
+
+returns-9 : tie.Need-returns-9
+returns-9 c =
+    let q = c .before .before .before .before in
+    rw (q .before .before .before .before .operation8 .given .1) (q .blocks2 .ensures)
+
 pub result-row-spec : {M : Type 1} → statement M
 result-row-spec =
     tie.close
@@ -168,6 +216,10 @@ result-row-spec =
     selected-requires
     enum-known-operation-6
     reduce-rows-requires
+    enum-known-operation-7
+    assigned-requires
+    enum-known-operation-8
+    blocks-requires
     same-length
     same-length-2
     returns
@@ -188,4 +240,10 @@ result-row-spec =
     returns-6
     same-length-13
     same-length-14
-    returns-7)
+    returns-7
+    same-length-15
+    same-length-16
+    returns-8
+    same-length-17
+    same-length-18
+    returns-9)

@@ -30,14 +30,17 @@ put-requires-4 c κs = search needs
 put-requires-5 : tie.Need-put-requires-5 Inv-loop μ-loop
 put-requires-5 c κs = search needs
 
+put-requires-6 : tie.Need-put-requires-6 Inv-loop μ-loop
+put-requires-6 c κs = search needs
+
 cast-put : tie.Need-cast-put Inv-loop μ-loop
 cast-put c = search needs
 
 add-put : tie.Need-add-put Inv-loop μ-loop
 add-put c = search needs
 
-put-requires-6 : tie.Need-put-requires-6 Inv-loop μ-loop
-put-requires-6 c κs = search needs
+put-requires-7 : tie.Need-put-requires-7 Inv-loop μ-loop
+put-requires-7 c κs = search needs
 
 loop-holds : tie.Need-loop-holds Inv-loop μ-loop
 loop-holds c = search needs
@@ -75,9 +78,10 @@ build-spec =
     put-requires-3
     put-requires-4
     put-requires-5
+    put-requires-6
     cast-put
     add-put
-    put-requires-6
+    put-requires-7
     loop-holds
     plan-requires
     build-row-requires

@@ -32,6 +32,16 @@ pub fn compute<'w>(request: &Request, inputs: &Inputs, work: &'w mut [u32]) -> R
         }
         Operation::Select(op) => write.rows(result, |i, t| select_row(op, i as u32, a.row(i), t)),
         Operation::ReduceRows(monoid) => write.rows(result, |_, t| row_totals(monoid, a, t)),
+        Operation::Assign { rows, cols } => {
+            let mut dense = DenseRow::new();
+            let places = [Positions::new(rows), Positions::new(cols)];
+            let keeps = request.accumulator.is_none();
+            write.rows(result, |i, t| assign_row(a, cols, inputs.c.row(i), i, &places, keeps, &mut dense, t))
+        }
+        Operation::Kronecker(op) => {
+            let height = b.rows();
+            write.rows(result, |i, t| kronecker_row(op, a.row(i / height), b.row(i % height), b.cols, t))
+        }
     }
 }
 
@@ -169,4 +179,42 @@ fn extract_row(a: Row, positions: &Positions, dense: &mut DenseRow, t: &mut RowB
         }
     }
     dense.drain(positions.count, t);
+}
+
+/// A listed row: A's entries at the columns that the list has for them, and the old row's at the others where it `keeps`
+/// them. A row that is not listed is the old one, or nothing.
+#[allow(clippy::too_many_arguments)]
+fn assign_row(
+    a: Matrix,
+    cols: &[u32],
+    old: Row,
+    i: usize,
+    [rows, columns]: &[Positions; 2],
+    keeps: bool,
+    dense: &mut DenseRow,
+    t: &mut RowBuffer,
+) {
+    let k = rows.positions[i];
+    if k == NOT_NAMED {
+        old.iter().filter(|_| keeps).for_each(|(j, x)| t.push(j, x));
+        return;
+    }
+    for (l, x) in a.row(k as usize).iter() {
+        dense.put(cols[l as usize], x);
+    }
+    for (j, x) in old.iter() {
+        if keeps && columns.positions[j as usize] == NOT_NAMED {
+            dense.put(j, x);
+        }
+    }
+    dense.drain(MAX_SIDE, t);
+}
+
+/// For each entry of A's row those of B's, moved by B's columns.
+fn kronecker_row(op: BinaryOp, a: Row, b: Row, width: usize, t: &mut RowBuffer) {
+    for (j, x) in a.iter() {
+        for (l, y) in b.iter() {
+            t.push(j * width as u32 + l, op.apply(x, y));
+        }
+    }
 }

@@ -172,6 +172,32 @@ pub fn reduce_rows(
     run(options, Operation::reduce_rows(monoid), a, None, mask, c, work)
 }
 
+/// At (is[k], js[l]) of C the cell of A at (k, l).
+pub fn assign(
+    options: OptionNumbers,
+    a: &[u32],
+    is: &[u32],
+    js: &[u32],
+    mask: &[u32],
+    c: &mut [u32],
+    work: &mut [u32],
+) -> u64 {
+    run(options, Some(Operation::Assign { rows: is, cols: js }), a, None, mask, c, work)
+}
+
+/// The Kronecker product.
+pub fn kronecker(
+    options: OptionNumbers,
+    op: u32,
+    a: &[u32],
+    b: &[u32],
+    mask: &[u32],
+    c: &mut [u32],
+    work: &mut [u32],
+) -> u64 {
+    run(options, Operation::kronecker(op), a, Some(b), mask, c, work)
+}
+
 /// The attempt, and then the workspace is cleared.
 fn run(
     options: OptionNumbers,

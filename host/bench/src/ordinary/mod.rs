@@ -18,9 +18,10 @@ mod store;
 mod transpose;
 
 pub use lent::{
-    apply, check, ewise_add, ewise_mult, extract, mxm, new_empty, read_cell, reduce, reduce_rows, row_view, select, vxm,
+    apply, assign, check, ewise_add, ewise_mult, extract, kronecker, mxm, new_empty, read_cell, reduce, reduce_rows,
+    row_view, select, vxm,
 };
 pub use store::{
-    store_apply, store_clear_cell, store_drop, store_ewise_add, store_ewise_mult, store_extract, store_mxm,
+    store_apply, store_assign, store_clear_cell, store_drop, store_ewise_add, store_ewise_mult, store_extract, store_kronecker, store_mxm,
     store_new_empty, store_read_cell, store_reduce, store_reduce_rows, store_select, store_set_cell, store_vxm,
 };

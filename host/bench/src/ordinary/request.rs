@@ -25,6 +25,8 @@ pub enum Operation<'a> {
     Extract { rows: &'a [u32], cols: &'a [u32] },
     Select(SelectOp),
     ReduceRows(BinaryOp),
+    Assign { rows: &'a [u32], cols: &'a [u32] },
+    Kronecker(BinaryOp),
 }
 
 impl<'a> Operation<'a> {
@@ -56,9 +58,13 @@ impl<'a> Operation<'a> {
         BinaryOp::monoid(monoid).map(Operation::ReduceRows)
     }
 
+    pub fn kronecker(op: u32) -> Option<Self> {
+        BinaryOp::numbered(op).map(Operation::Kronecker)
+    }
+
     fn has_second(&self) -> bool {
-        use Operation::{EwiseAdd, EwiseMult, Mxm, Vxm};
-        matches!(self, Mxm { .. } | Vxm { .. } | EwiseMult(_) | EwiseAdd(_))
+        use Operation::{EwiseAdd, EwiseMult, Kronecker, Mxm, Vxm};
+        matches!(self, Mxm { .. } | Vxm { .. } | EwiseMult(_) | EwiseAdd(_) | Kronecker(_))
     }
 }
 
@@ -111,6 +117,9 @@ impl<'a> Request<'a> {
             ensure(list_valid(rows, first.0) && list_valid(cols, first.1), Refusal::IndexOutOfBounds)?;
         }
         let output = inputs.c.shape();
+        if let Operation::Assign { rows, cols } = self.operation {
+            ensure(list_valid(rows, output.0) && list_valid(cols, output.1), Refusal::IndexOutOfBounds)?;
+        }
         let agree = match self.operation {
             Operation::Mxm { .. } => first.1 == second.0 && (first.0, second.1) == output,
             Operation::Vxm { .. } => first.0 == 1 && first.1 == second.0 && (1, second.1) == output,
@@ -118,6 +127,8 @@ impl<'a> Request<'a> {
             Operation::Apply(_) | Operation::Select(_) => first == output,
             Operation::ReduceRows(_) => (1, first.0) == output,
             Operation::Extract { rows, cols } => (rows.len(), cols.len()) == output,
+            Operation::Assign { rows, cols } => (rows.len(), cols.len()) == first,
+            Operation::Kronecker(_) => (first.0 * second.0, first.1 * second.1) == output,
         };
         let mask_agrees = inputs.mask.is_none_or(|mask| mask.shape() == output);
         ensure(agree && mask_agrees, Refusal::InvalidShape)?;

@@ -273,6 +273,36 @@ pub fn store_reduce_rows(
     run(options, Operation::reduce_rows(monoid), Slots { a, b: None, mask, c }, store, work)
 }
 
+/// At (is[k], js[l]) of C the cell of A at (k, l).
+#[allow(clippy::too_many_arguments)]
+pub fn store_assign(
+    options: OptionNumbers,
+    a: usize,
+    mask: usize,
+    c: usize,
+    store: &mut [u32],
+    is: &[u32],
+    js: &[u32],
+    work: &mut [u32],
+) -> u64 {
+    run(options, Some(Operation::Assign { rows: is, cols: js }), Slots { a, b: None, mask, c }, store, work)
+}
+
+/// The Kronecker product.
+#[allow(clippy::too_many_arguments)]
+pub fn store_kronecker(
+    options: OptionNumbers,
+    op: u32,
+    a: usize,
+    b: usize,
+    mask: usize,
+    c: usize,
+    store: &mut [u32],
+    work: &mut [u32],
+) -> u64 {
+    run(options, Operation::kronecker(op), Slots { a, b: Some(b), mask, c }, store, work)
+}
+
 /// The slots that a call names. The mask's is not looked at where there is none.
 #[derive(Clone, Copy)]
 struct Slots {

@@ -72,6 +72,8 @@ enum MatrixOperation {
     Apply,
     Extract { rows: Vec<u64>, cols: Vec<u64> },
     Select,
+    Assign { rows: Vec<u64>, cols: Vec<u64> },
+    Kronecker,
 }
 
 struct MatrixCall {
@@ -95,6 +97,8 @@ impl MatrixCall {
             Operation::Extract { rows, cols } => MatrixOperation::Extract { rows: wide(rows), cols: wide(cols) },
             Operation::Select => MatrixOperation::Select,
             Operation::ReduceRows => unreachable!("it has a vector for C"),
+            Operation::Assign { rows, cols } => MatrixOperation::Assign { rows: wide(rows), cols: wide(cols) },
+            Operation::Kronecker => MatrixOperation::Kronecker,
         };
         MatrixCall {
             operation,
@@ -127,6 +131,8 @@ impl Subject for MatrixCall {
             }
             MatrixOperation::Extract { rows, cols } => suitesparse::extract(c, write, a, rows, cols),
             MatrixOperation::Select => suitesparse::select(c, write, Condition::ValueGe, THRESHOLD as i32, a),
+            MatrixOperation::Assign { rows, cols } => suitesparse::assign(c, write, a, rows, cols),
+            MatrixOperation::Kronecker => suitesparse::kronecker(c, write, Binary::Times, a, b),
         };
         done.expect(FAILED);
     }

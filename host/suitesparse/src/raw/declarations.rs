@@ -237,6 +237,26 @@ extern "C" {
         col_count: Index,
         descriptor: Descriptor,
     ) -> Info;
+    pub fn GrB_Matrix_assign(
+        c: Matrix,
+        mask: Matrix,
+        accumulator: BinaryOp,
+        a: Matrix,
+        rows: *const Index,
+        row_count: Index,
+        cols: *const Index,
+        col_count: Index,
+        descriptor: Descriptor,
+    ) -> Info;
+    pub fn GrB_Matrix_kronecker_BinaryOp(
+        c: Matrix,
+        mask: Matrix,
+        accumulator: BinaryOp,
+        op: BinaryOp,
+        a: Matrix,
+        b: Matrix,
+        descriptor: Descriptor,
+    ) -> Info;
     pub fn GrB_Matrix_select_INT32(
         c: Matrix,
         mask: Matrix,

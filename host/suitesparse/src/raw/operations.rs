@@ -179,6 +179,26 @@ pub fn extract(c: &Matrix, write: WriteBack<Matrix>, a: &Matrix, rows: &[u64], c
     c.wait()
 }
 
+/// At (rows[k], cols[l]) of C the cell of A at (k, l). The mask has C's shape.
+pub fn assign(c: &Matrix, write: WriteBack<Matrix>, a: &Matrix, rows: &[u64], cols: &[u64]) -> Result<(), Error> {
+    let (mask, accumulator, descriptor) = (write.mask(), write.accumulator(), write.descriptor.handle());
+    let (to, a) = (c.handle(), a.handle());
+    let (row_list, row_count) = (rows.as_ptr(), rows.len() as u64);
+    let (col_list, col_count) = (cols.as_ptr(), cols.len() as u64);
+    unsafe {
+        call!(GrB_Matrix_assign(to, mask, accumulator, a, row_list, row_count, col_list, col_count, descriptor))?
+    };
+    c.wait()
+}
+
+/// The Kronecker product.
+pub fn kronecker(c: &Matrix, write: WriteBack<Matrix>, op: Binary, a: &Matrix, b: &Matrix) -> Result<(), Error> {
+    let (mask, accumulator, descriptor) = (write.mask(), write.accumulator(), write.descriptor.handle());
+    let (to, op, a, b) = (c.handle(), binary_op(op), a.handle(), b.handle());
+    unsafe { call!(GrB_Matrix_kronecker_BinaryOp(to, mask, accumulator, op, a, b, descriptor))? };
+    c.wait()
+}
+
 /// The entries of A for which a condition holds.
 pub fn select(c: &Matrix, write: WriteBack<Matrix>, op: Condition, scalar: i32, a: &Matrix) -> Result<(), Error> {
     let (mask, accumulator, descriptor) = (write.mask(), write.accumulator(), write.descriptor.handle());

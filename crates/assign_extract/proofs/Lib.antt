@@ -1,0 +1,4 @@
+pub mod Grids
+pub mod Lent
+pub mod Store
+pub mod ReadBack

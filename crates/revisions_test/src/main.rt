@@ -1,0 +1,155 @@
+// Runs each call that writes into a matrix, accepted and then refused, and prints the answer and the revision after it; then
+// calls that write into none, and a lay over a matrix. All matrices are 1 by 1.
+use call_codes::Options;
+use call_codes::Verb;
+use model::Roles;
+
+// What an operation needs.
+type Workspace = [u32; 15315];
+
+// A store with room for one entry in slot 0, whose words begin behind the first count.
+type SmallStore = [u32; 20];
+
+fn main() {
+    let mut work: Workspace = [7; 15315];
+    lent(&mut work);
+    lent_lay();
+    stored_cells();
+    stored(&mut work);
+}
+
+// No mask and no accumulator: the number 9 is not looked at.
+fn plain(flags: u32) -> Options {
+    Options {
+        flags: flags,
+        has_mask: false,
+        has_accumulator: false,
+        accumulator: 9,
+    }
+}
+
+// Into a lent C that has the last revision but one at first. With no position inside the mask no cell changes.
+fn lent(work: &mut Workspace) {
+    let mut c: [u32; 12] = [1, 4294967294, 2, 1, 1, 2, 0, 0, 0, 0, 9, 9];
+    test_support::heading(b"a lent C: accepted, then refused");
+    operate(b"mxm", plain(0), Verb::Mxm(3, 5), &mut c, work);
+    operate(b"vxm", plain(0), Verb::Vxm(3, 5), &mut c, work);
+    operate(b"ewise_mult", plain(0), Verb::EwiseMult(3), &mut c, work);
+    operate(b"ewise_add", plain(0), Verb::EwiseAdd(3), &mut c, work);
+    operate(b"apply", plain(0), Verb::Apply(0, 0, 0), &mut c, work);
+    operate(b"extract", plain(0), Verb::Extract, &mut c, work);
+    operate(b"select", plain(0), Verb::Select(0, 5), &mut c, work);
+    operate(b"reduce_rows", plain(0), Verb::ReduceRows(3), &mut c, work);
+    operate(b"none inside", plain(2), Verb::EwiseAdd(3), &mut c, work);
+}
+
+fn operate(label: &[u8], options: Options, verb: Verb, c: &mut [u32], work: &mut Workspace) {
+    test_support::heading(label);
+    operate_in(options, verb, c, work);
+    operate_in(options, verb, c, &mut work[..15314]);
+}
+
+// Both inputs have 5 and the revision 7.
+fn operate_in(options: Options, verb: Verb, c: &mut [u32], work: &mut [u32]) {
+    let a: &[u32] = &[1, 7, 2, 1, 1, 2, 0, 1, 1, 0, 1, 5];
+    let r = calls::operate(options, verb, a, a, a, &[0], &[0], c, work);
+    report(r.code, r.entries, &c[..]);
+}
+
+// The answer, and the revision afterwards.
+fn report(code: u32, entries: u32, words: &[u32]) {
+    test_support::print_pair(b"answer: ", code, entries);
+    let r = revision::revision_of(words);
+    test_support::print_pair(b"  revision: ", r.code, r.value);
+}
+
+// A lay over a matrix starts at 0; refused, it leaves the revision.
+fn lent_lay() {
+    let mut c: [u32; 12] = [1, 7, 2, 1, 1, 2, 0, 0, 0, 0, 9, 9];
+    test_support::heading(b"a lay: refused, then accepted");
+    lay(&mut c, 0);
+    lay(&mut c, 1);
+    let checked = matrix::check(&c);
+    report(checked.code, checked.entries, &c);
+}
+
+fn lay(c: &mut [u32], rows: u32) {
+    let r = create::new_empty(c, rows, 1);
+    report(r.code, r.entries, &c[..]);
+}
+
+// Cells of a store's slot: set, set to what it is, refused; cleared, cleared though empty, refused; then calls that write
+// into no matrix.
+fn stored_cells() {
+    let mut store: SmallStore = [0; 20];
+    test_support::heading(b"cells of a slot");
+    lay_slot(&mut store, 1);
+    set(&mut store, 0);
+    set(&mut store, 0);
+    set(&mut store, 1);
+    clear(&mut store, 0);
+    clear(&mut store, 0);
+    clear(&mut store, 1);
+    test_support::heading(b"read, total, refused lay, lay, drop");
+    let read = store_cells::read_cell(&store, 0, 0, 0);
+    report(read.code, read.value, &store[1..]);
+    let total = store_reduce::reduce(&store, 0, 3);
+    report(total.code, total.value, &store[1..]);
+    lay_slot(&mut store, 0);
+    lay_slot(&mut store, 1);
+    let dropped = store_cells::drop_slot(&mut store, 0);
+    report(dropped.code, dropped.entries, &store[1..]);
+}
+
+fn lay_slot(store: &mut SmallStore, rows: u32) {
+    let r = store_cells::new_empty(store, 0, rows, 1);
+    report(r.code, r.entries, &store[1..]);
+}
+
+fn set(store: &mut SmallStore, j: u32) {
+    let r = store_cells::set_cell(store, 0, 0, j, 5);
+    report(r.code, r.entries, &store[1..]);
+}
+
+fn clear(store: &mut SmallStore, j: u32) {
+    let r = store_cells::clear_cell(store, 0, 0, j);
+    report(r.code, r.entries, &store[1..]);
+}
+
+// Each operation with slot 0 in every role: one is added, once.
+fn stored(work: &mut Workspace) {
+    let mut store: SmallStore = [0; 20];
+    test_support::heading(b"one slot in every role: accepted, then refused");
+    lay_slot(&mut store, 1);
+    perform(b"mxm", Verb::Mxm(3, 5), &mut store, work);
+    perform(b"vxm", Verb::Vxm(3, 5), &mut store, work);
+    perform(b"ewise_mult", Verb::EwiseMult(3), &mut store, work);
+    perform(b"ewise_add", Verb::EwiseAdd(3), &mut store, work);
+    perform(b"apply", Verb::Apply(0, 0, 0), &mut store, work);
+    perform(b"extract", Verb::Extract, &mut store, work);
+    perform(b"select", Verb::Select(0, 5), &mut store, work);
+    perform(b"reduce_rows", Verb::ReduceRows(3), &mut store, work);
+}
+
+fn perform(label: &[u8], verb: Verb, store: &mut SmallStore, work: &mut Workspace) {
+    test_support::heading(label);
+    perform_in(verb, store, work);
+    perform_in(verb, store, &mut work[..15314]);
+}
+
+fn perform_in(verb: Verb, store: &mut SmallStore, work: &mut [u32]) {
+    let options = Options {
+        flags: 0,
+        has_mask: true,
+        has_accumulator: false,
+        accumulator: 9,
+    };
+    let roles = Roles {
+        first: 0,
+        second: 0,
+        mask: 0,
+        output: 0,
+    };
+    let r = store_calls::operate(store, options, verb, roles, &[0], &[0], work);
+    report(r.code, r.entries, &store[1..]);
+}
