@@ -16,9 +16,13 @@ use Rattle.day_requests.proofs.Readiness.{pair-ready}
 use Rattle.day_folds.specs.Folding.{lentFold}
 use Rattle.day_calls.specs.Calls.{foldRefusal, Folded}
 use Rattle.day_calls.proofs.rewrite_row.Met as rewrite-met
+use Rattle.day_calls.proofs.rewrite_row.Reads as rewrite-reads
 use Rattle.day_calls.proofs.take_back.Met as back-met
+use Rattle.day_calls.proofs.take_back.Reads as back-reads
 use Rattle.day_calls.proofs.read_through.Met as read-met
+use Rattle.day_calls.proofs.read_through.Reads as read-reads
 use Rattle.day_calls.proofs.fold.Met as fold-met
+use Rattle.day_calls.proofs.fold.Reads as fold-reads
 use Rattle.day_claims.specs.Plain.{cellRead}
 use Rattle.day_claims.specs.Claims.{Run, done, rewrote, took, Claims}
 use Rattle.day_claims.proofs.Accepted.{accepted-none, accepted-words, fold-none, fold-few}
@@ -66,6 +70,10 @@ claims = record {
   back-met = back-met.met;
   read-met = read-met.met;
   fold-met = fold-met.met;
+  rewrite-known = rewrite-reads.known;
+  back-known = back-reads.known;
+  read-known = read-reads.known;
+  fold-known = fold-reads.known;
   rewrite-free = λ κs day marks i row. tt;
   back-free = λ κs day marks i. tt;
   read-free = λ κs base day marks i j. tt;

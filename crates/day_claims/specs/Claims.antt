@@ -6,6 +6,7 @@ use mathlib.Core.Path.{_≡_}
 use mathlib.Core.List.{List}
 use contract.Lifetimes.{Lfts}
 use denote.Ref.{RefT}
+use borrow.Fn.Picked.{KnownAs}
 use Rattle.answers.specs.declared.Answer.{Answer}
 use Rattle.answers.specs.declared.CellAnswer.{CellAnswer}
 use Rattle.words.specs.Lent.{Address, lent}
@@ -16,12 +17,16 @@ use Rattle.day_requests.specs.Refusal.{pairRefusal}
 use Rattle.day_folds.specs.Folding.{lentFold}
 use Rattle.day_calls.proofs.rewrite_row.Reads as rewrite-reads
 use Rattle.day_calls.proofs.rewrite_row.Statement as rewrite-statement
+use Rattle.day_calls.proofs.rewrite_row.Kinds as rewrite-kinds
 use Rattle.day_calls.proofs.take_back.Reads as back-reads
 use Rattle.day_calls.proofs.take_back.Statement as back-statement
+use Rattle.day_calls.proofs.take_back.Kinds as back-kinds
 use Rattle.day_calls.proofs.read_through.Reads as read-reads
 use Rattle.day_calls.proofs.read_through.Statement as read-statement
+use Rattle.day_calls.proofs.read_through.Kinds as read-kinds
 use Rattle.day_calls.proofs.fold.Reads as fold-reads
 use Rattle.day_calls.proofs.fold.Statement as fold-statement
+use Rattle.day_calls.proofs.fold.Kinds as fold-kinds
 use Rattle.day_claims.specs.Plain.{plainRewritten, plainTaken, cellRead}
 
 -- where the buffers of a call are
@@ -82,12 +87,21 @@ Listed =
     → (κs : Lfts 2) (p : Places) (i j : ℕ) (a : CellAnswer) → i < rows base → j < cols base
     → ReadTold κs p base day′ marks′ i j a → (a .code ≡ 0) × (cellRead a ≡ g .cell i j)
 
--- the claims, with what makes them claims of the code: each call meets its contract, and a caller has nothing to show
+-- the claims, with what makes them claims of the code: each call meets its contract, what a caller learns follows from
+-- that, and a caller has nothing to show
 pub record Claims : Type 3 where
   pub rewrite-met : {M : Type 1} → rewrite-statement.statement M
   pub back-met : {M : Type 1} → back-statement.statement M
   pub read-met : {M : Type 1} → read-statement.statement M
   pub fold-met : {M : Type 1} → fold-statement.statement M
+  pub rewrite-known : KnownAs 3 rewrite-kinds.ps rewrite-kinds.r rewrite-reads.Ghost rewrite-reads.requires rewrite-reads.ensures
+      rewrite-reads.Asked rewrite-reads.Learnt
+  pub back-known : KnownAs 2 back-kinds.ps back-kinds.r back-reads.Ghost back-reads.requires back-reads.ensures
+      back-reads.Asked back-reads.Learnt
+  pub read-known : KnownAs 2 read-kinds.ps read-kinds.r read-reads.Ghost read-reads.requires read-reads.ensures
+      read-reads.Asked read-reads.Learnt
+  pub fold-known : KnownAs 3 fold-kinds.ps fold-kinds.r fold-reads.Ghost fold-reads.requires fold-reads.ensures
+      fold-reads.Asked fold-reads.Learnt
   pub rewrite-free : (κs : Lfts 3) (day marks : RefT (List ℕ)) (i : ℕ) (row : RefT (List ℕ))
       → rewrite-reads.Asked κs (day, (marks, (i, (row, tt))))
   pub back-free : (κs : Lfts 2) (day marks : RefT (List ℕ)) (i : ℕ) → back-reads.Asked κs (day, (marks, (i, tt)))

@@ -20,6 +20,7 @@ mod changes;
 mod commands;
 mod completions;
 mod csv;
+mod day;
 mod drawing;
 mod failure;
 mod form;

@@ -41,16 +41,10 @@ impl<'a> DayOver<'a> {
         Ok(DayOver { base, day, marks })
     }
 
-    /// A day that was kept: its day matrix and its marks.
-    ///
-    /// # Errors
-    ///
-    /// `InvalidShape` where the day matrix has not the base matrix's shape, or the marks are not one row with a column for
-    /// each of its rows.
-    pub fn from_parts(base: &'a Matrix, day: Matrix, marks: Matrix) -> Result<DayOver<'a>, Error> {
-        let over = DayOver { base, day, marks };
-        over.get(0, 0)?;
-        Ok(over)
+    /// A day that was kept: its day matrix and its marks. They are looked at by each call: where they do not fit the base
+    /// matrix it is refused by `InvalidShape`, and [`DayOver::row`] has no words.
+    pub fn from_parts(base: &'a Matrix, day: Matrix, marks: Matrix) -> DayOver<'a> {
+        DayOver { base, day, marks }
     }
 
     /// The day matrix, with the rewritten rows.
@@ -75,7 +69,7 @@ impl<'a> DayOver<'a> {
     /// `IndexOutOfBounds` for a row outside the matrix; `InvalidShape` where the new row is no vector with as many columns;
     /// `TooManyEntries` where the day matrix would have more than [`MAX_ENTRIES`](crate::MAX_ENTRIES).
     pub fn rewrite(&mut self, i: u32, row: &Matrix) -> Result<usize, Error> {
-        self.write(|day, marks| calls::day_rewrite(i, row.words(), day, marks))
+        self.day.rewrite_row(&mut self.marks, i, row)
     }
 
     /// The rewrite of row i is taken back: the base matrix's row is shown again. Answers the entries of the day matrix.
@@ -84,7 +78,7 @@ impl<'a> DayOver<'a> {
     ///
     /// `IndexOutOfBounds` for a row outside the matrix.
     pub fn take_back(&mut self, i: u32) -> Result<usize, Error> {
-        self.write(|day, marks| calls::day_back(i, day, marks))
+        self.day.take_row_back(&mut self.marks, i)
     }
 
     /// The value that is shown at row i and column j, or `None` where there is none.
@@ -122,12 +116,38 @@ impl<'a> DayOver<'a> {
         folded.write(|out, _| calls::day_fold(self.base.words(), self.day.words(), self.marks.words(), out))?;
         Ok(folded)
     }
+}
 
-    /// Lends both matrices, lengthened to the largest, to a call that writes them.
-    fn write(&mut self, call: impl FnOnce(&mut [u32], &mut [u32]) -> u64) -> Result<usize, Error> {
-        let marks = &mut self.marks;
+impl Matrix {
+    /// Row i of this day matrix becomes the row of a vector, and is marked with 1. [`DayOver::rewrite`] does it beside a
+    /// base matrix. Answers the entries of the day matrix.
+    ///
+    /// # Errors
+    ///
+    /// `IndexOutOfBounds` for a row outside the matrix; `InvalidShape` where the marks are no vector with a column for each
+    /// row, or the new row is none with as many columns; `TooManyEntries` above [`MAX_ENTRIES`](crate::MAX_ENTRIES).
+    pub fn rewrite_row(&mut self, marks: &mut Matrix, i: u32, row: &Matrix) -> Result<usize, Error> {
+        self.write_marked(marks, |day, marks| calls::day_rewrite(i, row.words(), day, marks))
+    }
+
+    /// Row i of this day matrix becomes empty, and its mark goes, if there is one. Answers the entries of the day matrix.
+    ///
+    /// # Errors
+    ///
+    /// `IndexOutOfBounds` for a row outside the matrix; `InvalidShape` where the marks are no vector with a column for each
+    /// row.
+    pub fn take_row_back(&mut self, marks: &mut Matrix, i: u32) -> Result<usize, Error> {
+        self.write_marked(marks, |day, marks| calls::day_back(i, day, marks))
+    }
+
+    /// Lends this day matrix and its marks, both lengthened to the largest, to a call that writes them.
+    fn write_marked(
+        &mut self,
+        marks: &mut Matrix,
+        call: impl FnOnce(&mut [u32], &mut [u32]) -> u64,
+    ) -> Result<usize, Error> {
         // Both matrices have the one answer; the marks' own entries are not asked.
-        self.day.write(|day, _| {
+        self.write(|day, _| {
             let mut answer = 0;
             let _ = marks.write(|marks, _| {
                 answer = call(day, marks);

@@ -30,7 +30,7 @@ fn rewritten_rows_are_shown_and_taken_back() -> Result<(), Error> {
 fn a_mark_counts_whatever_its_value() -> Result<(), Error> {
     let base = base();
     let marks = Matrix::from_triples(1, 3, [(0, 2, 0)])?;
-    let over = DayOver::from_parts(&base, Matrix::new(3, 2)?, marks)?;
+    let over = DayOver::from_parts(&base, Matrix::new(3, 2)?, marks);
     assert_eq!(over.get(2, 1)?, None);
     assert_eq!(over.get(1, 0)?, Some(11));
     Ok(())
@@ -48,6 +48,9 @@ fn refused_calls_change_nothing() -> Result<(), Error> {
     assert_eq!(over.get(0, 2), Err(Error::IndexOutOfBounds));
     assert_eq!(over, before);
     let other = Matrix::new(1, 2)?;
-    assert_eq!(DayOver::from_parts(&base, Matrix::new(3, 2)?, other).err(), Some(Error::InvalidShape));
+    let misfit = DayOver::from_parts(&base, Matrix::new(3, 2)?, other);
+    assert_eq!(misfit.get(0, 0), Err(Error::InvalidShape));
+    assert_eq!(misfit.fold(), Err(Error::InvalidShape));
+    assert!(misfit.row(0, Section::Values).is_empty());
     Ok(())
 }
