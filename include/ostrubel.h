@@ -18,7 +18,7 @@
  * and all matrices as they are after the call.
  *
  * Answers. Each call returns one number: take it apart by the functions below. A call that is accepted has the code 0;
- * only ostrubel_row_view has no code.
+ * only ostrubel_row_view and ostrubel_day_show have no code.
  * A refused call has the lowest code that applies (on a store 12 comes first, and 13 between 2 and 7; of a file 15 comes
  * before 11), changes no word but the workspace's, and its entries, value, position or number are 0. The workspace is all
  * zeros after every call that has one.
@@ -408,6 +408,51 @@ uint64_t ostrubel_open_doors(uint32_t allowance, const uint32_t *locks, ostrubel
                              const uint32_t *cabinets, ostrubel_size cabinets_len, const uint32_t *hand,
                              ostrubel_size hand_len, uint32_t *out, ostrubel_size out_len, uint32_t *work,
                              ostrubel_size work_len);
+
+/* ---- A day matrix over a base matrix ---- */
+
+/*
+ * During a day whole rows are rewritten. They are kept in a day matrix beside the base matrix, both of one shape R by C,
+ * with marks, a 1 by R matrix whose entries, whatever their value, mark the rewritten rows. A row is shown from the day
+ * matrix where it is marked, even if it is empty there, otherwise from the base matrix. None of these calls has a
+ * workspace, and both matrices that a call writes are looked at before either is written.
+ */
+
+/*
+ * Row i of the day matrix becomes the row of the 1 by C matrix row, and is marked with 1. The answer's entries are the day
+ * matrix's. The day matrix and the marks must fit their buffers afterwards. Refused by 4 (day), 5 (marks), 6 (row), 7 (no
+ * row i in the day matrix), 8, 10, 11.
+ */
+uint64_t ostrubel_day_rewrite(uint32_t i, const uint32_t *row, ostrubel_size row_len, uint32_t *day,
+                              ostrubel_size day_len, uint32_t *marks, ostrubel_size marks_len);
+
+/*
+ * A rewrite is taken back: row i of the day matrix becomes empty, marked or not, and its mark goes, if there is one. The
+ * answer's entries are the day matrix's. Refused by 4 (day), 5 (marks), 7 (no row i in the day matrix), 8.
+ */
+uint64_t ostrubel_day_back(uint32_t i, uint32_t *day, ostrubel_size day_len, uint32_t *marks, ostrubel_size marks_len);
+
+/*
+ * The cell at row i and column j as it is shown. Take the answer apart as that of ostrubel_read_cell; the position is
+ * counted in the matrix that the row is shown from. Refused by 3 (base), 4 (day), 5 (marks), 7 (past the base matrix), 8.
+ */
+uint64_t ostrubel_day_read(uint32_t i, uint32_t j, const uint32_t *base, ostrubel_size base_len, const uint32_t *day,
+                           ostrubel_size day_len, const uint32_t *marks, ostrubel_size marks_len);
+
+/*
+ * A new matrix at the front of out, whatever was there, with all rows as they are shown. Refused by 3 (base), 4 (day), 5
+ * (marks), 8, 10, 11.
+ */
+uint64_t ostrubel_day_fold(const uint32_t *base, ostrubel_size base_len, const uint32_t *day, ostrubel_size day_len,
+                           const uint32_t *marks, ostrubel_size marks_len, uint32_t *out, ostrubel_size out_len);
+
+/*
+ * Where row i lies as it is shown: as ostrubel_row_view, with the day matrix as the second. values: 0 for the row's
+ * column numbers, else for its values. Where a matrix is not valid, the shapes differ or there is no row i, the answer is
+ * 0: no words.
+ */
+uint64_t ostrubel_day_show(uint32_t i, uint32_t values, const uint32_t *base, ostrubel_size base_len,
+                           const uint32_t *day, ostrubel_size day_len, const uint32_t *marks, ostrubel_size marks_len);
 
 #ifdef __cplusplus
 }

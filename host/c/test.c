@@ -505,6 +505,39 @@ static void test_doors(void) {
     SAME(out, 1, 0, 2, 1, 3, 2, 0, 2, 2, 0, 1, 2, 1, 0, 0x77777777);
 }
 
+/* 2 by 2: the base has (0,0)=1 and (1,1)=2, row 1 is rewritten by (1,0)=7, and then taken back. */
+static void test_days(void) {
+    static const uint32_t base[] = {1, 5, 2, 2, 2, 3, 0, 1, 2, 2, 0, 1, 2, 1, 2};
+    static const uint32_t row[] = {1, 0, 2, 1, 2, 2, 0, 1, 1, 0, 1, 7};
+    uint32_t day[14] = {1, 0, 2, 2, 2, 3, 0, 0, 0, 0, 0, 0x77, 0x77, 0x77};
+    uint32_t marks[14] = {1, 4294967295u, 2, 1, 2, 2, 0, 0, 0, 0, 0x77, 0x77, 0x77, 0x77};
+    uint32_t out[16];
+    memset(out, 0x77, sizeof(out));
+    REFUSED(ostrubel_day_rewrite(2, WORDS(row), WORDS(day), WORDS(marks)), OSTRUBEL_INDEX_OUT_OF_BOUNDS);
+    REFUSED(ostrubel_day_rewrite(1, WORDS(base), WORDS(day), WORDS(marks)), OSTRUBEL_INVALID_SHAPE);
+    REFUSED(ostrubel_day_rewrite(1, row, 11, WORDS(day), WORDS(marks)), OSTRUBEL_INVALID_OUTPUT);
+    REFUSED(ostrubel_day_rewrite(1, WORDS(row), day, 12, WORDS(marks)), OSTRUBEL_INSUFFICIENT_SPACE);
+    REFUSED(ostrubel_day_rewrite(1, WORDS(row), WORDS(day), marks, 11), OSTRUBEL_INSUFFICIENT_SPACE);
+    SAME(day, 1, 0, 2, 2, 2, 3, 0, 0, 0, 0, 0, 0x77, 0x77, 0x77);
+    ACCEPTED(ostrubel_day_rewrite(1, WORDS(row), WORDS(day), WORDS(marks)), 1);
+    SAME(day, 1, 1, 2, 2, 2, 3, 0, 0, 1, 1, 0, 1, 7, 0x77);
+    SAME(marks, 1, 0, 2, 1, 2, 2, 0, 1, 1, 1, 1, 1, 0x77, 0x77);
+    CHECK(ostrubel_present(ostrubel_day_read(1, 0, WORDS(base), WORDS(day), WORDS(marks))));
+    CHECK(ostrubel_value(ostrubel_day_read(1, 0, WORDS(base), WORDS(day), WORDS(marks))) == 7);
+    CHECK(!ostrubel_present(ostrubel_day_read(1, 1, WORDS(base), WORDS(day), WORDS(marks))));
+    CHECK(ostrubel_value(ostrubel_day_read(0, 0, WORDS(base), WORDS(day), WORDS(marks))) == 1);
+    REFUSED(ostrubel_day_read(0, 2, WORDS(base), WORDS(day), WORDS(marks)), OSTRUBEL_INDEX_OUT_OF_BOUNDS);
+    CHECK(ostrubel_in_second(ostrubel_day_show(1, 1, WORDS(base), WORDS(day), WORDS(marks))));
+    CHECK(ostrubel_part_from(ostrubel_day_show(1, 1, WORDS(base), WORDS(day), WORDS(marks))) == 12);
+    CHECK(ostrubel_day_show(2, 1, WORDS(base), WORDS(day), WORDS(marks)) == 0);
+    REFUSED(ostrubel_day_fold(WORDS(base), WORDS(day), WORDS(marks), out, 14), OSTRUBEL_INSUFFICIENT_SPACE);
+    ACCEPTED(ostrubel_day_fold(WORDS(base), WORDS(day), WORDS(marks), WORDS(out)), 2);
+    SAME(out, 1, 0, 2, 2, 2, 3, 0, 1, 2, 2, 0, 0, 2, 1, 7, 0x77777777);
+    ACCEPTED(ostrubel_day_back(1, WORDS(day), WORDS(marks)), 0);
+    CHECK(day[1] == 2 && marks[1] == 1);
+    CHECK(ostrubel_value(ostrubel_day_read(1, 1, WORDS(base), WORDS(day), WORDS(marks))) == 2);
+}
+
 int main(void) {
     test_format();
     test_row_view();
@@ -517,6 +550,7 @@ int main(void) {
     test_revisions();
     test_files();
     test_limits();
+    test_days();
     test_doors();
     printf("ok\n");
     return 0;

@@ -1,24 +1,23 @@
 -- On lent matrices: an accepted call leaves its final C, and its lists and shapes agree.
 use Prim.Native.Nat.{ℕ}
-use native.Mathlib.Omega.{arith}
 use native.Mathlib.Decide.{ℕ-discrete}
 use mathlib.Core.Path.{_≡_, refl, sym, ap, _∙_}
 use mathlib.Core.List.{List}
 use lib.ListN.{drop}
 use borrow.Author.Tests.{eq-eqb, ne-eqb}
 use Rattle.answers.specs.declared.Answer.{Answer}
-use Rattle.answers.specs.Refusals.{unlessRefused}
 use Rattle.grid.specs.Grid.{Grid, Same}
 use Rattle.grid.proofs.Same.{same-trans}
-use Rattle.matrix.specs.Layout.{gridOf}
-use Rattle.encoding.specs.Encode.{gridSize, writtenOver}
+use Rattle.grid.specs.Revision.{updating, revisionAfter}
+use Rattle.matrix.specs.Layout.{revision, gridOf}
+use Rattle.encoding.specs.Encode.{gridSize}
 use Rattle.encoding.proofs.Canonical.{encode-same}
 use Rattle.operations.specs.declared.Call.{Call}
 use Rattle.refusals.specs.Cases.{firstOf, answerFor}
 use Rattle.requests.specs.Inputs.{Ready}
-use Rattle.requests.specs.Refusal.{inputRefusal, outputRefusal, lentRefusal, lentFinal}
+use Rattle.requests.specs.Refusal.{lentRefusal, lentFinal}
 use Rattle.requests.proofs.Refusals.{ready-of}
-use Rattle.calls.specs.Completion.{Attempted}
+use Rattle.calls.specs.Completion.{updatedTo, Attempted}
 use Rattle.call_codes.specs.declared.Verb.the-variants.{Assign, Extract}
 use Rattle.assign_extract.specs.ReadBack.{Accepted, accepted-call}
 use Rattle.assign_extract.proofs.Grids.{assigning, extracting, grids-back}
@@ -52,10 +51,10 @@ left call a b m c is js work answer c′ t e =
     let none : lentRefusal call a b m c is js work ≡ 0 =
     sym (answer-code (lentRefusal call a b m c is js work) final) ∙ sym (ap (λ (x : Answer). x .code) (t .answer-is))
     ∙ e in
-    let written : c′ ≡ writtenOver final c = t .words-are ∙ rw (eq-eqb (answer .code) 0 e) in
+    let written : c′ ≡ updatedTo final c = t .words-are ∙ rw (eq-eqb (answer .code) 0 e) in
     record {
       ready = ready-of call a b m c is js work (none-first _ _ none) .ready;
-      grid = rw written (encode-same final (drop (gridSize final) c));
+      grid = rw written (encode-same (revisionAfter updating (revision c)) final (drop (gridSize final) c));
     }
 
 pub lent-back : {a c c′ d d′ is js : List ℕ} → Accepted Assign a is js c c′ → Accepted Extract c′ is js d d′

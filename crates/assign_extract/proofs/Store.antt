@@ -5,16 +5,18 @@ use mathlib.Core.Path.{_≡_, refl, sym, ap, _∙_}
 use mathlib.Core.Bool.{Bool, true, false}
 use mathlib.Core.List.{List, [], _∷_, _++_, map}
 use lib.ListN.{length}
+use lib.Dec.{leb}
 use lib.Seq.{getD-set-same}
 use borrow.Author.Tests.{not-false, leb-false}
 use Rattle.limits.specs.Limits.{slotCount}
 use Rattle.words.specs.Words.{at}
 use Rattle.grid.specs.Grid.{Same}
+use Rattle.grid.specs.Revision.{updating, revisionAfter}
 use Rattle.grid.proofs.Same.{same-refl, same-trans}
 use Rattle.operations.specs.Calls.{indexesValid, shapesAgree}
 use Rattle.slots.specs.Valid.{storeValid}
 use Rattle.slots.proofs.Facts.{store-facts}
-use Rattle.model.specs.Model.{vacant, holding, Model, put, gridIn, gridAt}
+use Rattle.model.specs.Model.{Slot, vacant, holding, Model, put, gridIn, gridAt, revisionAt}
 use Rattle.model.specs.Effects.{Reply, codeOf, refusalOf}
 use Rattle.model.specs.Calls.{
   StoreCall,
@@ -37,6 +39,7 @@ use Rattle.model.proofs.Fitting.{Fitting}
 use Rattle.model.proofs.Effects.{reply-code, next-accepted, next-fits, effect-fits, effect-sound, refused-code}
 use Rattle.refusals.specs.Cases.{firstApplying, numberCases}
 use Rattle.refusals.proofs.Cases.{later, applying-none, applying-tail}
+use Rattle.store_encoding.specs.Writing.{modelWriting}
 use Rattle.store_encoding.specs.Stores.{modelOf, effectReply, Performed}
 use Rattle.histories.specs.Lists.{Runs, call}
 use Rattle.histories.proofs.Functions.{told}
@@ -61,12 +64,13 @@ agreed n m o z =
     let numbers = numberCases (o .call) in
     let grids = roleCases (noGrid m) (o .roles) in
     let fits = fitCases n m (o .roles .output) (operated m o) in
-    let twelve = applying-none slots (numbers ++ (grids ++ (agreementsOf m o ++ fits))) (refl, (refl, (refl, (refl, tt)))) z in
-    let a = later _ 12 _ refl twelve in
-    let b = later _ 12 _ refl (a .rest) in
-    let c = later _ 12 _ refl (b .rest) in
-    let d = later _ 12 _ refl (c .rest) in
-    let y = applying-tail slots (numbers ++ (grids ++ (agreementsOf m o ++ fits))) (refl, (refl, (refl, (refl, tt)))) z in
+    let rest = numbers ++ (grids ++ (agreementsOf m o ++ fits)) in
+    let twelve = applying-none slots rest (refl, (refl, (refl, (refl, tt)))) z in
+    let a = later (leb slotCount (o .roles .first)) 12 _ refl twelve in
+    let b = later (leb slotCount (o .roles .second)) 12 _ refl (a .rest) in
+    let c = later (leb slotCount (o .roles .mask)) 12 _ refl (b .rest) in
+    let d = later (leb slotCount (o .roles .output)) 12 0 refl (c .rest) in
+    let y = applying-tail slots rest (refl, (refl, (refl, (refl, tt)))) z in
     let x = applying-tail numbers (grids ++ (agreementsOf m o ++ fits)) (refl, (refl, tt)) y in
     let w = applying-tail grids (agreementsOf m o ++ fits) (refl, (refl, (refl, (refl, tt)))) x in
     let v = applying-none (agreementsOf m o) fits (refl, (refl, (refl, tt))) w in
@@ -84,29 +88,33 @@ module _ (n : ℕ) (m : Model) (f : Fitting n m) (x : OperationCall) (z : refusa
   unfolding effect
   agrees = agreed n m (operateOf x) z
 
-  model-is : next n m (operation x) ≡ put m (operateOf x .roles .output) (holding (operated m (operateOf x)))
+  -- C's slot holds the final C, with the next revision
+  abbrev left : Slot
+  left =
+      holding (revisionAfter updating (revisionAt m (operateOf x .roles .output))) (operated m (operateOf x))
+
+  model-is : next n m (operation x) ≡ put m (operateOf x .roles .output) left
   unfolding effect
   model-is = next-accepted (effect (operation x)) n m z
 
-  -- C's slot holds the final C
   grid-is : gridAt (next n m (operation x)) (operateOf x .roles .output) ≡ operated m (operateOf x)
   grid-is =
       ap (λ (w : Model). gridAt w (operateOf x .roles .output)) model-is
-      ∙ ap gridIn (getD-set-same m (operateOf x .roles .output) (holding (operated m (operateOf x))) vacant
-      (omega (arith, agrees .slot, f .slots)))
+      ∙ ap gridIn (getD-set-same m (operateOf x .roles .output) left vacant (omega (arith, agrees .slot, f .slots)))
 
   fits-next : Fitting n (next n m (operation x))
   fits-next = next-fits (effect (operation x)) n m f (effect-fits n m f (operation x))
 
 -- an accepted call was made on a store
-accepted-valid : {s s′ : List ℕ} {c : StoreCall} {r : Reply} → Performed s c r s′ → codeOf r ≡ 0 → storeValid s ≡ true
+accepted-valid : {s s′ : List ℕ} (c : StoreCall) {r : Reply} → Performed s c r s′ → codeOf r ≡ 0 → storeValid s ≡ true
 unfolding effectReply
-accepted-valid {s} {s′} {c} {r} t e = go (storeValid s) refl
+accepted-valid {s} {s′} c {r} t e = go (storeValid s) refl
   where
     go : (b : Bool) → storeValid s ≡ b → b ≡ true
     go true h = refl
     go false h =
-        let k = ap codeOf (t .answer-is) ∙ rw h (refused-code (effect c .kind) 12) in absurd (omega (arith, e))
+        let k : codeOf r ≡ 12 = ap codeOf (t .answer-is) ∙ rw h (refused-code (effect c .kind) 12) in
+        absurd (omega (arith, e))
 
 -- the call of a slot, as the model has it
 abbrev asked : (verb : Verb) → List ℕ → List ℕ → SlotCall → OperationCall
@@ -131,7 +139,7 @@ store-back {s} {s″} {is} {js} x y {r} {r′} same (call t u) e e′ =
     let m = modelOf s in
     let c = operation (asked Assign is js x) in
     let d = operation (asked Extract is js y) in
-    let valid = accepted-valid (told t) e in
+    let valid = accepted-valid c (told t) e in
     let h = store-facts s valid in
     let f = held-fits s h in
     let o = resumed s valid (c ∷ d ∷ []) (r ∷ r′ ∷ []) s″ (call t u) in
@@ -151,5 +159,6 @@ store-back {s} {s″} {is} {js} x y {r} {r′} same (call t u) e e′ =
     (gridAt m (x .output)) (gridAt m₁ (y .first)) (gridAt m₁ (y .first)) (gridAt m₁ (y .output)) (gridAt m₁ (y .output))
     is js (rw g (same-refl _)) (p .indexes) (p .shapes) (q .shapes) in
     let last : Same (gridAt (modelOf s″) (y .output)) (gridAt (next n m₁ d) (y .output)) =
-    rw (o .words) (grid-same n _ _ (written-model n (next n m₁ d) (h .least) (h .most) f₂ .alike) (y .output)) in
+    rw (o .words) (grid-same n (modelOf (modelWriting n (next n m₁ d))) (next n m₁ d)
+    (written-model n (next n m₁ d) (h .least) (h .most) f₂ .alike) (y .output)) in
     same-trans last (rw (grid-is n m₁ f₁ (asked Extract is js y) z′) back)

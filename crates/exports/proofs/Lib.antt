@@ -2,3 +2,4 @@ pub mod Codes
 pub mod Unpacking
 pub mod FileAnswers
 pub mod Doors
+pub mod Days

@@ -50,7 +50,7 @@ unpacked r a e h = record { code = omega arith; entries = omega arith }
 unpacked-number : (r : ℕ) (a : NumberAnswer) → r ≡ packedNumber a → a .code < codeLimit → UnpackedNumber r a
 unpacked-number r a e h = record { code = omega arith; value = omega arith }
 
-unpacked-cell : (r : ℕ) (a : CellAnswer) → r ≡ packedCell a → SmallRead a → UnpackedCell r a
+pub unpacked-cell : (r : ℕ) (a : CellAnswer) → r ≡ packedCell a → SmallRead a → UnpackedCell r a
 unpacked-cell r a e h = record {
   code = code (a .present) e;
   present = present (a .present) e;
@@ -77,7 +77,7 @@ unpacked-cell r a e h = record {
     value true e = omega (arith, h .code, h .position)
     value false e = omega (arith, h .code, h .position)
 
-unpacked-place : (p : Place) → SmallPlace p → UnpackedPlace (packedPlace p) p
+pub unpacked-place : (p : Place) → SmallPlace p → UnpackedPlace (packedPlace p) p
 unpacked-place p h = record {
   in-second = in-second (p .«in_second»);
   count = count (p .«in_second»);

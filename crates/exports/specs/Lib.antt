@@ -3,3 +3,4 @@ pub mod Exported
 pub mod Unpacked
 pub mod Files
 pub mod Doors
+pub mod Days

@@ -32,6 +32,9 @@ ghost use Rattle.exports.specs.Exported.{optionsOf, rolesNamed, sectionO
 ghost use Rattle.exports.specs.Files.{packedText, LentFileRead, LentFileWritten, LentTextWritten};
 ghost use Rattle.exports.specs.Exported.{LentCreated, LentCompleted, StorePerformed, StoreRead, StoreTotalled};
 ghost use Rattle.exports.specs.Doors.{LentDoors};
+ghost use Rattle.day_calls.specs.Calls.{throughAnswer};
+ghost use Rattle.day_calls.specs.Show.{dayView};
+ghost use Rattle.exports.specs.Days.{LentRewritten, LentTakenBack, LentFolded};
 
 // In the answer of a read, what stands for a cell that is present.
 const PRESENT: u64 = 256;
@@ -1139,4 +1142,70 @@ pub extern "C" fn ostrubel_open_doors(
         (now (out .entry)) (now (work .entry)) r (now (out .exit)) (now (work .exit)) ⌝ }
 {
     pack(key_calls::open_doors(allowance, locks, cabinets, hand, out, work))
+}
+
+// "Rewriting takes a 1 by C strip": row i of the day matrix becomes `row`, and is marked with 1.
+#[no_mangle]
+pub extern "C" fn ostrubel_day_rewrite(
+    i: u32,
+    row: &[u32],
+    day: &mut [u32],
+    marks: &mut [u32],
+) -> u64
+    ensures { λ r. ⌜ LentRewritten (now (day .entry)) (now (marks .entry)) i (now (row .entry)) r (now (day .exit))
+        (now (marks .exit)) ⌝ }
+{
+    pack(day_calls::rewrite_row(day, marks, i, row))
+}
+
+// "taking back empties the day row and its mark, if any".
+#[no_mangle]
+pub extern "C" fn ostrubel_day_back(i: u32, day: &mut [u32], marks: &mut [u32]) -> u64
+    ensures { λ r. ⌜ LentTakenBack (now (day .entry)) (now (marks .entry)) i r (now (day .exit)) (now (marks .exit)) ⌝ }
+{
+    pack(day_calls::take_back(day, marks, i))
+}
+
+// "reading a cell through the pair".
+#[no_mangle]
+pub extern "C" fn ostrubel_day_read<'a>(
+    i: u32,
+    j: u32,
+    base: &'a [u32],
+    day: &'a [u32],
+    marks: &[u32],
+) -> u64
+    ensures { λ r. ⌜ r ≡ packedCell (throughAnswer (now (base .entry)) (now (day .entry)) (now (marks .entry)) i j) ⌝ }
+{
+    pack_cell(day_calls::read_through(base, day, marks, i, j))
+}
+
+// "folding both into one new sheet", in `out`.
+#[no_mangle]
+pub extern "C" fn ostrubel_day_fold<'a>(
+    base: &'a [u32],
+    day: &'a [u32],
+    marks: &[u32],
+    out: &mut [u32],
+) -> u64
+    ensures { λ r. ⌜ LentFolded (now (base .entry)) (now (day .entry)) (now (marks .entry)) (now (out .entry)) r
+        (now (out .exit)) ⌝ }
+{
+    pack(day_calls::fold(base, day, marks, out))
+}
+
+// "Showing a row": where the part that is shown lies, in the day matrix, which counts as the second, or in the base
+// matrix; the column numbers where `values` is 0, else the values.
+#[no_mangle]
+pub extern "C" fn ostrubel_day_show(
+    i: u32,
+    values: u32,
+    base: &[u32],
+    day: &[u32],
+    marks: &[u32],
+) -> u64
+    ensures { λ r. ⌜ r ≡ packedPlace (placeOf (dayView (sectionOf values) (now (base .entry)) (now (day .entry))
+        (now (marks .entry)) i)) ⌝ }
+{
+    pack_place(day_calls::place_shown(base, day, marks, i, section_of(values)))
 }

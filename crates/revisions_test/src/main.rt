@@ -7,9 +7,6 @@ use model::Roles;
 // What an operation needs.
 type Workspace = [u32; 15315];
 
-// A store with room for one entry in slot 0, whose words begin behind the first count.
-type SmallStore = [u32; 20];
-
 fn main() {
     let mut work: Workspace = [7; 15315];
     lent(&mut work);
@@ -45,8 +42,9 @@ fn lent(work: &mut Workspace) {
 
 fn operate(label: &[u8], options: Options, verb: Verb, c: &mut [u32], work: &mut Workspace) {
     test_support::heading(label);
+    let mut short = [7u32; 9];
     operate_in(options, verb, c, work);
-    operate_in(options, verb, c, &mut work[..15314]);
+    operate_in(options, verb, c, &mut short);
 }
 
 // Both inputs have 5 and the revision 7.
@@ -61,6 +59,12 @@ fn report(code: u32, entries: u32, words: &[u32]) {
     test_support::print_pair(b"answer: ", code, entries);
     let r = revision::revision_of(words);
     test_support::print_pair(b"  revision: ", r.code, r.value);
+}
+
+// The same of slot 0: its revision is the third word of the store. An empty slot has a 0 there.
+fn report_slot(code: u32, entries: u32, store: &[u32]) {
+    test_support::print_pair(b"answer: ", code, entries);
+    test_support::print_word(b"  revision", test_support::word(store, 2));
 }
 
 // A lay over a matrix starts at 0; refused, it leaves the revision.
@@ -81,7 +85,7 @@ fn lay(c: &mut [u32], rows: u32) {
 // Cells of a store's slot: set, set to what it is, refused; cleared, cleared though empty, refused; then calls that write
 // into no matrix.
 fn stored_cells() {
-    let mut store: SmallStore = [0; 20];
+    let mut store = [0u32; 20];
     test_support::heading(b"cells of a slot");
     lay_slot(&mut store, 1);
     set(&mut store, 0);
@@ -92,33 +96,33 @@ fn stored_cells() {
     clear(&mut store, 1);
     test_support::heading(b"read, total, refused lay, lay, drop");
     let read = store_cells::read_cell(&store, 0, 0, 0);
-    report(read.code, read.value, &store[1..]);
+    report_slot(read.code, read.value, &store);
     let total = store_reduce::reduce(&store, 0, 3);
-    report(total.code, total.value, &store[1..]);
+    report_slot(total.code, total.value, &store);
     lay_slot(&mut store, 0);
     lay_slot(&mut store, 1);
     let dropped = store_cells::drop_slot(&mut store, 0);
-    report(dropped.code, dropped.entries, &store[1..]);
+    report_slot(dropped.code, dropped.entries, &store);
 }
 
-fn lay_slot(store: &mut SmallStore, rows: u32) {
+fn lay_slot(store: &mut [u32], rows: u32) {
     let r = store_cells::new_empty(store, 0, rows, 1);
-    report(r.code, r.entries, &store[1..]);
+    report_slot(r.code, r.entries, &store[..]);
 }
 
-fn set(store: &mut SmallStore, j: u32) {
+fn set(store: &mut [u32], j: u32) {
     let r = store_cells::set_cell(store, 0, 0, j, 5);
-    report(r.code, r.entries, &store[1..]);
+    report_slot(r.code, r.entries, &store[..]);
 }
 
-fn clear(store: &mut SmallStore, j: u32) {
+fn clear(store: &mut [u32], j: u32) {
     let r = store_cells::clear_cell(store, 0, 0, j);
-    report(r.code, r.entries, &store[1..]);
+    report_slot(r.code, r.entries, &store[..]);
 }
 
 // Each operation with slot 0 in every role: one is added, once.
 fn stored(work: &mut Workspace) {
-    let mut store: SmallStore = [0; 20];
+    let mut store = [0u32; 20];
     test_support::heading(b"one slot in every role: accepted, then refused");
     lay_slot(&mut store, 1);
     perform(b"mxm", Verb::Mxm(3, 5), &mut store, work);
@@ -131,13 +135,14 @@ fn stored(work: &mut Workspace) {
     perform(b"reduce_rows", Verb::ReduceRows(3), &mut store, work);
 }
 
-fn perform(label: &[u8], verb: Verb, store: &mut SmallStore, work: &mut Workspace) {
+fn perform(label: &[u8], verb: Verb, store: &mut [u32], work: &mut Workspace) {
     test_support::heading(label);
+    let mut short = [7u32; 9];
     perform_in(verb, store, work);
-    perform_in(verb, store, &mut work[..15314]);
+    perform_in(verb, store, &mut short);
 }
 
-fn perform_in(verb: Verb, store: &mut SmallStore, work: &mut [u32]) {
+fn perform_in(verb: Verb, store: &mut [u32], work: &mut [u32]) {
     let options = Options {
         flags: 0,
         has_mask: true,
@@ -151,5 +156,5 @@ fn perform_in(verb: Verb, store: &mut SmallStore, work: &mut [u32]) {
         output: 0,
     };
     let r = store_calls::operate(store, options, verb, roles, &[0], &[0], work);
-    report(r.code, r.entries, &store[1..]);
+    report_slot(r.code, r.entries, &store[..]);
 }

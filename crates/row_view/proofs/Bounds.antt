@@ -30,15 +30,15 @@ pub record Within (p : Place) : Type 0 where
   pub count : p .count ≤ maxMatrixWords
 
 -- a section of a row
-section-within : (section : Section) (s : List ℕ) (i : ℕ) → Header s → RowSpan s i
+pub section-within : (section : Section) (s : List ℕ) (i : ℕ) → Header s → RowSpan s i
     → sectionTo section s i ≤ maxMatrixWords × sectionFrom section s i ≤ maxMatrixWords
 section-within Columns s i h r = (omega arith, omega arith)
 section-within Values s i h r = (omega arith, omega arith)
 
-first-within : (x y : ℕ) → y ≤ maxMatrixWords × x ≤ maxMatrixWords → Within (placeOf (first x y))
+pub first-within : (x y : ℕ) → y ≤ maxMatrixWords × x ≤ maxMatrixWords → Within (placeOf (first x y))
 first-within x y b = record { from = b .1; count = omega (arith, b .0) }
 
-second-within : (x y : ℕ) → y ≤ maxMatrixWords × x ≤ maxMatrixWords → Within (placeOf (second x y))
+pub second-within : (x y : ℕ) → y ≤ maxMatrixWords × x ≤ maxMatrixWords → Within (placeOf (second x y))
 second-within x y b = record { from = b .1; count = omega (arith, b .0) }
 
 module _ (section : Section) (a b : List ℕ) (i : ℕ) where

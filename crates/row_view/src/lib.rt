@@ -62,7 +62,7 @@ pub fn place_shown(first: &[u32], second: &[u32], i: u32, section: Section) -> P
 }
 
 // Where the section asked of row i of a valid matrix lies.
-fn section_place(words: &[u32], i: usize, section: Section, in_second: bool) -> Place
+pub fn section_place(words: &[u32], i: usize, section: Section, in_second: bool) -> Place
     requires { ⌜ Header (now words) ⌝ ∗ ⌜ RowSpan (now words) i ⌝ }
     ensures { λ r. ⌜ r ≡ placeIn «in_second» (sectionFrom section (now (words .entry)) i)
         (sectionTo section (now (words .entry)) i) ⌝ }
@@ -121,7 +121,7 @@ fn row_viewable(first: &[u32], second: &[u32], i: u32) -> bool
 }
 
 // The section asked of row i of a valid matrix.
-fn row_section(words: &[u32], i: usize, section: Section) -> &[u32]
+pub fn row_section(words: &[u32], i: usize, section: Section) -> &[u32]
     requires { ⌜ Header (now words) ⌝ ∗ ⌜ RowSpan (now words) i ⌝ }
     ensures { λ r. ⌜ PartOf r (words .entry) (sectionFrom section (now (words .entry)) i)
         (sectionTo section (now (words .entry)) i) ⌝ }

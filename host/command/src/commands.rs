@@ -20,6 +20,7 @@ pub enum Command {
     Export,
     Print,
     Doors,
+    Day,
     Select,
     ReduceRows,
     Assign,
@@ -42,7 +43,7 @@ const WRITE_BACK: [&str; 7] =
     ["--mask", "--structural", "--complement", "--replace", "--accum", "--transpose-a", "--transpose-b"];
 
 impl Command {
-    pub const ALL: [Command; 33] = [
+    pub const ALL: [Command; 34] = [
         Command::New,
         Command::Lay,
         Command::Drop,
@@ -61,6 +62,7 @@ impl Command {
         Command::Export,
         Command::Print,
         Command::Doors,
+        Command::Day,
         Command::Select,
         Command::ReduceRows,
         Command::Assign,
@@ -98,6 +100,7 @@ impl Command {
             Command::Export => "export",
             Command::Print => "print",
             Command::Doors => "doors",
+            Command::Day => "day",
             Command::Select => "select",
             Command::ReduceRows => "reduceRows",
             Command::Assign => "assign",
@@ -119,7 +122,7 @@ impl Command {
     /// The first plain argument, which is a file.
     pub fn file(self) -> Option<&'static str> {
         match self {
-            Command::Help | Command::Completions | Command::Man => None,
+            Command::Help | Command::Completions | Command::Man | Command::Day => None,
             Command::Print => Some("SHEET"),
             _ => Some("FILE"),
         }
@@ -144,6 +147,7 @@ impl Command {
             Command::Diff => &["P", "Q"],
             Command::Copy => &["PLACE", "OTHER", "PLACE"],
             Command::Completions => &["SHELL"],
+            Command::Day => &["ACTION", "SHEET.."],
         }
     }
 
@@ -179,22 +183,22 @@ impl Command {
 
     /// Whether it can write a file.
     pub fn writes(self) -> bool {
-        use Command::{Completions, Diff, Doors, Help, List, Man, Print, Read, Reduce, Revision, Show};
-        !matches!(self, Revision | Read | Show | List | Reduce | Doors | Diff | Print | Completions | Man | Help)
+        use Command::{Completions, Day, Diff, Doors, Help, List, Man, Print, Read, Reduce, Revision, Show};
+        !matches!(self, Revision | Read | Show | List | Reduce | Doors | Day | Diff | Print | Completions | Man | Help)
     }
 
     /// Whether it has rows, columns or places to call by their names.
     pub fn shows_cells(self) -> bool {
-        use Command::{Completions, Convert, Doors, Help, Man, New, Print, Reduce, Resize, Revision};
-        !matches!(self, Revision | New | Reduce | Doors | Print | Resize | Convert | Completions | Man | Help)
+        use Command::{Completions, Convert, Day, Doors, Help, Man, New, Print, Reduce, Resize, Revision};
+        !matches!(self, Revision | New | Reduce | Doors | Day | Print | Resize | Convert | Completions | Man | Help)
     }
 
     /// Whether a script may have it in a line.
     pub fn is_for_scripts(self) -> bool {
-        use Command::{Completions, Convert, Copy, Export, Help, Import, Man, Merge, New, Print, Resize, Run};
+        use Command::{Completions, Convert, Copy, Day, Export, Help, Import, Man, Merge, New, Print, Resize, Run};
         !matches!(
             self,
-            New | Import | Export | Print | Run | Merge | Copy | Resize | Convert | Completions | Man | Help
+            New | Import | Export | Day | Print | Run | Merge | Copy | Resize | Convert | Completions | Man | Help
         )
     }
 

@@ -1,4 +1,5 @@
-//! Scripts that have a shell complete the command's words. Commands, options and what they are about come from the help.
+//! Scripts that have a shell complete the command's words. Commands, options and what they are about come from the
+//! help.
 
 use crate::arguments::has_value;
 use crate::commands::Command;
@@ -105,19 +106,8 @@ fn bash() -> String {
             behind.push_str(&format!("    \"{} {option}\") {reply}; return ;;\n", command.name()));
         }
     }
-    format!(
-        "# bash completion of ostrubel; put it where bash looks for it, as by\n\
-         #   ostrubel completions bash > ~/.local/share/bash-completion/completions/ostrubel\n\
-         _ostrubel() {{\n  local word=${{COMP_WORDS[COMP_CWORD]}} before=${{COMP_WORDS[COMP_CWORD-1]}} options=\n  \
-         local command=${{COMP_WORDS[1]}}\n  COMPREPLY=()\n  if [ \"$COMP_CWORD\" -eq 1 ]; then\n    \
-         COMPREPLY=($(compgen -W \"{names} --help --version\" -- \"$word\"))\n    return\n  fi\n  \
-         case \"$command $before\" in\n    \"help help\") COMPREPLY=($(compgen -W \"{topics}\" -- \"$word\")); return ;;\n    \
-         \"completions completions\") COMPREPLY=($(compgen -W \"bash zsh fish\" -- \"$word\")); return ;;\n{behind}  esac\n  \
-         case $command in\n{cases}  esac\n  case $word in\n    -*) COMPREPLY=($(compgen -W \"$options\" -- \"$word\")) ;;\n    \
-         *) COMPREPLY=($(compgen -f -- \"$word\")) ;;\n  esac\n}}\ncomplete -o filenames -F _ostrubel ostrubel\n",
-        names = names(),
-        topics = topics(),
-    )
+    let script = include_str!("completions/bash.txt").replace("@NAMES@", &names()).replace("@TOPICS@", &topics());
+    script.replace("@VALUES@", &behind).replace("@OPTIONS@", &cases)
 }
 
 /// Text within single quotes, for zsh and fish.
@@ -151,12 +141,7 @@ fn zsh() -> String {
         };
         cases.push_str(&format!(" '--help[the command'\\''s page]' {} ;;\n", single(&rest)));
     }
-    format!(
-        "#compdef ostrubel\n# zsh completion of ostrubel; put it as _ostrubel into a folder of $fpath\n\
-         _ostrubel() {{\n  local -a commands=(\n{commands}  )\n  if (( CURRENT == 2 )); then\n    \
-         _describe command commands\n    return\n  fi\n  local command=$words[2]\n  shift words\n  (( CURRENT-- ))\n  \
-         case $command in\n{cases}  esac\n}}\n_ostrubel \"$@\"\n"
-    )
+    include_str!("completions/zsh.txt").replace("@NAMES@", &commands).replace("@OPTIONS@", &cases)
 }
 
 fn fish() -> String {

@@ -1,5 +1,5 @@
-//! Sheets as comma-separated values: a line for each row, a field for each column, no value in an empty field. With names
-//! there is a line of the columns' heads on top, and the head of its row in front of each line.
+//! Sheets as comma-separated values: a line for each row, a field for each column, no value in an empty field. With
+//! names there is a line of the columns' heads on top, and the head of its row in front of each line.
 
 use crate::labels::Labels;
 use ostrubel::{Error, Matrix, MAX_COLS, MAX_ROWS};
@@ -35,8 +35,8 @@ fn field(text: &str) -> String {
     }
 }
 
-/// The sheet of a text. Where `labels` are given, the first line and the first field of each line are heads, which say the
-/// row and the column by name or number; they may come in any order.
+/// The sheet of a text. Where `labels` are given, the first line and the first field of each line are heads, which say
+/// the row and the column by name or number; they may come in any order.
 pub fn read(text: &str, labels: Option<&Labels>) -> Result<Matrix, String> {
     let mut lines = split(text.strip_prefix('\u{feff}').unwrap_or(text))?;
     let (rows, cols) = match labels {

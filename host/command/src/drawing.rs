@@ -66,7 +66,8 @@ pub fn svg(matrix: &Matrix, title: &str, labels: &Labels) -> String {
     let (title, about) = (escaped(title), about(matrix));
     let mut text = format!(
         "{SVG_FRONT} width=\"{width}\" height=\"{height}\" viewBox=\"0 0 {width} {height}\" role=\"img\" \
-         font-family=\"monospace\" font-size=\"13\" text-anchor=\"end\">\n<title>{title}</title>\n<desc>{about}</desc>\n\
+         font-family=\"monospace\" font-size=\"13\" text-anchor=\"end\">\n\
+         <title>{title}</title>\n<desc>{about}</desc>\n\
          <rect width=\"{width}\" height=\"{height}\" fill=\"white\" stroke=\"#bbb\"/>\n<g stroke=\"#bbb\">\n"
     );
     for edge in &edges {

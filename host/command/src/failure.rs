@@ -71,8 +71,9 @@ impl Failure {
         Failure::Io(format!("{}: {reason}", shown_path(path)))
     }
 
-    /// A failure of standard output, after the shelf was saved or where there was nothing to save. That nobody reads on, as
-    /// with `ostrubel show .. | head -1`, is told by the exit status alone, and is none where the call was a saving one.
+    /// A failure of standard output, after the shelf was saved or where there was nothing to save. That nobody reads
+    /// on, as with `ostrubel show .. | head -1`, is told by the exit status alone, and is none where the call was a
+    /// saving one.
     pub fn output(saved: bool, error: &io::Error) -> Result<(), Failure> {
         match (error.kind(), saved) {
             (io::ErrorKind::BrokenPipe, true) => Ok(()),

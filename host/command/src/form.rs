@@ -36,7 +36,8 @@ pub fn sheets(store: &Store) -> Sheets {
     std::array::from_fn(|slot| store.matrix(slot).ok())
 }
 
-/// The sheets in words of version 1, or `None` where the words are not of that form. In a later version their revision is 0.
+/// The sheets in words of version 1, or `None` where the words are not of that form. In a later version their revision
+/// is 0.
 pub fn earlier_sheets(words: &[u32]) -> Option<Sheets> {
     let mut sheets = Sheets::default();
     let mut rest = words;

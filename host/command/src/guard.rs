@@ -1,16 +1,16 @@
 //! What stands around the words of a shelf in its file, so that a damaged file is not read as good.
 //!
-//! | bytes         | what                                                                                          |
-//! |---------------|-----------------------------------------------------------------------------------------------|
-//! | 0 to 7        | the letters `OSTRUBEL`                                                                        |
-//! | 8 to 11       | the version, which says the form of the words                                                 |
-//! | 12 to 15      | the number N of words                                                                         |
-//! | 16 to 15 + 4N | the words                                                                                     |
-//! | the last four | the CRC-32 of all bytes before them, that of gzip and PNG                                     |
+//! | bytes         | what                                                      |
+//! |---------------|-----------------------------------------------------------|
+//! | 0 to 7        | the letters `OSTRUBEL`                                    |
+//! | 8 to 11       | the version, which says the form of the words             |
+//! | 12 to 15      | the number N of words                                     |
+//! | 16 to 15 + 4N | the words                                                 |
+//! | the last four | the CRC-32 of all bytes before them, that of gzip and PNG |
 //!
-//! A number is four bytes with the lowest first. A CRC-32 tells every change of up to two bits, and every one within four
-//! bytes. A bare file, of before there was a guard, has the words alone: its first word counts the words of a sheet, and
-//! is far below that of the letters.
+//! A number is four bytes with the lowest first. A CRC-32 tells every change of up to two bits, and every one within
+//! four bytes. A bare file, of before there was a guard, has the words alone: its first word counts the words of a
+//! sheet, and is far below that of the letters.
 
 const MAGIC: &[u8; 8] = b"OSTRUBEL";
 const VERSION_AT: usize = 8;

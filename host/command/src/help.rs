@@ -128,6 +128,7 @@ fn command_text(command: Command) -> &'static str {
         Command::Export => include_str!("help/export.txt"),
         Command::Print => include_str!("help/print.txt"),
         Command::Doors => include_str!("help/doors.txt"),
+        Command::Day => include_str!("help/day.txt"),
         Command::Select => include_str!("help/select.txt"),
         Command::ReduceRows => include_str!("help/reduce_rows.txt"),
         Command::Assign => include_str!("help/assign.txt"),

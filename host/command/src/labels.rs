@@ -1,7 +1,8 @@
 //! The names of rows, columns and places, from a file of names.
 //!
-//! A line is `row 2 medicine cupboard`, `column 1 Anna` or `place 0 reports`: a number counted from 0, and the rest of the
-//! line is the name. Blank lines and those that begin with `#` are skipped. What has no name is shown by its number.
+//! A line is `row 2 medicine cupboard`, `column 1 Anna` or `place 0 reports`: a number counted from 0, and the rest of
+//! the line is the name. Blank lines and those that begin with `#` are skipped. What has no name is shown by its
+//! number.
 
 use crate::failure::Failure;
 use crate::sheet_file;

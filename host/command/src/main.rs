@@ -1,9 +1,12 @@
 //! The command `ostrubel`: a store of eight matrices kept in a file, in the words of its users: a matrix is a sheet, a
 //! store is a shelf, and a slot is a place on it.
 //!
-//! `task` reads the command line, `commands`, `arguments`, `names` and `call` what stands in it; `carry_out` does a
-//! call on a store in memory, `script` many of them; `shelf_file` reads and saves, `sheet_file` carries one matrix in or
-//! out; `refusal` and `failure` say why something was not done. All rules about matrices are the library's.
+//! `task` reads the command line, `commands`, `arguments`, `settings`, `names` and `call` what stands in it; `carry_out`
+//! does a call on a store in memory, `script` many of them, `merge` the sheets of files. `shelf_file` reads and saves a
+//! store, by `guard` and `form` what is in the file, by `locked_file`, `new_file` and `replacing` how it is replaced.
+//! `sheet_file` carries one matrix in or out, by `format`, `csv` and `matrix_market`. `view`, `picture`, `changes`,
+//! `drawing` and `json` show what is there, by `look` and `labels`; `refusal` and `failure` say why something was not
+//! done. `help`, `completions` and `manual` have one source. All rules about matrices are the library's.
 //!
 //! The exit status is 0, or 1 for a refused call, 2 for wrong usage, 3 where a file or the output cannot be read or
 //! written.
@@ -17,6 +20,7 @@ mod changes;
 mod commands;
 mod completions;
 mod csv;
+mod day;
 mod drawing;
 mod failure;
 mod form;

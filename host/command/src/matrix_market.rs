@@ -1,5 +1,5 @@
-//! Sheets in the Matrix Market's exchange format: a banner, comments, the shape and the number of entries, and a line for
-//! each entry with row and column counted from 1.
+//! Sheets in the Matrix Market's exchange format: a banner, comments, the shape and the number of entries, and a line
+//! for each entry with row and column counted from 1.
 //!
 //! Coordinate matrices of whole numbers are read, and patterns, whose entries are 1; general and symmetric ones.
 
@@ -55,7 +55,9 @@ impl Banner {
         let words: Vec<String> = line.split_whitespace().map(str::to_lowercase).collect();
         let words: Vec<&str> = words.iter().map(String::as_str).collect();
         match words.as_slice() {
-            ["%%matrixmarket", "matrix", "coordinate", values @ ("integer" | "pattern"), form @ ("general" | "symmetric")] => {
+            ["%%matrixmarket", "matrix", "coordinate", values, form]
+                if ["integer", "pattern"].contains(values) && ["general", "symmetric"].contains(form) =>
+            {
                 Ok(Banner { is_pattern: *values == "pattern", is_symmetric: *form == "symmetric" })
             }
             ["%%matrixmarket", ..] => {

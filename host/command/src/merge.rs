@@ -1,5 +1,5 @@
-//! Sheets of late phones merged into a place: of two values in a cell the larger one stays, which is the later report. The
-//! sheets may come in any order.
+//! Sheets of late phones merged into a place: of two values in a cell the larger one stays, which is the later report.
+//! The sheets may come in any order.
 
 use crate::call::Call;
 use crate::carry_out::counted;

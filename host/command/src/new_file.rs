@@ -1,7 +1,7 @@
 //! New files that get another file's name when they are whole.
 //!
-//! A new file is locked as long as its maker has it open. One that nobody has locked is left over from a command that was
-//! killed, and the next command that saves in the folder removes it.
+//! A new file is locked as long as its maker has it open. One that nobody has locked is left over from a command that
+//! was killed, and the next command that saves in the folder removes it.
 
 use crate::locked_file::{lock, names_file, open_regular};
 use std::ffi::OsStr;

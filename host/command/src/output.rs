@@ -1,5 +1,5 @@
-//! What a command prints. It is collected in memory and written at the end, when the shelf is saved and no lock is held:
-//! whoever reads it may run another command on the same shelf.
+//! What a command prints. It is collected in memory and written at the end, when the shelf is saved and no lock is
+//! held: whoever reads it may run another command on the same shelf.
 
 use crate::system;
 use crate::text::shown_lines;

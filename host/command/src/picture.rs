@@ -1,5 +1,5 @@
-//! A sheet as text: its cells under the columns' names or numbers and beside those of the rows, or a list of its entries
-//! where that would be too wide or too long. Changed cells are marked.
+//! A sheet as text: its cells under the columns' names or numbers and beside those of the rows, or a list of its
+//! entries where that would be too wide or too long. Changed cells are marked.
 
 use crate::changes::Change;
 use crate::look::Look;

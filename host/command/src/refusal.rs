@@ -67,7 +67,8 @@ impl Refusal {
         Refusal::of(Error::InvalidStore, sentence)
     }
 
-    /// Of a shelf of an earlier form whose sheets, as they are now, do not fit any shelf. `name` is a word of the shell.
+    /// Of a shelf of an earlier form whose sheets, as they are now, do not fit any shelf. `name` is a word of the
+    /// shell.
     pub fn of_full_shelf(error: Error, name: &str) -> Refusal {
         let sentence =
             format!("This shelf has an earlier form, and its sheets do not fit {MAX_STORE_WORDS} words in today's.");

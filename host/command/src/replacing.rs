@@ -1,11 +1,11 @@
 //! Files that are replaced as a whole.
 //!
-//! A file is never written in place. The new bytes go into a new file in the same folder, which is synced to the disk and
-//! then renamed over the old one, and the folder is synced: after a crash the file has the old bytes or the new ones. A
-//! failure before the renaming removes the new file. Permissions, access control lists and other extended attributes are
-//! kept, or nothing is saved; the owner is kept where the system allows it. A symbolic link is followed: the file that it
-//! leads to is replaced. A hard link's other names keep the old bytes. Programs that do not lock can replace the file
-//! too: just before the renaming it is looked up once more.
+//! A file is never written in place. The new bytes go into a new file in the same folder, which is synced to the disk
+//! and then renamed over the old one, and the folder is synced: after a crash the file has the old bytes or the new
+//! ones. A failure before the renaming removes the new file. Permissions, access control lists and other extended
+//! attributes are kept, or nothing is saved; the owner is kept where the system allows it. A symbolic link is followed:
+//! the file that it leads to is replaced. A hard link's other names keep the old bytes. Programs that do not lock can
+//! replace the file too: just before the renaming it is looked up once more.
 
 use crate::failure::Failure;
 use crate::locked_file::{lock, names_file, LockedFile, Patience};
@@ -152,7 +152,8 @@ pub fn folder(path: &Path) -> &Path {
     }
 }
 
-/// Makes a new name last, and tidies its folder. Some file systems cannot sync a folder, and say so: that is no failure.
+/// Makes a new name last, and tidies its folder. Some file systems cannot sync a folder, and say so: that is no
+/// failure.
 fn saved(path: &Path, target: &Path) -> Result<(), Failure> {
     remove_leftovers(folder(target));
     match File::open(folder(target)).and_then(|folder| folder.sync_all()) {

@@ -15,8 +15,8 @@ use std::fs::File;
 use std::io::{self, IsTerminal};
 use std::path::Path;
 
-/// The bytes of a file, or of standard input where the name is `-`, and a name for it. It is read to its end, and may come
-/// in pieces, but of a longer one only a byte more than `most` is read.
+/// The bytes of a file, or of standard input where the name is `-`, and a name for it. It is read to its end, and may
+/// come in pieces, but of a longer one only a byte more than `most` is read.
 pub fn bytes(source: &OsStr, most: usize) -> Result<(String, Vec<u8>), Failure> {
     let path = Path::new(if source == "-" { OsStr::new("standard input") } else { source });
     let bytes = if source == "-" {

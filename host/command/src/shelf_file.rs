@@ -1,8 +1,8 @@
 //! A store kept in a file: its words within a guard (`guard`), saved as `replacing` says, by one command at a time
 //! (`locked_file`).
 //!
-//! Files of before there was a guard have the words alone, and those of before sheets had revisions have words of an earlier
-//! version (`form`). They are read, but not written: `convert` gives them today's form.
+//! Files of before there was a guard have the words alone, and those of before sheets had revisions have words of an
+//! earlier version (`form`). They are read, but not written: `convert` gives them today's form.
 
 use crate::failure::Failure;
 use crate::form::{self, Sheets};
@@ -98,8 +98,8 @@ pub fn convert(path: &Path, patience: Patience) -> Result<Form, Failure> {
     Ok(before)
 }
 
-/// Puts the sheets of a file, or those of some places, into a new file, with its guard; without one it only looks. The form
-/// that the file has, which stays as it is.
+/// Puts the sheets of a file, or those of some places, into a new file, with its guard; without one it only looks. The
+/// form that the file has, which stays as it is.
 pub fn convert_to(path: &Path, places: Option<&IndexList>, to: Option<&Path>) -> Result<Form, Failure> {
     let contents = read_contents(path)?;
     let is_chosen = |slot: usize| match places {

@@ -6,6 +6,7 @@ use crate::carry_out::carry_out;
 use crate::changes;
 use crate::commands::Command;
 use crate::completions::{self, Shell};
+use crate::day::Day;
 use crate::drawing;
 use crate::failure::{Failure, Usage};
 use crate::format::Format;
@@ -29,6 +30,8 @@ use std::path::{Path, PathBuf};
 pub enum Task {
     /// Prints a text.
     Print(String),
+    /// Works on the sheet files of a day.
+    Day(Day),
     /// Works on the shelf in a file; of `print` it is a sheet's file.
     File { file: PathBuf, job: Job, settings: Settings },
 }
@@ -94,6 +97,7 @@ impl Task {
             (None, None, _) => Err(Usage::new("", format!("no command {name:?}"))),
             (None, Some(command), _) if asks_for_help(&texts[1..]) => help_task(&[command.name().to_string()]),
             (None, Some(Command::Help), _) => help_task(&texts[1..]),
+            (None, Some(Command::Day), _) => Ok(Task::Day(Day::parse(&words[1..])?)),
             (None, Some(command), _) if command.file().is_none() => text_task(command, &words[1..]),
             (None, Some(command), _) => file_task(command, &words[1..]),
         }
@@ -106,6 +110,7 @@ impl Task {
                 output.print(text);
                 Ok(false)
             }
+            Task::Day(day) => day.carry_out(output),
             Task::File { file, job, settings } => job.carry_out(&Shelf { file, settings }, output),
         }
     }

@@ -280,7 +280,8 @@ fn refuse_all(folder: &Folder, sentence: &str, what: &str) {
     assert_eq!(folder.bytes("s"), bytes, "{what}");
 }
 
-/// A file whose guard does not fit what is in it. A flipped bit made "lost" (14053) "returned" (14052) before there was one.
+/// A file whose guard does not fit what is in it. A flipped bit made "lost" (14053) "returned" (14052) before there was
+/// one.
 #[test]
 fn a_damaged_guard_is_12() {
     let folder = Folder::with_shelf();

@@ -197,7 +197,8 @@ fn list_with(entries: usize) -> String {
     let revision = revision_text(entries as u32);
     let empty: String = (1..8).map(|place| format!("place {place}: empty\n")).collect();
     let (used, free) = (8 + words, 1000 - 8 - words);
-    format!("place 0: 9 by 9, {entries} entries, {words} words{revision}\n{empty}words: {used} used, {free} free, 1000 in all\n")
+    let first = format!("place 0: 9 by 9, {entries} entries, {words} words{revision}\n");
+    format!("{first}{empty}words: {used} used, {free} free, 1000 in all\n")
 }
 
 /// Several `new` at once: one makes the shelf, the others are turned away.

@@ -166,8 +166,8 @@ fn story(name: &str) -> String {
     script
 }
 
-/// Runs the story as host/story/run.sh does: the phone's sheet is carried in a file to the office. What the ending prints
-/// from the last `show` on.
+/// Runs the story as host/story/run.sh does: the phone's sheet is carried in a file to the office. What the ending
+/// prints from the last `show` on.
 fn ending(name: &str) -> String {
     let folder = Folder::with_shelf();
     folder.accept("new phone 1000");

@@ -299,3 +299,75 @@ operation!(
     /// At (i p + k, j q + l) op of A's value at (i, j) and B's at (k, l), where B has p rows and q columns.
     kronecker ostrubel_kronecker store_kronecker ostrubel_store_kronecker, [op], [a a_n, b b_n], [a, b], []
 );
+
+unsafe extern "C" {
+    fn ostrubel_day_rewrite(
+        i: u32,
+        row: *const u32,
+        row_n: usize,
+        day: *mut u32,
+        day_n: usize,
+        marks: *mut u32,
+        marks_n: usize,
+    ) -> u64;
+    fn ostrubel_day_back(i: u32, day: *mut u32, day_n: usize, marks: *mut u32, marks_n: usize) -> u64;
+    fn ostrubel_day_read(
+        i: u32,
+        j: u32,
+        base: *const u32,
+        base_n: usize,
+        day: *const u32,
+        day_n: usize,
+        marks: *const u32,
+        marks_n: usize,
+    ) -> u64;
+    fn ostrubel_day_fold(
+        base: *const u32,
+        base_n: usize,
+        day: *const u32,
+        day_n: usize,
+        marks: *const u32,
+        marks_n: usize,
+        out: *mut u32,
+        out_n: usize,
+    ) -> u64;
+    fn ostrubel_day_show(
+        i: u32,
+        values: u32,
+        base: *const u32,
+        base_n: usize,
+        day: *const u32,
+        day_n: usize,
+        marks: *const u32,
+        marks_n: usize,
+    ) -> u64;
+}
+
+/// Row i of the day matrix becomes `row`, and is marked with 1.
+pub fn day_rewrite(i: u32, row: &[u32], day: &mut [u32], marks: &mut [u32]) -> u64 {
+    let (day_words, mark_words) = (day.as_mut_ptr(), marks.as_mut_ptr());
+    unsafe { ostrubel_day_rewrite(i, row.as_ptr(), row.len(), day_words, day.len(), mark_words, marks.len()) }
+}
+
+/// Row i of the day matrix becomes empty, and its mark goes, if there is one.
+pub fn day_back(i: u32, day: &mut [u32], marks: &mut [u32]) -> u64 {
+    unsafe { ostrubel_day_back(i, day.as_mut_ptr(), day.len(), marks.as_mut_ptr(), marks.len()) }
+}
+
+/// The cell at row i and column j, of the day matrix where the row is marked, else of the base matrix.
+pub fn day_read(i: u32, j: u32, base: &[u32], day: &[u32], marks: &[u32]) -> u64 {
+    let (base, base_n) = (base.as_ptr(), base.len());
+    unsafe { ostrubel_day_read(i, j, base, base_n, day.as_ptr(), day.len(), marks.as_ptr(), marks.len()) }
+}
+
+/// Both as one new matrix at the front of `out`.
+pub fn day_fold(base: &[u32], day: &[u32], marks: &[u32], out: &mut [u32]) -> u64 {
+    let ((base, base_n), (day, day_n)) = ((base.as_ptr(), base.len()), (day.as_ptr(), day.len()));
+    unsafe { ostrubel_day_fold(base, base_n, day, day_n, marks.as_ptr(), marks.len(), out.as_mut_ptr(), out.len()) }
+}
+
+/// Where row i lies as it is shown, as [`row_view`] says it; the second matrix is the day matrix.
+pub fn day_show(i: u32, values: u32, base: &[u32], day: &[u32], marks: &[u32]) -> u64 {
+    let (base, base_n) = (base.as_ptr(), base.len());
+    unsafe { ostrubel_day_show(i, values, base, base_n, day.as_ptr(), day.len(), marks.as_ptr(), marks.len()) }
+}

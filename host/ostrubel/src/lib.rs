@@ -5,8 +5,8 @@
 //! [`Matrix::reduce_rows`], [`Matrix::assign`] and [`Matrix::kronecker`], each by its [`Options`]: a mask, an accumulator
 //! and flags. [`Matrix::reduce`] gives one number.
 //! [`Matrix::to_bytes`] and [`Matrix::from_bytes`] carry one in a file. [`Matrix::open_doors`] answers which doors open by
-//! keys of which some are behind doors. A [`Store`] has eight matrices in one buffer, and the same operations by slots. A
-//! refused call is an [`Error`] and changes nothing.
+//! keys of which some are behind doors. [`DayOver`] keeps rewritten rows beside a matrix. A [`Store`] has eight matrices in
+//! one buffer, and the same operations by slots. A refused call is an [`Error`] and changes nothing.
 //!
 //! # A phone that was late
 //!
@@ -38,6 +38,7 @@
 mod answer;
 #[allow(unsafe_code)]
 pub mod calls;
+mod day_over;
 mod descriptor;
 mod doors;
 mod entries;
@@ -54,6 +55,7 @@ mod store;
 mod store_operations;
 mod workspace;
 
+pub use day_over::DayOver;
 pub use descriptor::Descriptor;
 pub use entries::{Entries, IntoEntries};
 pub use error::Error;

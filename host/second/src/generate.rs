@@ -181,7 +181,7 @@ pub fn work(rng: &mut Rng) -> Work {
         1 => WORK_WORDS + rng.below(4000),
         _ => WORK_WORDS,
     };
-    Work { length, seed: rng.seed() }
+    Work { length, seed: rng.next() }
 }
 
 /// Puts a number that is refused, or a list or work buffer that is, into an operation.

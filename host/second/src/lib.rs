@@ -6,12 +6,13 @@
 //! places for the planted faults of `fault`; `generate*` makes calls, `full_rows` those on each cell of a row; `ffi` and
 //! `library` carry them out; `compare` finds differences; `shrink` and `describe` show a small failing case. `merges` merges
 //! sheets in several orders; `files` reads and writes files and texts, `program` runs the program that prints them;
-//! `doors` asks which doors open within an allowance of rounds. `rng` and `arguments`, random numbers and a program's
-//! options, serve `bench` and `peer` too.
+//! `doors` asks which doors open within an allowance of rounds; `days` rewrites, reads and folds a day sheet over a base
+//! sheet. `rng` and `arguments`, random numbers and a program's options, serve `bench` and `peer` too.
 
 pub mod arguments;
 pub mod calls;
 pub mod compare;
+pub mod days;
 pub mod describe;
 pub mod doors;
 pub mod fault;

@@ -9,7 +9,7 @@ use second::fault::{self, Fault};
 use second::model::{Model, SOUND};
 use second::rng::Rng;
 use second::shrink::shrink;
-use second::{describe, doors, files, full_rows, generate_lent, generate_store, merges, program, revisions};
+use second::{days, describe, doors, files, full_rows, generate_lent, generate_store, merges, program, revisions};
 use std::collections::{BTreeMap, BTreeSet};
 use std::process::ExitCode;
 use std::time::Instant;
@@ -183,6 +183,7 @@ fn compare_all(run: &Run) -> ExitCode {
         compare_files(run)?;
         compare_doors(run)?;
         compare_revisions(run)?;
+        compare_days(run)?;
         compare_random(run)
     };
     match all() {
@@ -278,6 +279,29 @@ fn compare_revisions(run: &Run) -> Result<(), Disagreement> {
         }
     }
     println!("seed {seed}: {lists} looks at a revision, by codes {codes:?}: no disagreement");
+    Ok(())
+}
+
+/// A day sheet over a base sheet: calls, and lists of rewrites held against a plain grid; as many as lists of calls.
+fn compare_days(run: &Run) -> Result<(), Disagreement> {
+    let &Run { seed, lists, .. } = run;
+    let mut codes: BTreeMap<&'static str, BTreeMap<u32, u64>> = BTreeMap::new();
+    for number in 0..lists {
+        let rng = || Rng::of_case(seed, 7, number);
+        match days::day_call(&mut rng()).judge() {
+            Ok((name, code)) => *codes.entry(name).or_default().entry(code).or_default() += 1,
+            Err(_) => {
+                let small = shrink(rng(), days::day_call, |case| case.judge().is_err());
+                println!("seed {seed}, day {number}, made small: {}", small.judge().unwrap_err());
+                return Err(Disagreement);
+            }
+        }
+        if let Err(text) = days::list(&mut Rng::of_case(seed, 8, number)) {
+            println!("seed {seed}, days {number}: {text}");
+            return Err(Disagreement);
+        }
+    }
+    println!("seed {seed}: {lists} calls and {lists} lists on a day sheet, by codes {codes:?}: no disagreement");
     Ok(())
 }
 

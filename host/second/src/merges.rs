@@ -85,7 +85,7 @@ fn merge(rng: &mut Rng, c: &mut Vec<u32>, words: &[u32]) -> Result<(), String> {
         b: 0,
         mask: 0,
         c: c.clone(),
-        work: Work { length: WORK_WORDS, seed: rng.seed() },
+        work: Work { length: WORK_WORDS, seed: rng.next() },
     });
     let outcome = library::lent(&call);
     let code = code_of(outcome.answer);

@@ -23,8 +23,8 @@ impl Rng {
 
     /// The generator of one numbered case of a run, so that each case can be made alone.
     pub fn of_case(seed: u64, stream: u64, number: u64) -> Self {
-        let a = Rng::new(seed).next();
-        let b = Rng::new(a ^ stream.wrapping_mul(0xD6E8_FEB8_6659_FD93)).next();
+        let a = Rng::new(seed).advance();
+        let b = Rng::new(a ^ stream.wrapping_mul(0xD6E8_FEB8_6659_FD93)).advance();
         Rng::new(b ^ number.wrapping_mul(0xA076_1D64_78BD_642F))
     }
 
@@ -44,7 +44,7 @@ impl Rng {
         self.record.map(|record| record.made).unwrap_or_default()
     }
 
-    fn next(&mut self) -> u64 {
+    fn advance(&mut self) -> u64 {
         self.state = self.state.wrapping_add(0x9E37_79B9_7F4A_7C15);
         let mut z = self.state;
         z = (z ^ (z >> 30)).wrapping_mul(0xBF58_476D_1CE4_E5B9);
@@ -54,7 +54,7 @@ impl Rng {
 
     /// A number below `bound`, which is not 0. Every choice is made here; 0 is the plainest.
     fn choose(&mut self, bound: u64) -> u64 {
-        let by_chance = self.next() % bound;
+        let by_chance = self.advance() % bound;
         let Some(Record { made, given, missing }) = &mut self.record else {
             return by_chance;
         };
@@ -70,7 +70,8 @@ impl Rng {
         choice
     }
 
-    pub fn seed(&mut self) -> u64 {
+    /// A number of 64 bits, as a seed.
+    pub fn next(&mut self) -> u64 {
         self.choose(u64::MAX)
     }
 

@@ -1,0 +1,4 @@
+pub mod Changed
+pub mod Opening
+pub mod Putting
+pub mod Replaced
