@@ -40,9 +40,7 @@ impl Day {
             ("rewrite", [day, marks, row, new]) => {
                 Ok(Day::Rewrite { day: day.clone(), marks: marks.clone(), row: whole(row)?, new: new.clone() })
             }
-            ("back", [day, marks, row]) => {
-                Ok(Day::Back { day: day.clone(), marks: marks.clone(), row: whole(row)? })
-            }
+            ("back", [day, marks, row]) => Ok(Day::Back { day: day.clone(), marks: marks.clone(), row: whole(row)? }),
             ("read", [base, day, marks, row, col]) => {
                 Ok(Day::Read { files: files(base, day, marks), row: whole(row)?, col: whole(col)? })
             }
