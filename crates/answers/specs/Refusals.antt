@@ -35,7 +35,7 @@ indexOutOfBounds = 7
 abbrev pub invalidShape : ℕ
 invalidShape = 8
 
--- "work buffer under 13,845 words" (A6: 15,309)
+-- "work buffer under 13,845 words" (A12: 15,315)
 abbrev pub workspaceTooShort : ℕ
 workspaceTooShort = 9
 

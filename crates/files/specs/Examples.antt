@@ -79,6 +79,14 @@ read-over : takenWords 64 (wordsOf file) (replicate 17 9) ≡ strip ++ (9 ∷ []
 unfolding takenWords takenAnswer fileOf valid headerValid startsValid rowsValid _and_ all inRange bytesOf wordsOf
 read-over = refl
 
+-- "a read file keeps its own" revision
+abbrev touched : List ℕ
+touched = 1 ∷ 7 ∷ drop 2 strip
+
+read-touched : takenWords 64 (wordsOf (bytesOf touched)) (replicate 17 9) ≡ touched ++ (9 ∷ [])
+unfolding takenWords takenAnswer fileOf valid headerValid startsValid rowsValid _and_ all inRange bytesOf wordsOf
+read-touched = refl
+
 -- the writer: 3 before 11; a byte too few; spare words are not written, and the byte behind stays
 no-matrix-first : writtenAnswer (1 ∷ []) 0 ≡ refused 3
 unfolding writtenAnswer valid headerValid startsValid rowsValid _and_ all inRange

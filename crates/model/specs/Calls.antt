@@ -59,7 +59,7 @@ pub record OperationCall : Type 0 where
   pub work : ℕ
 
 -- "Calls: lay (what was there goes), drop, set a cell, clear a cell, read a cell, and the six operations"; document 02,
--- A4: "all are shelf calls too"
+-- A4: "all are shelf calls too"; A14: "Both .. are shelf calls"
 pub data StoreCall : Type 0 where
   newEmpty : (slot rows cols : ℕ) → StoreCall
   dropSlot : (slot : ℕ) → StoreCall

@@ -159,7 +159,6 @@ module _ (a a′ b b′ c c′ : Grid) (is js : List ℕ) (s : Same a a′) (u :
   cell-same (ReduceRows monoid) t g v i j l m =
       ap (λ (n : ℕ). reducedRow monoid n (a .cell j)) (s .cols)
       ∙ row-same monoid (a′ .cols) _ _ (λ k q. s .cell j k m q)
-
   cell-same (Assign accumulator) t g v i j l m =
       let e : a′ .rows ≡ length is = eqb-true _ _ (and-left _ _ (and-left _ _ g)) in
       let f : a′ .cols ≡ length js = eqb-true _ _ (and-right _ _ (and-left _ _ g)) in

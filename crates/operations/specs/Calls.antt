@@ -1,4 +1,4 @@
--- A call of one of the six operations on plain grids: its flags, the shapes and indexes it asks for, and the final C
+-- A call of one of the operations on plain grids: its flags, the shapes and indexes it asks for, and the final C
 -- (document 01, "Operators", "The six operations", "When the clerk turns a call away").
 use Prim.Native.Nat.{ℕ, _/_, _%_}
 use mathlib.Core.List.{List}

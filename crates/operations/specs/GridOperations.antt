@@ -126,7 +126,6 @@ resultCell Extract a b c is js i j = a .cell (at is i) (at js j)
 resultCell (Select op) a b c is js i j = selectCell op i j (a .cell i j)
 -- column j of the strip has the total of row j
 resultCell (ReduceRows monoid) a b c is js i j = reducedRow monoid (a .cols) (a .cell j)
-
 -- assign: A(k,l) at the place (I[k], J[l]), "A's emptiness too"
 resultCell (Assign accumulator) a b c is js i j = assignedCell is js (a .cell) (unlistedCell accumulator (c .cell i j)) i j
 -- the Kronecker product: place (i·p + k, j·q + l) by A(i,j) and B(k,l), where B is p by q

@@ -161,7 +161,24 @@ fn extracts(work: &mut Workspace) {
 
 // The four kinds: unary, on the smallest value, 0 and -5; MINUS with 15 first and second; COLINDEX.
 fn applies(work: &mut Workspace) {
-    let u: &[u32] = &[1, 0, 2, 1, 4, 2, 0, 3, 3, 0, 1, 3, 3, 2147483648, 0, 4294967291];
+    let u: &[u32] = &[
+        1,
+        0,
+        2,
+        1,
+        4,
+        2,
+        0,
+        3,
+        3,
+        0,
+        1,
+        3,
+        3,
+        2147483648,
+        0,
+        4294967291,
+    ];
     let v: &[u32] = &[1, 0, 2, 1, 4, 2, 0, 3, 3, 0, 1, 3, 3, 10, 20, 40];
     let mut c = [9u32; 18];
     create::new_empty(&mut c, 1, 4);

@@ -70,5 +70,10 @@ module _ {a b c is js : List ℕ} {i : ℕ} (h : AssignInputs a b c is js i) whe
         holds-same q row (λ j l. sym (listed-at (length is) is i k
         (λ r. listedCell (length js) js j (cellOf a r) (unlistedCell accumulator (cellOf c i j)))
         (unlistedCell accumulator (cellOf c i j)) (m .below) (m .index)
-        (λ r g e. omega (arith, v .named r g, ap (at (drop maxCols b)) e, v .named k (m .below),
-        ap (at (drop maxCols b)) (m .index)))))
+        (λ r g e. omega (
+          arith,
+          v .named r g,
+          ap (at (drop maxCols b)) e,
+          v .named k (m .below),
+          ap (at (drop maxCols b)) (m .index),
+        ))))

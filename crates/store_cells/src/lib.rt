@@ -179,7 +179,13 @@ pub fn clear_cell(store: &mut [u32], slot: usize, i: u32, j: u32) -> Answer
         position: p,
     } = entry
     else {
-        return touch(store, slot, i as usize, j, grid::position_of(entry) as usize);
+        return touch(
+            store,
+            slot,
+            i as usize,
+            j,
+            grid::position_of(entry) as usize,
+        );
     };
     take(store, slot, end, i as usize, j, p as usize)
 }
