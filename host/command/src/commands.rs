@@ -205,10 +205,7 @@ impl Command {
     /// Whether it is one of the operations that write a sheet.
     pub fn is_operation(self) -> bool {
         use Command::{Apply, Assign, EwiseAdd, EwiseMult, Extract, Kronecker, Mxm, ReduceRows, Select, Vxm};
-        matches!(
-            self,
-            Mxm | Vxm | EwiseMult | EwiseAdd | Apply | Extract | Select | ReduceRows | Assign | Kronecker
-        )
+        matches!(self, Mxm | Vxm | EwiseMult | EwiseAdd | Apply | Extract | Select | ReduceRows | Assign | Kronecker)
     }
 
     /// The command of a name, in any case and with hyphens or underscores anywhere but in front.

@@ -4,8 +4,8 @@ use crate::plan::{Plan, Step};
 use second::grid::Grid;
 use std::collections::BTreeMap;
 use suitesparse::{
-    apply, assign, ewise_add, ewise_mult, extract, kronecker, mxm, reduce, reduce_rows, select, vxm, Binary, Descriptor,
-    Error, Matrix, Monoid, Semiring, Vector, WriteBack,
+    apply, assign, ewise_add, ewise_mult, extract, kronecker, mxm, reduce, reduce_rows, select, vxm, Binary,
+    Descriptor, Error, Matrix, Monoid, Semiring, Vector, WriteBack,
 };
 
 /// Row, column and value.

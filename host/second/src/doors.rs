@@ -248,7 +248,10 @@ mod tests {
     /// Two keys, three doors: key 0 is in hand and opens door 1, behind which is key 1 for the doors 0 and 1.
     #[test]
     fn a_key_behind_a_door() {
-        let cells = |rows, cols, at: &[(u32, u32)]| Grid { cells: at.iter().map(|at| (*at, 0)).collect(), ..Grid::empty(rows, cols) };
+        let cells = |rows, cols, at: &[(u32, u32)]| Grid {
+            cells: at.iter().map(|at| (*at, 0)).collect(),
+            ..Grid::empty(rows, cols)
+        };
         let (locks, cabinets) = (cells(2, 3, &[(0, 1), (1, 0), (1, 1)]), cells(3, 2, &[(1, 1)]));
         let hand = cells(1, 2, &[(0, 0)]);
         let rounds = |allowance| opened(&locks, &cabinets, &hand, allowance, Slip::None).cells;

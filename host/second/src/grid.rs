@@ -228,8 +228,7 @@ mod tests {
         for length in 0..STRIP.len() {
             assert_eq!(Grid::read(&STRIP[..length], Fault::None), None);
         }
-        let damage =
-            [(0, 2), (2, 3), (3, 0), (3, 1001), (5, 3), (6, 1), (7, 2), (8, 4), (10, 0), (11, 4), (12, 2)];
+        let damage = [(0, 2), (2, 3), (3, 0), (3, 1001), (5, 3), (6, 1), (7, 2), (8, 4), (10, 0), (11, 4), (12, 2)];
         for (at, word) in damage {
             let mut words = STRIP;
             words[at] = word;

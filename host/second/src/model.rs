@@ -168,7 +168,13 @@ impl Model {
     }
 
     /// Document 02, A14: "Without an accumulator a listed place takes A's emptiness too; a place not listed keeps old C".
-    fn assigned(&self, options: &Options, [rows, cols]: [&Vec<u32>; 2], c: &Grid, t: &Grid) -> BTreeMap<(u32, u32), i32> {
+    fn assigned(
+        &self,
+        options: &Options,
+        [rows, cols]: [&Vec<u32>; 2],
+        c: &Grid,
+        t: &Grid,
+    ) -> BTreeMap<(u32, u32), i32> {
         let mut cells = c.cells.clone();
         let listed = |&(i, j): &(u32, u32)| rows.contains(&i) && cols.contains(&j);
         if !options.has_accumulator {
@@ -341,13 +347,7 @@ impl Model {
     }
 
     /// Whether refusal 7 applies to an operation.
-    pub fn has_bad_list(
-        &self,
-        operation: &Operation,
-        options: &Options,
-        a: Option<&Grid>,
-        c: Option<&Grid>,
-    ) -> bool {
+    pub fn has_bad_list(&self, operation: &Operation, options: &Options, a: Option<&Grid>, c: Option<&Grid>) -> bool {
         let Some([rows, cols]) = operation.lists() else {
             return false;
         };

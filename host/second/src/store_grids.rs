@@ -328,13 +328,17 @@ mod tests {
     #[test]
     fn revisions() {
         let mut state = StoreState::new(&[0; 30], SOUND.fault);
-        let (set, clear) = (|j| StoreCall::SetCell { slot: 2, i: 0, j, value: 5 }, |j| StoreCall::ClearCell { slot: 2, i: 0, j });
+        let (set, clear) =
+            (|j| StoreCall::SetCell { slot: 2, i: 0, j, value: 5 }, |j| StoreCall::ClearCell { slot: 2, i: 0, j });
         let lay = StoreCall::NewEmpty { slot: 2, rows: 1, cols: 4 };
         let read = StoreCall::ReadCell { slot: 2, i: 0, j: 3 };
         let steps = [(lay.clone(), 0), (set(3), 1), (set(3), 2), (set(4), 2), (read, 2), (clear(1), 3), (lay, 0)];
         for (call, revision) in steps {
             SOUND.store(&mut state, &call);
-            assert_eq!(state.grids.as_ref().and_then(|grids| grids.slots[2].as_ref()).map(|grid| grid.revision), Some(revision));
+            assert_eq!(
+                state.grids.as_ref().and_then(|grids| grids.slots[2].as_ref()).map(|grid| grid.revision),
+                Some(revision)
+            );
         }
     }
 

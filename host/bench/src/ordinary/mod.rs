@@ -22,6 +22,7 @@ pub use lent::{
     row_view, select, vxm,
 };
 pub use store::{
-    store_apply, store_assign, store_clear_cell, store_drop, store_ewise_add, store_ewise_mult, store_extract, store_kronecker, store_mxm,
-    store_new_empty, store_read_cell, store_reduce, store_reduce_rows, store_select, store_set_cell, store_vxm,
+    store_apply, store_assign, store_clear_cell, store_drop, store_ewise_add, store_ewise_mult, store_extract,
+    store_kronecker, store_mxm, store_new_empty, store_read_cell, store_reduce, store_reduce_rows, store_select,
+    store_set_cell, store_vxm,
 };
