@@ -82,9 +82,8 @@ store_cells clear_cell: refused(
 store_cells clear_cell: cells::entry_at(
 store_cells clear_cell: slots::contents(
 store_cells clear_cell: store[..]
-store_cells clear_cell: matrix::entry_count(
-store_cells clear_cell: slots::contents(
-store_cells clear_cell: store[..]
+store_cells clear_cell: touch(
+store_cells clear_cell: grid::position_of(
 store_cells clear_cell: take(
 store_cells read_cell: slots::check(
 store_cells read_cell: cells::refused(
