@@ -45,6 +45,7 @@ typedef uint64_t ostrubel_size;
 #define OSTRUBEL_MIN_WORKSPACE_WORDS 15315
 #define OSTRUBEL_MIN_STORE_WORDS 8
 #define OSTRUBEL_MAX_STORE_WORDS 16384
+#define OSTRUBEL_MIN_FORMULA_WORDS 65000 /* the stack of ostrubel_store_formula */
 
 /* Bytes of stack that are enough for any call on any target; the most that is worked out for one is some 34,000. */
 #define OSTRUBEL_STACK_BYTES 49152
@@ -60,6 +61,8 @@ typedef uint64_t ostrubel_size;
 #define OSTRUBEL_MAX_INDEXES 1000
 #define OSTRUBEL_SLOTS 8
 #define OSTRUBEL_MAX_ALLOWANCE 1000 /* rounds of ostrubel_open_doors */
+#define OSTRUBEL_MAX_FORMULA_BYTES 64
+#define OSTRUBEL_MAX_BRACKETS 3 /* open at once in a formula */
 
 /* Codes of answers. */
 enum {
@@ -76,11 +79,12 @@ enum {
                                           an allowance above 1,000 */
     OSTRUBEL_INVALID_SHAPE = 8,        /* rows or columns outside 1 to 1,000; shapes of inputs, mask, C and result
                                           disagree; no vector (one row) where one is due */
-    OSTRUBEL_WORKSPACE_TOO_SHORT = 9,  /* a workspace under 15,315 words */
+    OSTRUBEL_WORKSPACE_TOO_SHORT = 9,  /* a workspace under 15,315 words, or a formula's stack under 65,000 */
     OSTRUBEL_TOO_MANY_ENTRIES = 10,    /* the final C, or the matrix a cell is set in, would have over 2,048 entries */
     OSTRUBEL_INSUFFICIENT_SPACE = 11,  /* the final C, a new matrix or the store does not fit its buffer */
     OSTRUBEL_INVALID_STORE = 12,       /* the length or the words are no store's, or a slot above 7 */
     OSTRUBEL_EMPTY_SLOT = 13,          /* a slot that must have a matrix is empty */
+    OSTRUBEL_INVALID_FORMULA = 14,     /* a text that is no formula */
     OSTRUBEL_INVALID_FILE = 15         /* bytes that are no file: of another length than their matrix's, or no matrix */
 };
 
@@ -317,6 +321,17 @@ uint64_t ostrubel_store_read_cell(ostrubel_size slot, uint32_t i, uint32_t j, co
 
 /* All values of a slot's matrix added up with a monoid, as by ostrubel_reduce. Refused by 12, 2, 13. */
 uint64_t ostrubel_store_reduce(ostrubel_size slot, uint32_t monoid, const uint32_t *store, ostrubel_size store_len);
+
+/*
+ * The value of a formula over the slots takes the place of what the target holds, if anything. The text is `text_len`
+ * bytes, at most 64, with no blanks: terms joined by +, a term factors joined by *, a factor a digit 0 to 7, which names a
+ * slot, or a formula in round brackets, of which at most three are open at once. * is the product by the monoid and the
+ * operator, + the union by the monoid's operator, both from left to right. All slots are read before the target is
+ * written. Answers the result's entries. Refused by 12, 2, 14, 13 (a slot that the text names), 9, the first failing step's
+ * 8 or 10, and 11. The stack has at least 65,000 words, and is all zeros after every call.
+ */
+uint64_t ostrubel_store_formula(ostrubel_size target, uint32_t monoid, uint32_t op, const uint8_t *text, ostrubel_size text_len,
+                                uint32_t *store, ostrubel_size store_len, uint32_t *stack, ostrubel_size stack_len);
 
 /*
  * The operations by slots, with options, operators and workspace as above. One slot may have several roles: all are

@@ -385,6 +385,39 @@ static void test_store_operations(void) {
     REFUSED(ostrubel_store_reduce(7, OSTRUBEL_MAX, WORDS(store)), OSTRUBEL_EMPTY_SLOT);
 }
 
+/* Formulas over the slots. */
+static void test_formulas(void) {
+    static uint32_t stack[OSTRUBEL_MIN_FORMULA_WORDS];
+    uint32_t store[60] = {0};
+    ACCEPTED(ostrubel_store_new_empty(0, 1, 1, WORDS(store)), 0);
+    ACCEPTED(ostrubel_store_set_cell(0, 0, 0, 2, WORDS(store)), 1);
+    ACCEPTED(ostrubel_store_new_empty(1, 1, 1, WORDS(store)), 0);
+    ACCEPTED(ostrubel_store_set_cell(1, 0, 0, 3, WORDS(store)), 1);
+    ACCEPTED(ostrubel_store_new_empty(2, 1, 2, WORDS(store)), 0);
+    stack[0] = stack[OSTRUBEL_MIN_FORMULA_WORDS - 1] = 9;
+
+    /* 2 + 3 * 3, and (2 + 3) * 3 */
+#define FORMULA(target, op, text, words) \
+    ostrubel_store_formula(target, OSTRUBEL_PLUS, op, (const uint8_t *)text, strlen(text), WORDS(store), stack, words)
+    ACCEPTED(FORMULA(5, OSTRUBEL_TIMES, "0+1*1", OSTRUBEL_MIN_FORMULA_WORDS), 1);
+    CHECK(ostrubel_store_read_cell(5, 0, 0, WORDS(store)) >> 32 == 11);
+    CHECK(stack[0] == 0 && stack[OSTRUBEL_MIN_FORMULA_WORDS - 1] == 0);
+    ACCEPTED(FORMULA(5, OSTRUBEL_TIMES, "(0+1)*1", OSTRUBEL_MIN_FORMULA_WORDS), 1);
+    CHECK(ostrubel_store_read_cell(5, 0, 0, WORDS(store)) >> 32 == 15);
+    /* 3 - 2 - 2, from left to right */
+    ACCEPTED(FORMULA(5, OSTRUBEL_MINUS, "1*0*0", OSTRUBEL_MIN_FORMULA_WORDS), 1);
+    CHECK((int32_t)(ostrubel_store_read_cell(5, 0, 0, WORDS(store)) >> 32) == -1);
+    REFUSED(FORMULA(8, 9, "", 0), OSTRUBEL_INVALID_STORE);
+    REFUSED(FORMULA(5, 9, "", 0), OSTRUBEL_UNKNOWN_OPERATOR);
+    REFUSED(FORMULA(5, OSTRUBEL_TIMES, "0+7*", 0), OSTRUBEL_INVALID_FORMULA);
+    REFUSED(FORMULA(5, OSTRUBEL_TIMES, "((((0))))", 0), OSTRUBEL_INVALID_FORMULA);
+    REFUSED(FORMULA(5, OSTRUBEL_TIMES, "0+7", 0), OSTRUBEL_EMPTY_SLOT);
+    REFUSED(FORMULA(5, OSTRUBEL_TIMES, "0+2", OSTRUBEL_MIN_FORMULA_WORDS - 1), OSTRUBEL_WORKSPACE_TOO_SHORT);
+    REFUSED(FORMULA(5, OSTRUBEL_TIMES, "0+2", OSTRUBEL_MIN_FORMULA_WORDS), OSTRUBEL_INVALID_SHAPE);
+    REFUSED(FORMULA(6, OSTRUBEL_TIMES, "0", OSTRUBEL_MIN_FORMULA_WORDS), OSTRUBEL_INSUFFICIENT_SPACE);
+#undef FORMULA
+}
+
 /* What adds one to a revision, and what does not. */
 static void test_revisions(void) {
     uint32_t c[16];
@@ -547,6 +580,7 @@ int main(void) {
     test_write_back();
     test_store_cells();
     test_store_operations();
+    test_formulas();
     test_revisions();
     test_files();
     test_limits();

@@ -55,6 +55,10 @@ invalidStore = 12
 abbrev pub emptySlot : ℕ
 emptySlot = 13
 
+-- document 02, A8: "Refuse 14 if the text isn't in this language"
+abbrev pub invalidFormula : ℕ
+invalidFormula = 14
+
 -- document 02, A1: "A file of another length than its sheet's, or of no valid sheet, is refusal 15"
 abbrev pub invalidFile : ℕ
 invalidFile = 15

@@ -27,6 +27,8 @@ pub const INVALID_STORE: u32 = 12;
 
 pub const EMPTY_SLOT: u32 = 13;
 
+pub const INVALID_FORMULA: u32 = 14;
+
 pub const INVALID_FILE: u32 = 15;
 
 // 0 and the number of entries of the matrix written or checked, or a refusal code and 0.

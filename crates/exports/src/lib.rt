@@ -25,7 +25,7 @@ ghost use Rattle.revision.specs.Revision.{revisionAnswer};
 ghost use Rattle.row_view.specs.View.{rowView, placeOf};
 ghost use Rattle.call_codes.specs.declared.Verb.the-variants as verbs;
 ghost use Rattle.call_codes.specs.Decoding.{decoded};
-ghost use Rattle.model.specs.Calls.{newEmpty, dropSlot, setCell, clearCell, readCell, operate, reduceSlot};
+ghost use Rattle.model.specs.Calls.{newEmpty, dropSlot, setCell, clearCell, readCell, operate, reduceSlot, formulaInto};
 ghost use Rattle.exports.specs.Packing.{packed, packedCell, packedNumber, presentBit, SmallRead, packedPlace};
 ghost use Rattle.exports.specs.Packing.{secondBit, SmallPlace, codeLimit};
 ghost use Rattle.exports.specs.Exported.{optionsOf, rolesNamed, sectionOf};
@@ -961,6 +961,23 @@ pub extern "C" fn ostrubel_store_reduce(slot: usize, monoid: u32, store: &[u32])
     ensures { λ r. ⌜ StoreTotalled (now (store .entry)) (reduceSlot slot monoid) r ⌝ }
 {
     pack_number(store_reduce::reduce(store, slot, monoid))
+}
+
+// The value of a formula over the slots, in the target's place. The monoid and the operator are the semiring's.
+#[no_mangle]
+pub extern "C" fn ostrubel_store_formula(
+    target: usize,
+    monoid: u32,
+    op: u32,
+    text: &[u8],
+    store: &mut [u32],
+    stack: &mut [u32],
+) -> u64
+    ensures { λ r. ⌜ StorePerformed (now (store .entry)) (formulaInto target monoid op (now (text .entry))
+        (length (now (stack .entry)))) r (now (store .exit)) ⌝
+        ∗ ⌜ now (stack .exit) ≡ replicate (length (now (stack .entry))) 0 ⌝ }
+{
+    pack(store_formulas::formula(store, target, monoid, op, text, stack))
 }
 
 // Any operation on lent matrices.

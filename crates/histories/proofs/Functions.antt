@@ -31,6 +31,7 @@ use Rattle.model.specs.Effects.{
 }
 use Rattle.model.specs.Calls.{
   OperationCall,
+  FormulaCall,
   StoreCall,
   newEmpty,
   dropSlot,
@@ -40,6 +41,8 @@ use Rattle.model.specs.Calls.{
   operation,
   operate,
   reduceSlot,
+  formula,
+  formulaInto,
   effect,
 }
 use Rattle.model.proofs.Effects.{OfKind, reply-kind, refused-kind, effect-sound}
@@ -56,10 +59,12 @@ use Rattle.histories.specs.Functions.{
   read-cell-step,
   operate-step,
   reduce-step,
+  formula-step,
   Met,
   Known,
   Free,
   Cleared,
+  StackCleared,
 }
 use Rattle.histories.specs.Promise.{Possible}
 use Rattle.store_cells.proofs.new_empty.Met as new-empty-met
@@ -76,6 +81,8 @@ use Rattle.store_calls.proofs.operate.Met as operate-met
 use Rattle.store_calls.proofs.operate.Reads as operate-reads
 use Rattle.store_reduce.proofs.reduce.Met as reduce-met
 use Rattle.store_reduce.proofs.reduce.Reads as reduce-reads
+use Rattle.store_formulas.proofs.formula.Met as formula-met
+use Rattle.store_formulas.proofs.formula.Reads as formula-reads
 
 pub met : Met
 met = record {
@@ -86,6 +93,7 @@ met = record {
   read-cell = read-cell-met.met;
   operate = operate-met.met;
   reduce = reduce-met.met;
+  formula = formula-met.met;
 }
 
 pub known : Known
@@ -97,6 +105,7 @@ known = record {
   read-cell = read-cell-reads.known;
   operate = operate-reads.known;
   reduce = reduce-reads.known;
+  formula = formula-reads.known;
 }
 
 pub free : Free
@@ -108,10 +117,14 @@ free = record {
   read-cell = λ κs s k i j. tt;
   operate = λ κs s w is js o verb named. tt;
   reduce = λ κs s k monoid. tt;
+  formula = λ κs s text w k monoid op. tt;
 }
 
 pub cleared : Cleared
 cleared κs p q x y s s′ w w′ o verb named is js answer t = t .1
+
+pub stack-cleared : StackCleared
+stack-cleared κs p q x s s′ w w′ text k monoid op answer t = t .1
 
 -- ---- what each tells
 
@@ -155,6 +168,7 @@ told (clear-cell-step p κs t) = t
 told (read-cell-step p κs t) = read-performed _ _ _ _ _ t
 told (operate-step w w′ p q x y κs t) = t .0
 told (reduce-step p κs t) = total-performed _ _ _ _ t
+told (formula-step w w′ p q x κs t) = t .0
 
 -- ---- a step of every call: the answer and the words that the contracts name
 
@@ -227,6 +241,18 @@ operates κs s x =
       refl,
     )))
 
+-- a formula, with a stack of zeros
+formulas : (κs : Lfts 3) (s : List ℕ) (x : FormulaCall) → Possible s (formula x)
+unfolding effect
+formulas κs s x =
+    rw (← (length-replicate {A = ℕ} (x .stack) 0))
+    (stepped
+    (formula-step (zeros (x .stack)) (zeros (length (zeros (x .stack)))) somewhere somewhere somewhere κs (
+      writes s (formulaInto (x .target) (x .monoid) (x .op) (x .text) (length (zeros (x .stack))))
+          (on-kind s (formulaInto (x .target) (x .monoid) (x .op) (x .text) (length (zeros (x .stack))))),
+      refl,
+    )))
+
 pub possible : Lfts 1 → Lfts 4 → (s : List ℕ) (c : StoreCall) → Possible s c
 unfolding effect
 possible κ₁ κ₄ s (newEmpty k r c) =
@@ -246,3 +272,4 @@ possible κ₁ κ₄ s (reduceSlot k monoid) =
     stepped
     (reduce-step {answer = numberIn (replyOn s (reduceSlot k monoid))} somewhere κ₁
     (totalled-answer (replyOn s (reduceSlot k monoid)) (on-kind s (reduceSlot k monoid))))
+possible κ₁ κ₄ s (formula x) = formulas (κ₄ .1) s x

@@ -1,7 +1,7 @@
 -- The promise is kept.
 use Rattle.histories.specs.Hosts.{host-functions}
 use Rattle.histories.specs.Promise.{Promise}
-use Rattle.histories.proofs.Functions.{met, known, free, cleared, told, possible}
+use Rattle.histories.proofs.Functions.{met, known, free, cleared, stack-cleared, told, possible}
 use Rattle.histories.proofs.Hosts.{host-told}
 use Rattle.histories.proofs.Claim.{kept, claim, resumed, equal-words, host-claim, host-resumed, every-run}
 
@@ -13,6 +13,7 @@ promise = record {
   told = told;
   kept = λ {s} {s′} {c} {r} t n. kept c (told t) n;
   cleared = cleared;
+  stack-cleared = stack-cleared;
   possible = possible;
   every-run = every-run;
   every = claim;

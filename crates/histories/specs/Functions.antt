@@ -16,7 +16,17 @@ use Rattle.call_codes.specs.declared.Options.{Options}
 use Rattle.call_codes.specs.declared.Verb.{Verb}
 use Rattle.model.specs.declared.Roles.{Roles}
 use Rattle.model.specs.Effects.{Reply, wrote, found, totalled}
-use Rattle.model.specs.Calls.{StoreCall, newEmpty, dropSlot, setCell, clearCell, readCell, operate, reduceSlot}
+use Rattle.model.specs.Calls.{
+  StoreCall,
+  newEmpty,
+  dropSlot,
+  setCell,
+  clearCell,
+  readCell,
+  operate,
+  reduceSlot,
+  formulaInto,
+}
 use Rattle.store_cells.proofs.new_empty.Reads as new-empty-reads
 use Rattle.store_cells.proofs.new_empty.Statement as new-empty-statement
 use Rattle.store_cells.proofs.new_empty.Kinds as new-empty-kinds
@@ -38,6 +48,9 @@ use Rattle.store_calls.proofs.operate.Kinds as operate-kinds
 use Rattle.store_reduce.proofs.reduce.Reads as reduce-reads
 use Rattle.store_reduce.proofs.reduce.Statement as reduce-statement
 use Rattle.store_reduce.proofs.reduce.Kinds as reduce-kinds
+use Rattle.store_formulas.proofs.formula.Reads as formula-reads
+use Rattle.store_formulas.proofs.formula.Statement as formula-statement
+use Rattle.store_formulas.proofs.formula.Kinds as formula-kinds
 
 -- One call on the words s: its reply and the words s′ after it are what the contract of its function tells a caller.
 -- Index lists, and the words that a read is lent, are borrowed by `&` and stay. "Each call brings index lists and a work
@@ -66,6 +79,11 @@ pub data Step : List ℕ → StoreCall → Reply → List ℕ → Type 0 where
   reduce-step : {s : List ℕ} {k monoid : ℕ} {answer : NumberAnswer} (p : Address) (κs : Lfts 1)
       → reduce-reads.Learnt κs (lent p s, (k, (monoid, tt))) answer (lent p s, (k, (monoid, tt)))
       → Step s (reduceSlot k monoid) (totalled answer) s
+  formula-step : {s s′ : List ℕ} (w w′ : List ℕ) {k monoid op : ℕ} {text : List ℕ} {answer : Answer} (p q x : Address)
+      (κs : Lfts 3)
+      → formula-reads.Learnt κs (lent p s, (k, (monoid, (op, (lent x text, (lent q w, tt)))))) answer
+      (lent p s′, (k, (monoid, (op, (lent x text, (lent q w′, tt))))))
+      → Step s (formulaInto k monoid op text (length w)) (wrote answer) s′
 
 -- each function's code meets its contract
 pub record Met : Type 3 where
@@ -76,6 +94,7 @@ pub record Met : Type 3 where
   pub read-cell : {M : Type 1} → read-cell-statement.statement M
   pub operate : {M : Type 1} → operate-statement.statement M
   pub reduce : {M : Type 1} → reduce-statement.statement M
+  pub formula : {M : Type 1} → formula-statement.statement M
 
 -- and what a caller learns follows from what is proved of the code: the lemma that is generated for each function
 pub record Known : Type 3 where
@@ -100,6 +119,9 @@ pub record Known : Type 3 where
   pub reduce : KnownAs 1 reduce-kinds.ps reduce-kinds.r reduce-reads.Ghost
       reduce-reads.requires reduce-reads.ensures
       reduce-reads.Asked reduce-reads.Learnt
+  pub formula : KnownAs 3 formula-kinds.ps formula-kinds.r formula-reads.Ghost
+      formula-reads.requires formula-reads.ensures
+      formula-reads.Asked formula-reads.Learnt
 
 -- a caller has nothing to show
 pub record Free : Type 3 where
@@ -111,6 +133,8 @@ pub record Free : Type 3 where
   pub operate : (κs : Lfts 4) (s w is js : RefT (List ℕ)) (o : Options) (verb : Verb) (named : Roles)
       → operate-reads.Asked κs (s, (o, (verb, (named, (is, (js, (w, tt)))))))
   pub reduce : (κs : Lfts 1) (s : RefT (List ℕ)) (k monoid : ℕ) → reduce-reads.Asked κs (s, (k, (monoid, tt)))
+  pub formula : (κs : Lfts 3) (s text w : RefT (List ℕ)) (k monoid op : ℕ)
+      → formula-reads.Asked κs (s, (k, (monoid, (op, (text, (w, tt))))))
 
 -- "The work buffer is all zeros over its whole length after every call that has one"
 abbrev pub Cleared : Type 0
@@ -118,4 +142,11 @@ Cleared = (κs : Lfts 4) (p q x y : Address) (s s′ w w′ : List ℕ) (o : Opt
     (is js : List ℕ) (answer : Answer)
     → operate-reads.Learnt κs (lent p s, (o, (verb, (named, (lent x is, (lent y js, (lent q w, tt))))))) answer
     (lent p s′, (o, (verb, (named, (lent x is, (lent y js, (lent q w′, tt)))))))
+    → w′ ≡ replicate (length w) 0
+
+-- "The stack buffer is lent by the host, .. zeros after every call"
+abbrev pub StackCleared : Type 0
+StackCleared = (κs : Lfts 3) (p q x : Address) (s s′ w w′ text : List ℕ) (k monoid op : ℕ) (answer : Answer)
+    → formula-reads.Learnt κs (lent p s, (k, (monoid, (op, (lent x text, (lent q w, tt)))))) answer
+    (lent p s′, (k, (monoid, (op, (lent x text, (lent q w′, tt))))))
     → w′ ≡ replicate (length w) 0

@@ -7,7 +7,17 @@ use lib.ListN.{length, replicate}
 use contract.Lifetimes.{Lfts}
 use borrow.Fn.Picked.{KnownAs}
 use Rattle.call_codes.specs.declared.Verb.the-variants as verbs
-use Rattle.model.specs.Calls.{StoreCall, newEmpty, dropSlot, setCell, clearCell, readCell, operate, reduceSlot}
+use Rattle.model.specs.Calls.{
+  StoreCall,
+  newEmpty,
+  dropSlot,
+  setCell,
+  clearCell,
+  readCell,
+  operate,
+  reduceSlot,
+  formulaInto,
+}
 use Rattle.exports.specs.Exported.{optionsOf, rolesNamed, StorePerformed, StoreRead, StoreTotalled}
 use Rattle.exports.proofs.ostrubel_store_new_empty.Reads as new-empty-reads
 use Rattle.exports.proofs.ostrubel_store_new_empty.Statement as new-empty-statement
@@ -73,6 +83,10 @@ use Rattle.exports.proofs.ostrubel_store_reduce.Reads as reduce-reads
 use Rattle.exports.proofs.ostrubel_store_reduce.Statement as reduce-statement
 use Rattle.exports.proofs.ostrubel_store_reduce.Kinds as reduce-kinds
 use Rattle.exports.proofs.ostrubel_store_reduce.Met as reduce-met
+use Rattle.exports.proofs.ostrubel_store_formula.Reads as formula-reads
+use Rattle.exports.proofs.ostrubel_store_formula.Statement as formula-statement
+use Rattle.exports.proofs.ostrubel_store_formula.Kinds as formula-kinds
+use Rattle.exports.proofs.ostrubel_store_formula.Met as formula-met
 use Rattle.words.specs.Lent.{Address, lent}
 
 -- one call of a host on the words s, its answer in one number, and the words after it: what the function's contract tells
@@ -180,8 +194,13 @@ pub data HostStep : List ℕ → StoreCall → ℕ → List ℕ → Type 0 where
   reduce-step : (κs : Lfts 1) (p : Address) {s : List ℕ} {k monoid answer : ℕ}
       → reduce-reads.Learnt κs (k, (monoid, (lent p s, tt))) answer (k, (monoid, (lent p s, tt)))
       → HostStep s (reduceSlot k monoid) answer s
+  formula-step : (κs : Lfts 3) (p q x : Address) (w w′ : List ℕ) {s s′ : List ℕ} (text : List ℕ) (k monoid op : ℕ)
+      {answer : ℕ}
+      → formula-reads.Learnt κs (k, (monoid, (op, (lent x text, (lent p s, (lent q w, tt)))))) answer
+      (k, (monoid, (op, (lent x text, (lent p s′, (lent q w′, tt))))))
+      → HostStep s (formulaInto k monoid op text (length w)) answer s′
 
--- what that is: a call that may write; an operation, which also leaves its workspace zeros; a read and a reduction to a
+-- what that is: a call that may write; an operation or a formula, which also leaves its workspace zeros; a read and a reduction to a
 -- number, which leave the words
 pub data Tells : List ℕ → StoreCall → ℕ → List ℕ → Type 0 where
   wrote : {s s′ : List ℕ} {c : StoreCall} {r : ℕ} → StorePerformed s c r s′ → Tells s c r s′
@@ -207,6 +226,7 @@ tells (reduce-rows-step κs p q w w′ flags masked accumulated number monoid a 
 tells (assign-step κs p q x y w w′ is js flags masked accumulated number a m c t) = operated w w′ (t .0) (t .1)
 tells (kronecker-step κs p q w w′ flags masked accumulated number op a b m c t) = operated w w′ (t .0) (t .1)
 tells (reduce-step κs p t) = totalled t
+tells (formula-step κs p q x w w′ text k monoid op t) = operated w w′ (t .0) (t .1)
 
 -- of each function: its code meets its contract, what a caller learns follows from that, and a caller has nothing to show
 pub record Exported (n : ℕ) {A : Lfts n → Type 0} (statement : Type 1 → Type 2) (asked : (κs : Lfts n) → A κs → Type 0)
@@ -277,6 +297,10 @@ pub record HostFunctions : Type 3 where
       (KnownAs 1 reduce-kinds.ps reduce-kinds.r reduce-reads.Ghost
       reduce-reads.requires reduce-reads.ensures reduce-reads.Asked
       reduce-reads.Learnt)
+  pub formula : Exported 3 formula-statement.statement (λ κs a. formula-reads.Asked κs a)
+      (KnownAs 3 formula-kinds.ps formula-kinds.r formula-reads.Ghost
+      formula-reads.requires formula-reads.ensures formula-reads.Asked
+      formula-reads.Learnt)
 
 pub host-functions : HostFunctions
 host-functions = record {
@@ -296,4 +320,5 @@ host-functions = record {
   assign = record { met = assign-met.met; known = assign-reads.known; free = λ κs a. tt };
   kronecker = record { met = kronecker-met.met; known = kronecker-reads.known; free = λ κs a. tt };
   reduce = record { met = reduce-met.met; known = reduce-reads.known; free = λ κs a. tt };
+  formula = record { met = formula-met.met; known = formula-reads.known; free = λ κs a. tt };
 }

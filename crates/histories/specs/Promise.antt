@@ -8,7 +8,7 @@ use contract.Lifetimes.{Lfts}
 use Rattle.model.specs.Effects.{Reply, codeOf}
 use Rattle.model.specs.Calls.{StoreCall}
 use Rattle.store_encoding.specs.Stores.{Performed}
-use Rattle.histories.specs.Functions.{Step, Met, Known, Free, Cleared}
+use Rattle.histories.specs.Functions.{Step, Met, Known, Free, Cleared, StackCleared}
 use Rattle.histories.specs.Hosts.{HostStep, HostFunctions}
 use Rattle.histories.specs.Lists.{Runs, Claim, Resumed, EqualWords, HostTold, HostClaim, HostResumed}
 
@@ -34,6 +34,7 @@ pub record Promise : Type 3 where
   -- "A refused call changes nothing"
   pub kept : {s s′ : List ℕ} {c : StoreCall} {r : Reply} → Step s c r s′ → (codeOf r ≡ 0 → ⊥) → s′ ≡ s
   pub cleared : Cleared
+  pub stack-cleared : StackCleared
   -- there is a step of every call on any words, and so a run of every list
   pub possible : Lfts 1 → Lfts 4 → (s : List ℕ) (c : StoreCall) → Possible s c
   pub every-run : Lfts 1 → Lfts 4 → (s : List ℕ) (cs : List StoreCall) → PossibleRun s cs

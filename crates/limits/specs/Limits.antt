@@ -36,3 +36,7 @@ maxRevision = 4294967295
 -- A13: "an allowance of 0 to 1,000 rounds"
 abbrev pub maxAllowance : ℕ
 maxAllowance = 1000
+
+-- A8: "The stack buffer is lent by the host, at least 65,000 words"
+abbrev pub minStackWords : ℕ
+minStackWords = 65000

@@ -29,3 +29,6 @@ pub const MAX_REVISION: u32 = 4294967295;
 
 // An allowance of rounds is 0 to this.
 pub const MAX_ALLOWANCE: u32 = 1000;
+
+// The stack of a formula over a store has at least this many words.
+pub const MIN_STACK_WORDS: usize = 65000;

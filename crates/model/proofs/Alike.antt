@@ -52,7 +52,8 @@ alike-refl (x ∷ m) = (one x, alike-refl m)
     one vacant = tt
     one (holding v g) = (refl, same-refl g)
 
-alike-at : (m m′ : Model) (k : ℕ) → Alike m m′ → AlikeSlots (slotOf m k) (slotOf m′ k)
+-- slots at one place
+pub alike-at : (m m′ : Model) (k : ℕ) → Alike m m′ → AlikeSlots (slotOf m k) (slotOf m′ k)
 alike-at [] [] k a = tt
 alike-at [] (y ∷ m′) k a = absurd a
 alike-at (x ∷ m) [] k a = absurd a
@@ -67,7 +68,7 @@ alike-put (z ∷ m) [] k x y a s = absurd a
 alike-put (z ∷ m) (v ∷ m′) zero x y a s = (s, a .1)
 alike-put (z ∷ m) (v ∷ m′) (suc k) x y a s = (a .0, alike-put m m′ k x y (a .1) s)
 
-alike-vacant : (x y : Slot) → AlikeSlots x y → isVacant x ≡ isVacant y
+pub alike-vacant : (x y : Slot) → AlikeSlots x y → isVacant x ≡ isVacant y
 alike-vacant vacant vacant a = refl
 alike-vacant vacant (holding u h) a = absurd a
 alike-vacant (holding v g) vacant a = absurd a

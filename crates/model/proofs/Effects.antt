@@ -60,6 +60,7 @@ use Rattle.model.specs.Calls.{
   readCell,
   operation,
   reduceSlot,
+  formula,
   operateOf,
   operated,
   noSlot,
@@ -73,6 +74,7 @@ use Rattle.model.specs.Calls.{
 }
 use Rattle.model.proofs.Alike.{Alike, alike-put, grid-same, revision-same, no-grid, cell-cases, room-same, fit-same}
 use Rattle.model.proofs.Fitting.{Fitting, put-fits, dropped-fits, shaped-fits, fewer-fits}
+use Rattle.model.proofs.Formulas.{formula-coded, formula-fits, formula-same, formula-grid-same}
 use Rattle.model.proofs.Operations.{operation-coded, operation-fits, operation-same, operated-same}
 
 -- ---- any effect
@@ -233,6 +235,8 @@ module _ (n : ℕ) (m m′ : Model) (a : Alike m m′) where
         ap (λ (v : ℕ). totalled (numberAnswer v)) (total-same _ (gridAt m k) (gridAt m′ k) (grid-same n m m′ a k));
     change = λ z. a;
   }
+  effect-same (formula x) =
+      putting-same making _ _ _ n m m′ a (formula-same n m m′ a x) (λ z. formula-grid-same n m m′ a x z)
 
 -- ---- call by call: what fits
 module _ (n : ℕ) (m : Model) (h : Fitting n m) where
@@ -268,6 +272,7 @@ module _ (n : ℕ) (m : Model) (h : Fitting n m) where
   effect-fits (readCell k i j) z = h
   effect-fits (operation x) z = operation-fits n m (operateOf x) _ h z
   effect-fits (reduceSlot k number) z = h
+  effect-fits (formula x) z = formula-fits n m x h z
 
 -- ---- call by call: answers and codes
 cell-coded : (m : Model) (k i j : ℕ) → Coded (cellCases m k i j)
@@ -298,3 +303,4 @@ effect-sound (reduceSlot k number) = record {
   accepted-code = λ m. refl;
   of-kind = λ m. tt;
 }
+effect-sound (formula x) = putting-sound making _ _ _ (λ n m. formula-coded n m x)

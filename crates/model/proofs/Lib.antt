@@ -1,4 +1,5 @@
 pub mod Alike
 pub mod Fitting
 pub mod Operations
+pub mod Formulas
 pub mod Effects

@@ -3,9 +3,9 @@
 use Prim.Native.Nat.{ℕ}
 use mathlib.Core.Bool.{cond, not}
 use mathlib.Core.List.{List, [], _∷_, _++_}
-use lib.Dec.{leb, ltb}
+use lib.Dec.{leb, ltb, eqb}
 use Rattle.conditions.specs.Tests.{_and_}
-use Rattle.limits.specs.Limits.{slotCount, maxRows, maxCols}
+use Rattle.limits.specs.Limits.{slotCount, maxRows, maxCols, minStackWords}
 use Rattle.limits.specs.Ranges.{inRange}
 use Rattle.answers.specs.Refusals.{
   indexOutOfBounds,
@@ -14,6 +14,9 @@ use Rattle.answers.specs.Refusals.{
   invalidStore,
   emptySlot,
   unknownOperator,
+  workspaceTooShort,
+  tooManyEntries,
+  invalidFormula,
   accepted,
 }
 use Rattle.answers.specs.Reads.{foundAnswer}
@@ -27,12 +30,15 @@ use Rattle.operations.specs.declared.Call.{Call}
 use Rattle.operations.specs.Calls.{hasSecond, callFinal}
 use Rattle.call_codes.specs.declared.Options.{Options}
 use Rattle.call_codes.specs.declared.Verb.{Verb}
-use Rattle.call_codes.specs.Decoding.{monoidKnown, monoidOf, decoded}
-use Rattle.operator_codes.specs.Codes.{monoidNumbered}
+use Rattle.call_codes.specs.Decoding.{monoidKnown, monoidOf, binaryKnown, binaryOf, decoded}
+use Rattle.operator_codes.specs.Codes.{monoidNumbered, binaryNumbered}
+use Rattle.formula_texts.specs.Reader.{accepted as inLanguage}
+use Rattle.formula_values.specs.Values.{Value, valueCode, valueGrid}
 use Rattle.reductions.specs.Reductions.{gridTotal}
 use Rattle.refusals.specs.Cases.{Case, given, numberCases, agreementCases, outputCases}
 use Rattle.model.specs.declared.Roles.{Roles}
 use Rattle.model.specs.Model.{vacant, Model, slotOf, isVacant, gridAt, neededWith}
+use Rattle.model.specs.Formulas.{textValue, namesVacant}
 use Rattle.model.specs.Effects.{
   writing,
   reading,
@@ -58,8 +64,16 @@ pub record OperationCall : Type 0 where
   pub js : List ℕ
   pub work : ℕ
 
+-- document 02, A8: a formula over the slots, whose result "replaces the target place"; "the wall is given the text too"
+pub record FormulaCall : Type 0 where
+  pub target : ℕ
+  pub monoid : ℕ
+  pub op : ℕ
+  pub text : List ℕ
+  pub stack : ℕ
+
 -- "Calls: lay (what was there goes), drop, set a cell, clear a cell, read a cell, and the six operations"; document 02,
--- A4: "all are shelf calls too"; A14: "Both .. are shelf calls"
+-- A4: "all are shelf calls too"; A14: "Both .. are shelf calls"; A8: "Demand 3 includes these calls"
 pub data StoreCall : Type 0 where
   newEmpty : (slot rows cols : ℕ) → StoreCall
   dropSlot : (slot : ℕ) → StoreCall
@@ -68,11 +82,17 @@ pub data StoreCall : Type 0 where
   readCell : (slot i j : ℕ) → StoreCall
   operation : OperationCall → StoreCall
   reduceSlot : (slot monoid : ℕ) → StoreCall
+  formula : FormulaCall → StoreCall
 
 -- an operation by all that its function is given
 abbrev pub operate : Options → Verb → Roles → List ℕ → List ℕ → ℕ → StoreCall
 operate o verb named is js work =
     operation (record { options = o; verb = verb; named = named; is = is; js = js; work = work })
+
+-- a formula by all that its function is given
+abbrev pub formulaInto : (target monoid op : ℕ) → List ℕ → ℕ → StoreCall
+formulaInto k monoid op text stack =
+    formula (record { target = k; monoid = monoid; op = op; text = text; stack = stack })
 
 -- ---- the refusals of a slot, a grid and a cell
 
@@ -160,6 +180,34 @@ operationCases n m o =
 abbrev pub operationEffect : Operate → Effect
 operationEffect o = puttingGrid updating (o .roles .output) (λ m. operated m o) (λ n m. operationCases n m o)
 
+-- ---- a formula
+
+-- what its text is worth
+abbrev pub formulaOn : Model → FormulaCall → Value
+formulaOn m x =
+    textValue (monoidOf (monoidNumbered (x .monoid))) (binaryOf (binaryNumbered (x .op))) m (x .text)
+
+-- 2: "One semiring is named"
+abbrev pub noSemiring : ℕ → ℕ → Case
+noSemiring monoid op =
+    given unknownOperator (not (monoidKnown (monoidNumbered monoid) and binaryKnown (binaryNumbered op)))
+
+-- "the first failing step's 8 or 10"
+abbrev pub stepCases : Value → List Case
+stepCases v =
+    given invalidShape (eqb (valueCode v) invalidShape) ∷ given tooManyEntries (eqb (valueCode v) tooManyEntries) ∷ []
+
+-- "Refuse 14 if the text isn't in this language, after 12 and 2, then 13 for an empty place read, then 9, then the first
+-- failing step's 8 or 10 .., then 11."
+abbrev pub formulaCases : ℕ → Model → FormulaCall → List Case
+formulaCases n m x =
+    noSlot (x .target)
+    ∷ noSemiring (x .monoid) (x .op)
+    ∷ given invalidFormula (not (inLanguage (x .text)))
+    ∷ given emptySlot (namesVacant m (x .text))
+    ∷ given workspaceTooShort (ltb (x .stack) minStackWords)
+    ∷ (stepCases (formulaOn m x) ++ (noRoom n m (x .target) (valueGrid (formulaOn m x)) ∷ []))
+
 -- ---- every call
 
 -- set "puts the value into the named cell", and clear "leaves none there"
@@ -207,3 +255,5 @@ effect (reduceSlot k number) = record {
   change = λ m. keeps;
   answer = λ m. totalled (numberAnswer (gridTotal (monoidOf (monoidNumbered number)) (gridAt m k)));
 }
+-- document 02, A8: "The result replaces the target place, empty or not"; A12: "Sheets made by recipes .. start at 0"
+effect (formula x) = puttingGrid making (x .target) (λ m. valueGrid (formulaOn m x)) (λ n m. formulaCases n m x)

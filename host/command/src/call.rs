@@ -21,6 +21,7 @@ pub enum Call {
     Diff { old: Whole, new: Whole, picture: bool },
     Reduce { slot: Whole, monoid: Monoid },
     Operation(Operation),
+    Formula(Formula),
     Doors(Doors),
 }
 
@@ -29,6 +30,14 @@ pub struct Cell {
     pub slot: Whole,
     pub row: Whole,
     pub col: Whole,
+}
+
+/// A formula over the slots, and the slot that takes its value.
+#[derive(Debug)]
+pub struct Formula {
+    pub target: Whole,
+    pub text: String,
+    pub semiring: Semiring,
 }
 
 /// Keys behind doors: the slots of the three sheets that are read, and the rounds.
@@ -144,6 +153,7 @@ impl Call {
                 vec![Role { name: "P", slot: old, transposed: false }, Role { name: "Q", slot: new, transposed: false }]
             }
             Call::Operation(operation) => operation.roles(),
+            Call::Formula(formula) => vec![Role { name: "TARGET", slot: &formula.target, transposed: false }],
             Call::Doors(doors) => doors.roles(),
         }
     }
@@ -194,6 +204,11 @@ fn call_of(command: Command, arguments: &mut Arguments) -> Result<Call, Usage> {
         Command::List => Ok(Call::List),
         Command::Diff => {
             Ok(Call::Diff { old: arguments.whole(0)?, new: arguments.whole(1)?, picture: arguments.flag("--picture") })
+        }
+        Command::Formula => {
+            let semiring = arguments.required("--semiring", parse_semiring)?;
+            let text = arguments.word(1)?.to_string_lossy().into_owned();
+            Ok(Call::Formula(Formula { target: arguments.whole(0)?, text, semiring }))
         }
         Command::Doors => Ok(Call::Doors(Doors {
             locks: arguments.whole(0)?,

@@ -52,6 +52,10 @@ fn attempt(call: &Call, store: &mut Store, look: &Look) -> Result<String, Error>
             let entries = operate(operation, store)?;
             Ok(written(&operation.c, entries))
         }
+        Call::Formula(formula) => {
+            let entries = store.formula(formula.target.size(), &formula.text, formula.semiring)?;
+            Ok(written(&formula.target, entries))
+        }
         Call::Doors(doors) => open_doors(doors, store),
     }
 }

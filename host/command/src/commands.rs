@@ -25,6 +25,7 @@ pub enum Command {
     ReduceRows,
     Assign,
     Kronecker,
+    Formula,
     Reduce,
     Run,
     Merge,
@@ -43,7 +44,7 @@ const WRITE_BACK: [&str; 7] =
     ["--mask", "--structural", "--complement", "--replace", "--accum", "--transpose-a", "--transpose-b"];
 
 impl Command {
-    pub const ALL: [Command; 34] = [
+    pub const ALL: [Command; 35] = [
         Command::New,
         Command::Lay,
         Command::Drop,
@@ -67,6 +68,7 @@ impl Command {
         Command::ReduceRows,
         Command::Assign,
         Command::Kronecker,
+        Command::Formula,
         Command::Reduce,
         Command::Run,
         Command::Merge,
@@ -105,6 +107,7 @@ impl Command {
             Command::ReduceRows => "reduceRows",
             Command::Assign => "assign",
             Command::Kronecker => "kronecker",
+            Command::Formula => "formula",
             Command::Reduce => "reduce",
             Command::Run => "run",
             Command::Merge => "merge",
@@ -141,6 +144,7 @@ impl Command {
             Command::Mxm | Command::EwiseMult | Command::EwiseAdd | Command::Kronecker => &["C", "A", "B"],
             Command::Vxm => &["C", "U", "A"],
             Command::Apply | Command::Extract | Command::Select | Command::ReduceRows | Command::Assign => &["C", "A"],
+            Command::Formula => &["TARGET", "FORMULA"],
             Command::Doors => &["LOCKS", "CABINETS", "HAND", "ALLOWANCE"],
             Command::Run => &["SCRIPT"],
             Command::Merge => &["PLACE", "SHEET.."],
@@ -157,7 +161,7 @@ impl Command {
             Command::Read => vec!["--position", "--json"],
             Command::Show => vec!["--json", "--svg", "--html", "--revision"],
             Command::List => vec!["--json"],
-            Command::Mxm | Command::Vxm => vec!["--semiring"],
+            Command::Mxm | Command::Vxm | Command::Formula => vec!["--semiring"],
             Command::EwiseMult | Command::EwiseAdd | Command::Kronecker => vec!["--op"],
             Command::Apply => vec!["--op", "--first", "--second", "--scalar"],
             Command::Extract | Command::Assign => vec!["--rows", "--cols"],

@@ -3,8 +3,8 @@
 use crate::commands::Command;
 use crate::{guard, labels, script};
 use ostrubel::{
-    Error, MAX_ALLOWANCE, MAX_COLS, MAX_ENTRIES, MAX_FILE_BYTES, MAX_INDEXES, MAX_MATRIX_WORDS, MAX_ROWS,
-    MAX_STORE_WORDS, MIN_STORE_WORDS, SLOTS,
+    Error, MAX_ALLOWANCE, MAX_BRACKETS, MAX_COLS, MAX_ENTRIES, MAX_FILE_BYTES, MAX_FORMULA_BYTES, MAX_INDEXES,
+    MAX_MATRIX_WORDS, MAX_ROWS, MAX_STORE_WORDS, MIN_STORE_WORDS, SLOTS,
 };
 
 const PAGE_WIDTH: usize = 98;
@@ -28,6 +28,8 @@ fn filled(text: &str) -> String {
         ("{MAX_ENTRIES}", MAX_ENTRIES),
         ("{MAX_INDEXES}", MAX_INDEXES),
         ("{MAX_ALLOWANCE}", MAX_ALLOWANCE as usize),
+        ("{MAX_BRACKETS}", MAX_BRACKETS),
+        ("{MAX_FORMULA_BYTES}", MAX_FORMULA_BYTES),
         ("{LAST_PLACE}", SLOTS - 1),
         ("{MIN_WORDS}", MIN_STORE_WORDS),
         ("{MAX_WORDS}", MAX_STORE_WORDS),
@@ -133,6 +135,7 @@ fn command_text(command: Command) -> &'static str {
         Command::ReduceRows => include_str!("help/reduce_rows.txt"),
         Command::Assign => include_str!("help/assign.txt"),
         Command::Kronecker => include_str!("help/kronecker.txt"),
+        Command::Formula => include_str!("help/formula.txt"),
         Command::Reduce => include_str!("help/reduce.txt"),
         Command::Run => include_str!("help/run.txt"),
         Command::Merge => include_str!("help/merge.txt"),
@@ -159,6 +162,7 @@ fn refusals() -> String {
         Error::InvalidShape,
         Error::TooManyEntries,
         Error::InsufficientSpace,
+        Error::InvalidFormula,
         Error::InvalidFile,
     ] {
         let mut line = format!("{:>4} ", error.number());

@@ -7,8 +7,8 @@ use crate::names::{IndexList, Whole};
 use crate::shelf_file;
 use crate::text::shown_path;
 use ostrubel::{
-    Error, Store, MAX_ALLOWANCE, MAX_COLS, MAX_FILE_BYTES, MAX_INDEXES, MAX_ROWS, MAX_STORE_WORDS, MIN_STORE_WORDS,
-    SLOTS,
+    check_formula, Error, FormulaError, Store, MAX_ALLOWANCE, MAX_COLS, MAX_FILE_BYTES, MAX_INDEXES, MAX_ROWS,
+    MAX_STORE_WORDS, MIN_STORE_WORDS, SLOTS,
 };
 use std::collections::BTreeSet;
 use std::fmt;
@@ -104,6 +104,9 @@ impl Refusal {
                 let sentence = format!("ALLOWANCE is 0 to {MAX_ALLOWANCE} rounds, and not {}.", doors.allowance);
                 (Some(sentence), Vec::new())
             }
+            (Error::InvalidFormula, Call::Formula(formula)) => (None, misread(&formula.text)),
+            (Error::EmptySlot, Call::Formula(formula)) => (None, empty_places(&formula.text, store)),
+            (Error::InvalidShape | Error::TooManyEntries, Call::Formula(_)) => (None, Vec::new()),
             (Error::EmptySlot, _) => (None, places(call, |role| !store.occupied(role.slot.size()))),
             (Error::IndexOutOfBounds, _) => (None, outside(call, store)),
             (Error::TooManyEntries, _) => (None, entries(call, store)),
@@ -112,6 +115,25 @@ impl Refusal {
         };
         Refusal { error, sentence: sentence.unwrap_or_else(|| error.to_string()), about }
     }
+}
+
+/// Where a text stops being a formula.
+fn misread(text: &str) -> Vec<String> {
+    let Err(FormulaError::Text { at }) = check_formula(text) else {
+        return Vec::new();
+    };
+    let (front, rest) = text.split_at_checked(at).unwrap_or((text, ""));
+    let fault = match rest.chars().next() {
+        Some(sign) => format!("{sign:?} cannot stand there"),
+        None => "the text ends too early".to_string(),
+    };
+    vec![if front.is_empty() { fault } else { format!("after {front:?} {fault}") }]
+}
+
+/// The empty places that a formula names, each once.
+fn empty_places(text: &str, store: &Store) -> Vec<String> {
+    let named: BTreeSet<usize> = text.chars().filter_map(|sign| sign.to_digit(8)).map(|slot| slot as usize).collect();
+    named.into_iter().filter(|&slot| !store.occupied(slot)).map(|slot| format!("place {slot}")).collect()
 }
 
 /// A number of bytes, of which no more than `most` and one were read.

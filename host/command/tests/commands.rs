@@ -428,7 +428,7 @@ fn the_examples_of_all_pages() {
     let mut lines = vec!["ostrubel new keys.shelf 5000; ostrubel new other.shelf 1000".to_string()];
     folder.write("house.names", "row 2 medicine cupboard\n");
     let pages = "lay set clear read show list drop mxm vxm eWiseMult eWiseAdd apply extract select reduceRows assign \
-                 kronecker reduce revision doors run export import diff merge copy resize convert names man";
+                 kronecker formula reduce revision doors run export import diff merge copy resize convert names man";
     let shapes = [
         ("mxm", "0 4 4, 1 4 4"),
         ("vxm", "1 1 5, 2 5 3, 3 1 3"),
@@ -443,6 +443,7 @@ fn the_examples_of_all_pages() {
         ("merge", "0 5 4, 1 5 4"),
         ("assign", "0 1 4, 1 5 4"),
         ("kronecker", "0 2 3, 1 4 1, 2 8 3"),
+        ("formula", "0 4 4"),
     ];
     for name in pages.split(' ') {
         let laid = shapes.iter().filter(|(page, _)| *page == name).flat_map(|(_, shapes)| shapes.split(", "));

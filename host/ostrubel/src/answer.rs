@@ -30,7 +30,7 @@ pub fn number(answer: u64) -> Result<i32, Error> {
     Ok(upper_word(answer) as i32)
 }
 
-/// The codes are 0 to 13 and 15: no other can be answered.
+/// The codes are 0 to 15: no other can be answered.
 fn accepted(answer: u64) -> Result<(), Error> {
     match (answer & 255) as u32 {
         0 => Ok(()),

@@ -28,6 +28,17 @@ mod c {
         pub fn ostrubel_write_file(words: *const u32, n: usize, bytes: *mut u8, bytes_n: usize) -> u64;
         pub fn ostrubel_write_text(words: *const u32, n: usize, bytes: *mut u8, bytes_n: usize) -> u64;
         pub fn ostrubel_store_reduce(slot: usize, monoid: u32, store: *const u32, n: usize) -> u64;
+        pub fn ostrubel_store_formula(
+            target: usize,
+            monoid: u32,
+            op: u32,
+            text: *const u8,
+            text_n: usize,
+            store: *mut u32,
+            n: usize,
+            stack: *mut u32,
+            stack_n: usize,
+        ) -> u64;
     }
 }
 
@@ -119,6 +130,23 @@ pub fn write_text(words: &[u32], bytes: &mut [u8]) -> u64 {
 /// All values of a slot's matrix added up with a monoid.
 pub fn store_reduce(slot: usize, monoid: u32, store: &[u32]) -> u64 {
     unsafe { c::ostrubel_store_reduce(slot, monoid, store.as_ptr(), store.len()) }
+}
+
+/// The value of a formula over the slots, in the target's place.
+pub fn store_formula(target: usize, monoid: u32, op: u32, text: &[u8], store: &mut [u32], stack: &mut [u32]) -> u64 {
+    unsafe {
+        c::ostrubel_store_formula(
+            target,
+            monoid,
+            op,
+            text.as_ptr(),
+            text.len(),
+            store.as_mut_ptr(),
+            store.len(),
+            stack.as_mut_ptr(),
+            stack.len(),
+        )
+    }
 }
 
 /// An operation on lent matrices and on a store: the C functions and a safe function for each. In brackets: its

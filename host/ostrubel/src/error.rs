@@ -1,8 +1,8 @@
 //! Refusals.
 
 use crate::limits::{
-    MAX_ALLOWANCE, MAX_COLS, MAX_ENTRIES, MAX_FILE_BYTES, MAX_INDEXES, MAX_ROWS, MAX_STORE_WORDS, MIN_STORE_WORDS,
-    SLOTS, WORKSPACE_WORDS,
+    FORMULA_WORDS, MAX_ALLOWANCE, MAX_BRACKETS, MAX_COLS, MAX_ENTRIES, MAX_FILE_BYTES, MAX_FORMULA_BYTES, MAX_INDEXES,
+    MAX_ROWS, MAX_STORE_WORDS, MIN_STORE_WORDS, SLOTS, WORKSPACE_WORDS,
 };
 use crate::operators::{BinaryOp, IndexUnaryOp, Monoid, SelectOp, UnaryOp};
 use std::borrow::Cow;
@@ -43,7 +43,8 @@ pub enum Error {
     /// 8: rows or columns outside 1 to [`MAX_ROWS`] and [`MAX_COLS`], shapes that disagree, or more than one row where a
     /// vector is due.
     InvalidShape = 8,
-    /// 9: a workspace under [`WORKSPACE_WORDS`] words. `Matrix` and `Store` provide one that is long enough.
+    /// 9: a workspace under [`WORKSPACE_WORDS`] words, or under [`FORMULA_WORDS`] for a formula. `Matrix` and `Store`
+    /// provide one that is long enough.
     WorkspaceTooShort = 9,
     /// 10: a matrix would have over [`MAX_ENTRIES`] entries.
     TooManyEntries = 10,
@@ -53,13 +54,15 @@ pub enum Error {
     InvalidStore = 12,
     /// 13: a slot that must have a matrix is empty.
     EmptySlot = 13,
+    /// 14: a text that is no formula.
+    InvalidFormula = 14,
     /// 15: bytes that are no file: their number is not that of a matrix's file, or they are no valid matrix.
     InvalidFile = 15,
 }
 
 impl Error {
     /// All refusals, in the order of their numbers.
-    pub const ALL: [Error; 14] = [
+    pub const ALL: [Error; 15] = [
         Error::FlagsOutOfRange,
         Error::UnknownOperator,
         Error::InvalidFirst,
@@ -73,10 +76,11 @@ impl Error {
         Error::InsufficientSpace,
         Error::InvalidStore,
         Error::EmptySlot,
+        Error::InvalidFormula,
         Error::InvalidFile,
     ];
 
-    /// The refusal's number, 1 to 13 or 15.
+    /// The refusal's number, 1 to 15.
     pub const fn number(self) -> u32 {
         self as u32
     }
@@ -123,7 +127,10 @@ impl Error {
             )
             .into(),
             Error::WorkspaceTooShort => {
-                format!("The work buffer is too short: give it at least {WORKSPACE_WORDS} words.").into()
+                format!(
+                "The work buffer is too short: give it at least {WORKSPACE_WORDS} words, and {FORMULA_WORDS} for a formula."
+            )
+            .into()
             }
             Error::TooManyEntries => format!(
                 "The sheet would hold more than {MAX_ENTRIES} entries: clear some cells, or split it into two sheets."
@@ -139,6 +146,11 @@ impl Error {
             )
             .into(),
             Error::EmptySlot => "The place holds no sheet: lay one there first.".into(),
+            Error::InvalidFormula => format!(
+                "This is no formula: write places 0 to {last} joined by + and *, with round brackets where they are \
+                 needed, at most {MAX_BRACKETS} open at once, no blanks, and at most {MAX_FORMULA_BYTES} signs."
+            )
+            .into(),
             Error::InvalidFile => format!(
                 "This is no sheet file, or it is damaged or cut short: a sheet file has exactly its sheet's bytes, at most \
                  {MAX_FILE_BYTES}; take a sound copy of it."

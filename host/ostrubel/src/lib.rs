@@ -6,7 +6,8 @@
 //! and flags. [`Matrix::reduce`] gives one number.
 //! [`Matrix::to_bytes`] and [`Matrix::from_bytes`] carry one in a file. [`Matrix::open_doors`] answers which doors open by
 //! keys of which some are behind doors. [`DayOver`] keeps rewritten rows beside a matrix. A [`Store`] has eight matrices in
-//! one buffer, and the same operations by slots. A refused call is an [`Error`] and changes nothing.
+//! one buffer, and the same operations by slots; [`Store::formula`] works out a formula such as `0*1+2` over them. A
+//! refused call is an [`Error`] and changes nothing.
 //!
 //! # A phone that was late
 //!
@@ -44,6 +45,7 @@ mod doors;
 mod entries;
 mod error;
 mod files;
+mod formula;
 mod layout;
 mod limits;
 mod matrix;
@@ -59,9 +61,10 @@ pub use day_over::DayOver;
 pub use descriptor::Descriptor;
 pub use entries::{Entries, IntoEntries};
 pub use error::Error;
+pub use formula::{check_formula, FormulaError};
 pub use limits::{
-    MAX_ALLOWANCE, MAX_COLS, MAX_ENTRIES, MAX_FILE_BYTES, MAX_INDEXES, MAX_MATRIX_WORDS, MAX_ROWS, MAX_STORE_WORDS,
-    MAX_TEXT_BYTES, MIN_STORE_WORDS, SLOTS, STACK_BYTES, WORKSPACE_WORDS,
+    FORMULA_WORDS, MAX_ALLOWANCE, MAX_BRACKETS, MAX_COLS, MAX_ENTRIES, MAX_FILE_BYTES, MAX_FORMULA_BYTES, MAX_INDEXES,
+    MAX_MATRIX_WORDS, MAX_ROWS, MAX_STORE_WORDS, MAX_TEXT_BYTES, MIN_STORE_WORDS, SLOTS, STACK_BYTES, WORKSPACE_WORDS,
 };
 pub use matrix::{Found, Matrix, Section};
 pub use operators::{ApplyOp, BinaryOp, IndexUnaryOp, Monoid, SelectOp, Semiring, UnaryOp};

@@ -38,3 +38,12 @@ pub const STACK_BYTES: usize = 48 << 10;
 
 /// The most rounds that [`Matrix::open_doors`](crate::Matrix::open_doors) may be allowed.
 pub const MAX_ALLOWANCE: u32 = 1_000;
+
+/// The bytes of the longest formula of [`Store::formula`](crate::Store::formula).
+pub const MAX_FORMULA_BYTES: usize = 64;
+
+/// The most brackets that are open at once in a formula.
+pub const MAX_BRACKETS: usize = 3;
+
+/// The words that a formula needs to work in. `Store` provides them.
+pub const FORMULA_WORDS: usize = 65_000;

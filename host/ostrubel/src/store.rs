@@ -234,6 +234,11 @@ impl Store {
         layout::sections(&self.words).get(slot).copied().unwrap_or_default()
     }
 
+    /// Lends the words to a call.
+    pub(crate) fn lend_words<R>(&mut self, call: impl FnOnce(&mut [u32]) -> R) -> R {
+        call(&mut self.words)
+    }
+
     /// Lends the words and a workspace to an operation. Answers the entries of the final C.
     pub(crate) fn write(&mut self, call: impl FnOnce(&mut [u32], &mut [u32]) -> u64) -> Result<usize, Error> {
         answer::entries(workspace::lend(|work| call(&mut self.words, work)))

@@ -1,18 +1,30 @@
-//! The words that operations work in: one buffer for each thread, kept from call to call.
+//! The words that operations and formulas work in: one buffer of each for each thread, kept from call to call.
 
-use crate::WORKSPACE_WORDS;
+use crate::{FORMULA_WORDS, WORKSPACE_WORDS};
 use std::cell::Cell;
+use std::thread::LocalKey;
 
 thread_local! {
     static WORDS: Cell<Vec<u32>> = const { Cell::new(Vec::new()) };
+    static STACK: Cell<Vec<u32>> = const { Cell::new(Vec::new()) };
 }
 
-/// Lends the thread's workspace to a call. While the thread ends there is none to keep, and the call gets a new one.
+/// Lends the thread's workspace to a call.
 pub fn lend<R>(call: impl FnOnce(&mut [u32]) -> R) -> R {
-    let mut words = WORDS.try_with(Cell::take).unwrap_or_default();
-    words.resize(WORKSPACE_WORDS, 0);
+    lend_kept(&WORDS, WORKSPACE_WORDS, call)
+}
+
+/// Lends the thread's stack to a formula.
+pub fn lend_stack<R>(call: impl FnOnce(&mut [u32]) -> R) -> R {
+    lend_kept(&STACK, FORMULA_WORDS, call)
+}
+
+/// Lends a buffer of the thread to a call. While the thread ends there is none to keep, and the call gets a new one.
+fn lend_kept<R>(kept: &'static LocalKey<Cell<Vec<u32>>>, length: usize, call: impl FnOnce(&mut [u32]) -> R) -> R {
+    let mut words = kept.try_with(Cell::take).unwrap_or_default();
+    words.resize(length, 0);
     let result = call(&mut words);
-    let _ = WORDS.try_with(|kept| kept.set(words));
+    let _ = kept.try_with(|kept| kept.set(words));
     result
 }
 

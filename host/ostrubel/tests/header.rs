@@ -40,6 +40,9 @@ fn limits() {
         ("STACK_BYTES", ostrubel::STACK_BYTES),
         ("MAX_FILE_BYTES", ostrubel::MAX_FILE_BYTES),
         ("MAX_TEXT_BYTES", ostrubel::MAX_TEXT_BYTES),
+        ("MIN_FORMULA_WORDS", ostrubel::FORMULA_WORDS),
+        ("MAX_FORMULA_BYTES", ostrubel::MAX_FORMULA_BYTES),
+        ("MAX_BRACKETS", ostrubel::MAX_BRACKETS),
     ];
     for (name, limit) in limits {
         assert_eq!(number(name).map(|number| number as usize), Some(limit), "{name}");

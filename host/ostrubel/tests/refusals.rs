@@ -191,13 +191,13 @@ fn numbers_that_the_types_rule_out() -> Result<(), Error> {
 
 #[test]
 fn errors_have_numbers_and_sentences() {
-    assert_eq!(Error::ALL.map(Error::number), [1, 2, 3, 4, 5, 6, 7, 8, 9, 10, 11, 12, 13, 15]);
+    assert_eq!(Error::ALL.map(Error::number), [1, 2, 3, 4, 5, 6, 7, 8, 9, 10, 11, 12, 13, 14, 15]);
     for error in Error::ALL {
         assert_eq!(Error::from_number(error.number()), Some(error));
         let sentence = error.to_string();
         assert!(sentence.ends_with('.') && sentence.contains(": "), "{sentence}");
     }
-    for number in [0, 14, 256, u32::MAX] {
+    for number in [0, 16, 256, u32::MAX] {
         assert_eq!(Error::from_number(number), None);
     }
 }
@@ -207,7 +207,7 @@ fn sentences_have_the_limits() {
     for (error, part) in [
         (Error::IndexOutOfBounds, "does not have 1 to 1000 numbers, each once: "),
         (Error::InvalidShape, "a sheet has 1 to 1000 rows and 1 to 1000 columns, "),
-        (Error::WorkspaceTooShort, "at least 15315 words."),
+        (Error::WorkspaceTooShort, "at least 15315 words, and 65000 for a formula."),
         (Error::TooManyEntries, "more than 2048 entries: "),
         (Error::InvalidFile, "at most 20420; "),
         (Error::InvalidStore, "not one of 0 to 7, or the shelf is damaged or not 8 to 16384 words long: "),

@@ -2,8 +2,8 @@
 
 use ostrubel::calls::{self, OptionNumbers};
 use ostrubel::{Error, Matrix, Store};
+use ostrubel::{FORMULA_WORDS, MAX_FORMULA_BYTES, MAX_TEXT_BYTES, STACK_BYTES, WORKSPACE_WORDS};
 use ostrubel::{MAX_ALLOWANCE, MAX_COLS, MAX_ENTRIES, MAX_FILE_BYTES, MAX_MATRIX_WORDS, MAX_ROWS, MAX_STORE_WORDS};
-use ostrubel::{MAX_TEXT_BYTES, STACK_BYTES, WORKSPACE_WORDS};
 use std::thread;
 
 const PLUS: u32 = 3;
@@ -13,6 +13,9 @@ const INDEX: u32 = 3;
 const DIAGINDEX: u32 = 2;
 /// A condition of select.
 const TRIL: u32 = 6;
+
+/// A formula as long as any, with as many brackets open at once as there may be.
+const FORMULA: &[u8] = b"3+3*(3+3*(3+3*(3+3*3+3*3+3*3+3*3+3*3+3*3+3*3+3*3+3*3+3*3+3*3)))";
 
 /// A structural mask, an accumulator, and both inputs transposed.
 const EVERYTHING: OptionNumbers =
@@ -39,6 +42,7 @@ struct Buffers {
     text: Vec<u8>,
     corridor: [Vec<u32>; 3],
     doors: Vec<u32>,
+    stack: Vec<u32>,
 }
 
 /// Key k opens door k, and key k + 1 is behind it; key 0 is in hand. So each door takes a round.
@@ -88,6 +92,7 @@ impl Buffers {
             text: vec![0; MAX_TEXT_BYTES],
             corridor: corridor()?,
             doors: vec![7; MAX_MATRIX_WORDS],
+            stack: vec![9; FORMULA_WORDS],
         })
     }
 
@@ -96,6 +101,7 @@ impl Buffers {
         let mut answers = self.lent_calls();
         answers.extend(self.plain_calls());
         answers.extend(self.file_calls());
+        answers.push(self.formula_call());
         answers.extend(self.store_calls());
         answers.push(self.doors_call());
         answers
@@ -104,6 +110,11 @@ impl Buffers {
     fn doors_call(&mut self) -> u64 {
         let Buffers { corridor: [locks, cabinets, hand], doors, work, .. } = self;
         calls::open_doors(MAX_ALLOWANCE, locks, cabinets, hand, doors, work)
+    }
+
+    fn formula_call(&mut self) -> u64 {
+        assert_eq!(FORMULA.len(), MAX_FORMULA_BYTES - 1); // the longest: a formula has an odd number of bytes
+        calls::store_formula(3, PLUS, TIMES, FORMULA, &mut self.store, &mut self.stack)
     }
 
     fn lent_calls(&mut self) -> Vec<u64> {

@@ -9,10 +9,15 @@ use second::fault::{self, Fault};
 use second::model::{Model, SOUND};
 use second::rng::Rng;
 use second::shrink::shrink;
-use second::{days, describe, doors, files, full_rows, generate_lent, generate_store, merges, program, revisions};
+use second::{
+    days, describe, doors, files, formulas, full_rows, generate_lent, generate_store, merges, program, revisions,
+};
 use std::collections::{BTreeMap, BTreeSet};
 use std::process::ExitCode;
 use std::time::Instant;
+
+/// The grammar of formulas is enumerated to this length.
+const TEXT_BYTES: usize = 7;
 
 const USAGE: &str = "\
 second [--seed N] [--calls N] [--lists N] [--faults] [--fault N] [--program PATH]
@@ -183,6 +188,7 @@ fn compare_all(run: &Run) -> ExitCode {
         compare_files(run)?;
         compare_doors(run)?;
         compare_revisions(run)?;
+        compare_formulas(run)?;
         compare_days(run)?;
         compare_random(run)
     };
@@ -279,6 +285,30 @@ fn compare_revisions(run: &Run) -> Result<(), Disagreement> {
         }
     }
     println!("seed {seed}: {lists} looks at a revision, by codes {codes:?}: no disagreement");
+    Ok(())
+}
+
+/// Formulas over a store, as many calls as lists of calls on one; and every text of at most seven bytes.
+fn compare_formulas(run: &Run) -> Result<(), Disagreement> {
+    let &Run { seed, lists, .. } = run;
+    let mut codes: BTreeMap<u32, u64> = BTreeMap::new();
+    for number in 0..lists {
+        match formulas::formula(&mut Rng::of_case(seed, 9, number)).judge() {
+            Ok(answer) => *codes.entry(code_of(answer)).or_default() += 1,
+            Err(text) => {
+                println!("seed {seed}, formula {number}: {text}");
+                return Err(Disagreement);
+            }
+        }
+    }
+    println!("seed {seed}: {lists} formulas over a store, by codes {codes:?}: no disagreement");
+    match formulas::judge_texts(TEXT_BYTES) {
+        Ok((formulas, others)) => println!("texts of at most {TEXT_BYTES} bytes: {formulas} formulas, {others} others"),
+        Err(text) => {
+            println!("{text}");
+            return Err(Disagreement);
+        }
+    }
     Ok(())
 }
 

@@ -1,0 +1,4 @@
+pub mod Chains
+pub mod Standing
+pub mod Factors
+pub mod Lending

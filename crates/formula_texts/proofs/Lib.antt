@@ -1,0 +1,10 @@
+pub mod Once
+pub mod Joined
+pub mod Factors
+pub mod Whole
+pub mod Found
+pub mod Sound
+pub mod Reader
+pub mod Grouped
+pub mod OneReading
+pub mod Related

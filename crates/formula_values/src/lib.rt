@@ -1,0 +1,1 @@
+// What a formula is worth on plain grids: definitions in specs/, laws in proofs/; there is no code.
