@@ -9,7 +9,7 @@ pub const MAX_COLS: u32 = 1_000;
 /// The most entries a matrix may have.
 pub const MAX_ENTRIES: usize = 2_048;
 
-/// The most indexes in an index list of `extract`.
+/// The most indexes in an index list of `extract` or `assign`.
 pub const MAX_INDEXES: usize = 1_000;
 
 /// The number of slots of a store.

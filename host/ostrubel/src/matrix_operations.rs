@@ -232,13 +232,8 @@ impl Matrix {
         })
     }
 
-    /// A written into the matrix: at (`rows[k]`, `cols[l]`) the cell of A at row k and column l; the other cells stay. Where
-    /// A is empty, so becomes the cell, but with an accumulator it keeps its value. The mask has this matrix's shape and
-    /// covers all of it.
-    ///
-    /// `IndexOutOfBounds` where a list is empty, has over [`MAX_INDEXES`](crate::MAX_INDEXES) indexes or has one of them
-    /// twice, or an index is outside this matrix; `InvalidShape` where A (as transposed) has not as many rows and columns
-    /// as the lists have indexes.
+    /// A written into C: at (`rows[k]`, `cols[l]`) the cell of A at row k and column l; the other cells stay. Where A is
+    /// empty, so becomes the cell, but with an accumulator it keeps its value. The mask has C's shape and covers all of it.
     ///
     /// ```
     /// use ostrubel::{Error, Matrix, Options};
@@ -252,6 +247,13 @@ impl Matrix {
     /// assert_eq!(back.to_triples(), a.to_triples());
     /// # Ok::<(), Error>(())
     /// ```
+    ///
+    /// # Errors
+    ///
+    /// `IndexOutOfBounds` where a list is empty, has over [`MAX_INDEXES`](crate::MAX_INDEXES) indexes or has one of them
+    /// twice, or an index is outside C; `InvalidShape` where A has not as many rows and columns as the lists have indexes,
+    /// A as transposed, or the mask has not C's shape; `TooManyEntries` where C would have over
+    /// [`MAX_ENTRIES`](crate::MAX_ENTRIES) entries.
     pub fn assign(
         &mut self,
         a: &Matrix,
@@ -275,6 +277,12 @@ impl Matrix {
     /// assert_eq!(c.to_triples(), [(1, 0, 5), (1, 1, 7)]);
     /// # Ok::<(), Error>(())
     /// ```
+    ///
+    /// # Errors
+    ///
+    /// `InvalidShape` where C or the mask has not the rows of A times those of B, and as many columns likewise, the inputs
+    /// as transposed, so also where these are more than a matrix may have; `TooManyEntries` where C would have over
+    /// [`MAX_ENTRIES`](crate::MAX_ENTRIES) entries.
     pub fn kronecker(
         &mut self,
         op: BinaryOp,

@@ -154,9 +154,22 @@ impl Store {
     /// A written into C: at (`rows[k]`, `cols[l]`) the cell of A at row k and column l; the other cells stay. Where A is
     /// empty, so becomes the cell, but with an accumulator it keeps its value. The mask has C's shape and covers all of it.
     ///
-    /// `IndexOutOfBounds` where a list is empty, has over [`MAX_INDEXES`](crate::MAX_INDEXES) indexes or has one of them
-    /// twice, or an index is outside C; `InvalidShape` where A (as transposed) has not as many rows and columns as the
-    /// lists have indexes.
+    /// ```
+    /// use ostrubel::{Error, Matrix, Options, Store};
+    ///
+    /// let mut store = Store::new(100)?;
+    /// store.put(0, &Matrix::from_triples(2, 3, [(0, 2, 2), (1, 0, 10), (1, 1, 11), (1, 2, 12)])?)?;
+    /// store.put(1, &Matrix::from_triples(1, 2, [(0, 0, 7)])?)?;
+    /// assert_eq!(store.assign(0, 1, &[1], &[2, 0], &Options::new())?, 3);
+    /// assert_eq!(store.matrix(0)?.to_triples(), [(0, 2, 2), (1, 1, 11), (1, 2, 7)]);
+    /// assert_eq!(store.assign(0, 1, &[2], &[2, 0], &Options::new()), Err(Error::IndexOutOfBounds));
+    /// # Ok::<(), Error>(())
+    /// ```
+    ///
+    /// # Errors
+    ///
+    /// `InvalidStore` for a slot above 7; `EmptySlot`; those of [`Matrix::assign`](crate::Matrix::assign);
+    /// `InsufficientSpace` where the final C does not fit the store.
     pub fn assign(
         &mut self,
         c: usize,
@@ -172,6 +185,24 @@ impl Store {
 
     /// The Kronecker product: at (i p + k, j q + l) op of A's value at (i, j) and B's at (k, l), where B has p rows and q
     /// columns.
+    ///
+    /// ```
+    /// use ostrubel::{BinaryOp, Error, Matrix, Options, Store};
+    ///
+    /// let mut store = Store::new(100)?;
+    /// store.put(0, &Matrix::from_triples(2, 1, [(1, 0, 9)])?)?;
+    /// store.put(1, &Matrix::from_triples(1, 2, [(0, 0, 4), (0, 1, 2)])?)?;
+    /// store.new_empty(2, 2, 2)?;
+    /// assert_eq!(store.kronecker(2, BinaryOp::Minus, 0, 1, &Options::new())?, 2);
+    /// assert_eq!(store.matrix(2)?.to_triples(), [(1, 0, 5), (1, 1, 7)]);
+    /// assert_eq!(store.kronecker(0, BinaryOp::Minus, 0, 1, &Options::new()), Err(Error::InvalidShape));
+    /// # Ok::<(), Error>(())
+    /// ```
+    ///
+    /// # Errors
+    ///
+    /// `InvalidStore` for a slot above 7; `EmptySlot`; those of [`Matrix::kronecker`](crate::Matrix::kronecker);
+    /// `InsufficientSpace` where the final C does not fit the store.
     pub fn kronecker(
         &mut self,
         c: usize,
