@@ -1,7 +1,6 @@
 //! A call carried out on a store in memory.
 
 use crate::call::{Call, Doors, Kind, Operation};
-use crate::form;
 use crate::look::Look;
 use crate::names::{IndexList, Whole};
 use crate::refusal::Refusal;
@@ -38,7 +37,7 @@ fn attempt(call: &Call, store: &mut Store, look: &Look) -> Result<String, Error>
             Ok(view::cell(found, cell.slot.size(), (row, col), *position, look))
         }
         Call::Show { slot, revision } => Ok(view::sheet(&store.matrix(slot.size())?, slot.size(), *revision, look)),
-        Call::Revision { slot } => Ok(form::revision(&store.matrix(slot.size())?).unwrap_or(0).to_string()),
+        Call::Revision { slot } => Ok(store.revision(slot.size())?.to_string()),
         Call::List => view::list(store, look),
         Call::Diff { old, new, picture } => {
             if [old, new].iter().any(|slot| slot.size() >= SLOTS) {

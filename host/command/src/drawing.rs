@@ -1,6 +1,5 @@
 //! A sheet as a picture file: SVG, or a page of HTML.
 
-use crate::form;
 use crate::labels::Labels;
 use crate::sheet_file::described;
 use crate::text::is_control;
@@ -35,8 +34,7 @@ fn escaped(text: &str) -> String {
 
 /// The shape, the entries and the revision.
 fn about(matrix: &Matrix) -> String {
-    let revision = form::revision(matrix).map_or_else(String::new, |revision| format!(", revision {revision}"));
-    format!("{}{revision}", described(matrix))
+    format!("{}, revision {}", described(matrix), matrix.revision())
 }
 
 /// The widths of the rows' heads and of each column, in characters.

@@ -9,35 +9,18 @@
 
 use ostrubel::{Error, Matrix, Store, MAX_STORE_WORDS, SLOTS};
 
-/// The guard's versions.
+/// The guard's version of sheets without revisions, and of those that the library reads and writes.
 pub const WITHOUT_REVISIONS: u32 = 1;
-pub const WITH_REVISIONS: u32 = 2;
+pub const VERSION: u32 = 2;
 
 /// The sheet of each place, where it has one.
 pub type Sheets = [Option<Matrix>; SLOTS];
-
-/// The version of the form that the library reads and writes.
-pub fn version() -> u32 {
-    match Matrix::new(1, 1) {
-        Ok(matrix) if revision(&matrix).is_some() => WITH_REVISIONS,
-        _ => WITHOUT_REVISIONS,
-    }
-}
-
-/// A sheet's revision, where the library's form has one.
-pub fn revision(matrix: &Matrix) -> Option<u32> {
-    match matrix.words() {
-        [1, revision, ..] => Some(*revision),
-        _ => None,
-    }
-}
 
 pub fn sheets(store: &Store) -> Sheets {
     std::array::from_fn(|slot| store.matrix(slot).ok())
 }
 
-/// The sheets in words of version 1, or `None` where the words are not of that form. In a later version their revision
-/// is 0.
+/// The sheets in words of version 1, or `None` where the words are not of that form. Their revision is 0.
 pub fn earlier_sheets(words: &[u32]) -> Option<Sheets> {
     let mut sheets = Sheets::default();
     let mut rest = words;
@@ -46,8 +29,7 @@ pub fn earlier_sheets(words: &[u32]) -> Option<Sheets> {
         let (section, behind) = behind.split_at_checked(usize::try_from(*count).ok()?)?;
         rest = behind;
         if !section.is_empty() {
-            let front: &[u32] = if version() == WITH_REVISIONS { &[1, 0] } else { &[] };
-            let words = [front, section].concat();
+            let words = [&[1, 0], section].concat();
             // The library checks the words, and may find a shorter sheet at their front.
             *sheet = Some(Matrix::from_words(&words).ok().filter(|matrix| matrix.words() == words)?);
         }
@@ -94,7 +76,7 @@ pub mod tests {
         let expected = Matrix::from_triples(1, 2, [(0, 1, 14_053)]).unwrap();
         assert_eq!(sheets[1], Some(expected));
         assert_eq!(sheets.iter().flatten().count(), 1);
-        assert_eq!(revision(sheets[1].as_ref().unwrap()).unwrap_or(0), 0);
+        assert_eq!(sheets[1].as_ref().unwrap().revision(), 0);
         assert_eq!(earlier_sheets(&[0; 8]), Some(Sheets::default()));
     }
 

@@ -156,7 +156,7 @@ fn check_current(path: &Path, form: Form) -> Result<(), Failure> {
 }
 
 fn bytes_of(store: &Store) -> Vec<u8> {
-    guard::enclose(form::version(), store.words())
+    guard::enclose(form::VERSION, store.words())
 }
 
 /// What is in a file.
@@ -178,16 +178,16 @@ impl Contents {
 fn contents_of(path: &Path, bytes: &[u8]) -> Result<Contents, Failure> {
     let (is_guarded, version, words) = match guard::open(bytes) {
         Guarded::Sound { version, words } => (true, version, words),
-        Guarded::Bare { words } => (false, form::version(), words),
+        Guarded::Bare { words } => (false, form::VERSION, words),
         Guarded::Damaged(Damage::NoWords) => return Err(Refusal::of_file(path, bytes.len()).into()),
         Guarded::Damaged(damage) => return Err(Refusal::of_damage(path, damage, bytes.len()).into()),
     };
-    if version > form::version() {
+    if version > form::VERSION {
         return Err(Refusal::of_version(path, version).into());
     }
     let count = words.len();
     // Bare words say their form by themselves.
-    let current = || (version == form::version()).then(|| Store::from_words(words.clone()).ok()).flatten();
+    let current = || (version == form::VERSION).then(|| Store::from_words(words.clone()).ok()).flatten();
     let earlier =
         || (!is_guarded || version == form::WITHOUT_REVISIONS).then(|| form::earlier_sheets(&words)).flatten();
     let (is_current, sheets) = match current() {

@@ -2,7 +2,6 @@
 
 use crate::carry_out::counted;
 use crate::changes;
-use crate::form;
 use crate::json::{array, object, string};
 use crate::look::Look;
 use crate::picture;
@@ -33,8 +32,7 @@ pub fn cell(found: Found, slot: usize, (row, col): (u32, u32), position: bool, l
 /// A sheet, and where asked for a line with its revision, which JSON has in any case.
 pub fn sheet(matrix: &Matrix, slot: usize, with_revision: bool, look: &Look) -> String {
     if !look.json {
-        let revision = form::revision(matrix).unwrap_or(0);
-        let line = if with_revision { format!("\nrevision {revision}") } else { String::new() };
+        let line = if with_revision { format!("\nrevision {}", matrix.revision()) } else { String::new() };
         return picture::draw(matrix, &[], look) + &line;
     }
     let entry = |(row, col, value): (u32, u32, i32)| {
@@ -56,7 +54,7 @@ fn sheet_members(matrix: &Matrix, slot: usize, look: &Look) -> Vec<(&'static str
     members.extend(look.labels.place(slot).map(|name| ("name", string(name))));
     members.push(("rows", matrix.rows().to_string()));
     members.push(("columns", matrix.cols().to_string()));
-    members.extend(form::revision(matrix).map(|revision| ("revision", revision.to_string())));
+    members.push(("revision", matrix.revision().to_string()));
     members
 }
 
@@ -79,9 +77,9 @@ pub fn list(store: &Store, look: &Look) -> Result<String, Error> {
     let mut lines: Vec<String> = (0..SLOTS).map(|slot| format!("{}: empty", look.labels.place_head(slot))).collect();
     for (slot, matrix) in &sheets {
         let entries = counted(matrix.entries(), "entry", "entries");
-        let (place, words) = (look.labels.place_head(*slot), matrix.words().len());
-        let revision = form::revision(matrix).map_or_else(String::new, |revision| format!(", revision {revision}"));
-        lines[*slot] = format!("{place}: {} by {}, {entries}, {words} words{revision}", matrix.rows(), matrix.cols());
+        let (place, words, revision) = (look.labels.place_head(*slot), matrix.words().len(), matrix.revision());
+        let shape = format!("{} by {}", matrix.rows(), matrix.cols());
+        lines[*slot] = format!("{place}: {shape}, {entries}, {words} words, revision {revision}");
     }
     lines.push(format!("words: {used} used, {free} free, {all} in all"));
     Ok(lines.join("\n"))

@@ -2,7 +2,7 @@
 
 mod common;
 
-use common::{error_text, revision_text, revision_words, sheet_words, text, Folder, OSTRUBEL};
+use common::{error_text, text, Folder, OSTRUBEL};
 
 #[test]
 fn a_new_shelf() {
@@ -51,7 +51,7 @@ fn set_clear_and_read() {
 fn the_words_in_the_file() {
     let folder = Folder::with_shelf();
     folder.script("s", "lay 1 1 4\nset 1 0 3 -5\nset 1 0 0 10\nset 1 0 1 20\n");
-    let sheet = sheet_words(3, &[2, 1, 4, 2, 0, 3, 3, 0, 1, 3, 3, 10, 20, 4_294_967_291]);
+    let sheet = [1, 3, 2, 1, 4, 2, 0, 3, 3, 0, 1, 3, 3, 10, 20, 4_294_967_291];
     let words = [&[0, sheet.len() as u32], &sheet[..]].concat();
     let mut bytes: Vec<u8> = words.iter().flat_map(|word: &u32| word.to_le_bytes()).collect();
     bytes.resize(4000, 0);
@@ -63,15 +63,13 @@ fn show_and_list() {
     let folder = Folder::with_shelf();
     folder.script("s", "lay 0 2 3\nset 0 0 0 7\nset 0 1 2 -40\nlay 6 1 1\nset 6 0 0 1\n");
     folder.prints("show s 0", "   0  1    2\n0  7  .    .\n1  .  .  -40\n");
-    let more = revision_words().len();
-    let first = format!("place 0: 2 by 3, 2 entries, {} words{}\n", 13 + more, revision_text(2));
-    let second = format!("place 6: 1 by 1, 1 entry, {} words{}\n", 10 + more, revision_text(1));
+    let first = "place 0: 2 by 3, 2 entries, 15 words, revision 2\n";
+    let second = "place 6: 1 by 1, 1 entry, 12 words, revision 1\n";
     let empty = |places: [u32; 5]| places.map(|place| format!("place {place}: empty\n")).concat();
-    let words = format!("words: {} used, {} free, 1000 in all\n", 31 + 2 * more, 969 - 2 * more);
+    let words = "words: 35 used, 965 free, 1000 in all\n";
     folder.prints("list s", &format!("{first}{}{second}place 7: empty\n{words}", empty([1, 2, 3, 4, 5])));
-    let revision = if more == 0 { 0 } else { 2 };
-    folder.prints("revision s 0", &format!("{revision}\n"));
-    folder.prints("show s 0 --revision", &format!("   0  1    2\n0  7  .    .\n1  .  .  -40\nrevision {revision}\n"));
+    folder.prints("revision s 0", "2\n");
+    folder.prints("show s 0 --revision", "   0  1    2\n0  7  .    .\n1  .  .  -40\nrevision 2\n");
     folder.refuses("revision s 1", 13, "place 1");
 }
 

@@ -2,7 +2,7 @@
 
 mod common;
 
-use common::{guarded, guarded_as, revision_words, text, version, Folder};
+use common::{guarded, guarded_as, text, Folder};
 use std::fs;
 
 /// A folder whose shelf `s` has two sheets and is bare, as an earlier command left it.
@@ -91,17 +91,12 @@ fn a_shelf_without_revisions() {
         folder.write("s", &bytes);
         folder.prints("read s 1 0 1", "14053\n");
         folder.prints("revision s 1", "0\n");
-        if bytes == guarded(&words_without_revisions()) {
-            folder.prints("convert s", "s: has the form of today, and stays as it is\n");
-        } else {
-            assert!(folder.fails("drop s 1", 3).ends_with("nothing of it is lost: ostrubel convert s\n"));
-            folder.prints("convert s", "s: converted, all sheets kept\n");
-        }
-        let words = folder.words("s");
-        assert_eq!(words.len(), 72 + 4 * revision_words().len());
+        assert!(folder.fails("drop s 1", 3).ends_with("nothing of it is lost: ostrubel convert s\n"));
+        folder.prints("convert s", "s: converted, all sheets kept\n");
+        assert_eq!(folder.words("s").len(), 72 + 8);
         folder.prints("show s 1", "   0      1\n0  .  14053\n");
         folder.prints("set s 1 0 1 14054", "place 1: 1 entry\n");
-        folder.prints("revision s 1", if version() == 1 { "0\n" } else { "1\n" });
+        folder.prints("revision s 1", "1\n");
     }
 }
 
@@ -127,10 +122,6 @@ fn a_full_shelf_without_revisions() {
     let bytes: Vec<u8> = words.iter().flat_map(|word| word.to_le_bytes()).collect();
     let folder = Folder::new();
     folder.write("s", &bytes);
-    if version() == 1 {
-        folder.prints("convert s", "s: converted, all sheets kept\n");
-        return;
-    }
     let message = folder.fails("convert s", 1);
     assert!(message.starts_with("refused (11): This shelf has an earlier form"), "{message}");
     assert!(message.contains("ostrubel convert s --places 0..3 --to OTHER"), "{message}");

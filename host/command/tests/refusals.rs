@@ -2,7 +2,7 @@
 
 mod common;
 
-use common::{error_text, guarded, guarded_as, revision_words, text, Folder, OSTRUBEL};
+use common::{error_text, guarded, guarded_as, text, Folder, OSTRUBEL};
 use std::fs;
 use std::os::unix::fs::symlink;
 
@@ -180,19 +180,17 @@ fn too_many_entries_are_10() {
 fn too_little_room_is_11() {
     let folder = Folder::new();
     // Two sheets fill it.
-    let front = revision_words().len();
-    let all = 27 + 2 * front;
-    let used = |words: usize| format!("{words} of {all} words are used now");
-    folder.accept(&format!("new s {all}"));
+    let used = |words: usize| format!("{words} of 31 words are used now");
+    folder.accept("new s 31");
     folder.accept("lay s 0 2 2");
-    folder.refuses("lay s 1 7 2", 11, &used(17 + front));
+    folder.refuses("lay s 1 7 2", 11, &used(19));
     folder.accept("lay s 1 1 2");
     folder.accept("set s 1 0 0 3");
-    folder.refuses("set s 0 0 0 3", 11, &used(all));
+    folder.refuses("set s 0 0 0 3", 11, &used(31));
     folder.refuses("apply s 0 0 --op abs --mask 7", 13, "place 7 (mask)");
     folder.accept("set s 1 0 0 4");
     folder.accept("lay s 0 1 2");
-    folder.refuses("lay s 2 1 2", 11, &used(all - 1));
+    folder.refuses("lay s 2 1 2", 11, &used(30));
 }
 
 #[test]
@@ -226,7 +224,6 @@ fn damaged_files_are_12() {
         bytes[position] = byte;
         bytes
     };
-    let front = revision_words().len();
     let damaged: Vec<(&str, Vec<u8>)> = vec![
         ("no bytes", Vec::new()),
         ("7 words", vec![0; 28]),
@@ -235,9 +232,9 @@ fn damaged_files_are_12() {
         ("16,385 words", vec![0; 65_540]),
         ("a byte more than the longest", vec![0; 65_537]),
         ("1 MB", vec![0; 1 << 20]),
-        ("a count that is too large", changed(0, 14 + front as u8)),
-        ("1,027 columns", changed(13 + 4 * front, 4)),
-        ("a row start that falls", changed(20 + 4 * front, 200)),
+        ("a count that is too large", changed(0, 16)),
+        ("1,027 columns", changed(21, 4)),
+        ("a row start that falls", changed(28, 200)),
         ("a word behind the last section", changed(3999, 1)),
         ("a text", b"These are not the words of a shelf.\n".repeat(4)),
     ];

@@ -2,7 +2,7 @@
 
 mod common;
 
-use common::{error_text, revision_text, revision_words, text, Folder, OSTRUBEL};
+use common::{error_text, text, Folder, OSTRUBEL};
 use std::fs::{self, Permissions};
 use std::os::unix::fs::{chown, symlink, MetadataExt, PermissionsExt};
 use std::os::unix::process::ExitStatusExt;
@@ -29,7 +29,7 @@ fn a_write_replaces_the_file() {
 }
 
 /// A call that is accepted but changes no word does not write the file again. One that writes into a sheet raises its
-/// revision, where sheets have one.
+/// revision.
 #[test]
 fn a_call_that_changes_nothing_saves_nothing() {
     let folder = shelf();
@@ -42,9 +42,8 @@ fn a_call_that_changes_nothing_saves_nothing() {
     for line in ["set s 0 1 1 5", "clear s 0 2 2", "apply s 0 0 --op abs"] {
         let (before, revision) = (folder.state("s"), folder.accept("revision s 0"));
         folder.accept(line);
-        let has_revisions = !revision_words().is_empty();
-        assert_eq!(folder.state("s") != before, has_revisions, "{line}");
-        assert_eq!(folder.accept("revision s 0") != revision, has_revisions, "{line}");
+        assert_ne!(folder.state("s"), before, "{line}");
+        assert_ne!(folder.accept("revision s 0"), revision, "{line}");
     }
 }
 
@@ -193,11 +192,10 @@ fn set_patiently(folder: &Folder, line: &str) {
 }
 
 fn list_with(entries: usize) -> String {
-    let words = 9 + 2 * entries + 7 + revision_words().len();
-    let revision = revision_text(entries as u32);
+    let words = 9 + 2 * entries + 9;
     let empty: String = (1..8).map(|place| format!("place {place}: empty\n")).collect();
     let (used, free) = (8 + words, 1000 - 8 - words);
-    let first = format!("place 0: 9 by 9, {entries} entries, {words} words{revision}\n");
+    let first = format!("place 0: 9 by 9, {entries} entries, {words} words, revision {entries}\n");
     format!("{first}{empty}words: {used} used, {free} free, 1000 in all\n")
 }
 

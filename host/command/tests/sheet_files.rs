@@ -2,13 +2,18 @@
 
 mod common;
 
-use common::{error_text, sheet_words, text, Folder};
+use common::{error_text, text, Folder};
 
 const STRIP: [u32; 14] = [2, 1, 4, 2, 0, 3, 3, 0, 1, 3, 3, 10, 20, 40];
 const STRIP_TEXT: &str = "1 4 3\n0 0 10\n0 1 20\n0 3 40\n";
 
 fn bytes(words: &[u32]) -> Vec<u8> {
     words.iter().flat_map(|word| word.to_le_bytes()).collect()
+}
+
+/// The strip's file in today's form, when three calls have written into it.
+fn strip_file() -> Vec<u8> {
+    bytes(&[&[1, 3], &STRIP[..]].concat())
 }
 
 /// A folder with a shelf whose place 0 has document 01's strip.
@@ -22,7 +27,7 @@ fn with_strip() -> Folder {
 fn out_and_in_again() {
     let folder = with_strip();
     folder.prints("export s 0 strip", "strip: 1 by 4, 3 entries\n");
-    assert_eq!(folder.bytes("strip"), bytes(&sheet_words(3, &STRIP)));
+    assert_eq!(folder.bytes("strip"), strip_file());
     folder.prints("print strip", STRIP_TEXT);
     folder.prints("import s 5 strip", "place 5: 1 by 4, 3 entries\n");
     assert_eq!(folder.accept("show s 5"), folder.accept("show s 0"));
@@ -40,7 +45,7 @@ fn through_pipes() {
         (format!("place 1: 1 by 4, 3 entries\n{STRIP_TEXT}"), String::new())
     );
     // a byte at a time
-    let size = bytes(&sheet_words(3, &STRIP)).len();
+    let size = strip_file().len();
     let slowly =
         format!("i=0; while [ $i -lt {size} ]; do dd bs=1 count=1 skip=$i if=strip status=none; i=$((i + 1)); done");
     let output = folder.shell(&format!("ostrubel export s 0 strip > out && ({slowly}) | ostrubel print -"));

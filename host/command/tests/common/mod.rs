@@ -139,40 +139,9 @@ impl Drop for Folder {
     }
 }
 
-/// The words in front of a sheet's shape: none, or its revision's section.
-pub fn revision_words() -> Vec<u32> {
-    let words = ostrubel::Matrix::new(1, 1).unwrap().into_words();
-    words[..words.iter().position(|word| *word == 2).unwrap()].to_vec()
-}
-
-/// The version of the guard that is written now: 2 where sheets have a revision.
-pub fn version() -> u32 {
-    if revision_words().is_empty() {
-        1
-    } else {
-        2
-    }
-}
-
-/// The words of a sheet: those given begin with its shape, and so many calls have written into it.
-pub fn sheet_words(revision: u32, words: &[u32]) -> Vec<u32> {
-    let mut front = revision_words();
-    front.last_mut().into_iter().for_each(|last| *last = revision);
-    [&front[..], words].concat()
-}
-
-/// What `list` says of a sheet's revision.
-pub fn revision_text(revision: u32) -> String {
-    if version() == 1 {
-        String::new()
-    } else {
-        format!(", revision {revision}")
-    }
-}
-
-/// The bytes of a shelf's file, by the bytes of its words.
+/// The bytes of a shelf's file, by the bytes of its words, within a guard of today's version.
 pub fn guarded(words: &[u8]) -> Vec<u8> {
-    guarded_as(version(), words)
+    guarded_as(2, words)
 }
 
 pub fn guarded_as(version: u32, words: &[u8]) -> Vec<u8> {
