@@ -208,8 +208,8 @@ uint64_t ostrubel_row_view(uint32_t i, uint32_t values, const uint32_t *first, o
                            const uint32_t *second, ostrubel_size second_len);
 
 /*
- * The operations that write C. Each works out a result T and writes it back: with an accumulator Z is the union of old C and T
- * under it, else Z is T; inside the mask C takes Z, outside C keeps its entry, or loses it under OSTRUBEL_REPLACE.
+ * The operations that write C. Each works out a result T and writes it back: with an accumulator Z is the union of old C
+ * and T under it, else Z is T; inside the mask C takes Z, outside C keeps its entry, or loses it under OSTRUBEL_REPLACE.
  * A position is inside where the mask has an entry other than 0; with no mask every position is inside.
  *   flags            a sum of flags
  *   has_mask         0: no mask, and its words are not looked at; else there is one
@@ -330,8 +330,9 @@ uint64_t ostrubel_store_reduce(ostrubel_size slot, uint32_t monoid, const uint32
  * written. Answers the result's entries. Refused by 12, 2, 14, 13 (a slot that the text names), 9, the first failing step's
  * 8 or 10, and 11. The stack has at least 65,000 words, and is all zeros after every call.
  */
-uint64_t ostrubel_store_formula(ostrubel_size target, uint32_t monoid, uint32_t op, const uint8_t *text, ostrubel_size text_len,
-                                uint32_t *store, ostrubel_size store_len, uint32_t *stack, ostrubel_size stack_len);
+uint64_t ostrubel_store_formula(ostrubel_size target, uint32_t monoid, uint32_t op, const uint8_t *text,
+                                ostrubel_size text_len, uint32_t *store, ostrubel_size store_len, uint32_t *stack,
+                                ostrubel_size stack_len);
 
 /*
  * The operations by slots, with options, operators and workspace as above. One slot may have several roles: all are

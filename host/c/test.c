@@ -315,7 +315,8 @@ static void test_store_cells(void) {
     ACCEPTED(ostrubel_store_clear_cell(2, 0, 1, WORDS(store)), 2);
     ACCEPTED(ostrubel_store_drop(0, WORDS(store)), 0);
     /* both clears added one to the revision, the second too */
-    SAME(store, 0, 0, 14, 1, 5, 2, 1, 4, 2, 0, 2, 2, 0, 3, 2, 10, 40, 0, 0, 0, 0, 0, 0, 0, 0, 0, 0, 0, 0, 0, 0, 0, 0, 0, 0, 0);
+    SAME(store, 0, 0, 14, 1, 5, 2, 1, 4, 2, 0, 2, 2, 0, 3, 2, 10, 40, 0, 0, 0, 0, 0, 0, 0, 0, 0, 0, 0, 0, 0, 0, 0, 0, 0,
+         0, 0);
 
     /* words that are no store, and a store that is too short */
     store[35] = 1;

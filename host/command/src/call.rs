@@ -331,7 +331,10 @@ fn idle_option(kind: &Kind, write_back: &WriteBack) -> Option<&'static str> {
     } else if write_back.transpose_second && !has_second(kind) {
         Some("there is no second input for --transpose-b; --transpose-a transposes the sheet A")
     } else if write_back.complement && no_mask && (!write_back.replace || write_back.accumulator.is_some()) {
-        Some("--complement writes no cell without --mask: is --mask PLACE missing? To empty C: --complement --replace, without --accum")
+        Some(
+            "--complement writes no cell without --mask: is --mask PLACE missing? \
+             To empty C: --complement --replace, without --accum",
+        )
     } else if write_back.structural && no_mask {
         Some("--structural does nothing without --mask")
     } else if write_back.replace && no_mask && !write_back.complement {

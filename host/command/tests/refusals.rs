@@ -349,8 +349,16 @@ fn wrong_usage() {
         ("-h extra", "-h: \"extra\" is one word too many (see: ostrubel help)"),
         ("--help extra", "--help: \"extra\" is one word too many (see: ostrubel help)"),
         ("--version extra", "--version: \"extra\" is one word too many (see: ostrubel help)"),
-        ("mxm --semiring plus.times", "mxm: FILE is missing; write: ostrubel mxm FILE C A B --semiring ADD.MULTIPLY (see: ostrubel help mxm)"),
-        ("show s 0 -- --replace", "show: \"--replace\" is one word too many; write: ostrubel show FILE PLACE (see: ostrubel help show)"),
+        (
+            "mxm --semiring plus.times",
+            "mxm: FILE is missing; write: ostrubel mxm FILE C A B --semiring ADD.MULTIPLY \
+             (see: ostrubel help mxm)",
+        ),
+        (
+            "show s 0 -- --replace",
+            "show: \"--replace\" is one word too many; write: ostrubel show FILE PLACE \
+             (see: ostrubel help show)",
+        ),
         ("list", "list: FILE is missing; write: ostrubel list FILE (see: ostrubel help list)"),
         ("list s 0", "list: \"0\" is one word too many; write: ostrubel list FILE (see: ostrubel help list)"),
         ("lay s 0 2", "lay: COLS is missing; write: ostrubel lay FILE PLACE ROWS COLS (see: ostrubel help lay)"),
@@ -361,16 +369,28 @@ fn wrong_usage() {
         ("run s", "run: SCRIPT is missing; write: ostrubel run FILE SCRIPT (see: ostrubel help run)"),
         ("run s --mask 1 a", "run: --mask is no option of run (see: ostrubel help run)"),
         ("set s 0 0 0 1 --mask 1", "set: --mask is no option of set (see: ostrubel help set)"),
-        ("mxm s 0 1 1", "mxm: --semiring is missing; write: ostrubel mxm FILE C A B --semiring ADD.MULTIPLY (see: ostrubel help mxm)"),
+        (
+            "mxm s 0 1 1",
+            "mxm: --semiring is missing; write: ostrubel mxm FILE C A B --semiring ADD.MULTIPLY \
+             (see: ostrubel help mxm)",
+        ),
         ("mxm s 0 1 1 --semiring", "mxm: --semiring wants a value behind it (see: ostrubel help mxm)"),
         ("mxm s 0 1 1 --semiring --replace", "mxm: --semiring wants a value behind it (see: ostrubel help mxm)"),
-        ("mxm s 0 1 1 --op max", "mxm: --semiring is missing; write: ostrubel mxm FILE C A B --semiring ADD.MULTIPLY (see: ostrubel help mxm)"),
+        (
+            "mxm s 0 1 1 --op max",
+            "mxm: --semiring is missing; write: ostrubel mxm FILE C A B --semiring ADD.MULTIPLY \
+             (see: ostrubel help mxm)",
+        ),
         ("mxm s 0 1 1 --semiring max.min --op max", "mxm: --op is no option of mxm (see: ostrubel help mxm)"),
         ("mxm s 0 1 1 --frob", "mxm: --frob is no option of mxm (see: ostrubel help mxm)"),
         ("apply s 0 0 --op abs --replace=1", "apply: --replace takes no value (see: ostrubel help apply)"),
         ("apply s 0 0 --op abs --op one", "apply: --op is given twice (see: ostrubel help apply)"),
         ("apply s 0 0 --op abs --mask x", "apply: --mask is a whole number, and not \"x\" (see: ostrubel help apply)"),
-        ("extract s 0 0 --rows 1", "extract: --cols is missing; write: ostrubel extract FILE C A --rows LIST --cols LIST (see: ostrubel help extract)"),
+        (
+            "extract s 0 0 --rows 1",
+            "extract: --cols is missing; write: ostrubel extract FILE C A --rows LIST --cols LIST \
+             (see: ostrubel help extract)",
+        ),
         (
             "extract s 0 0 --rows 9..5 --cols 1",
             "extract: --rows: the range 9..5 runs backwards (see: ostrubel help extract)",
@@ -422,8 +442,8 @@ fn values_out_of_range_are_wrong_usage() {
     }
 }
 
-const NO_MASK: &str =
-    "--complement writes no cell without --mask: is --mask PLACE missing? To empty C: --complement --replace, without --accum";
+const NO_MASK: &str = "--complement writes no cell without --mask: is --mask PLACE missing? \
+                       To empty C: --complement --replace, without --accum";
 
 #[test]
 fn options_that_would_do_nothing_are_wrong_usage() {

@@ -22,7 +22,8 @@ const TEXT_BYTES: usize = 7;
 const USAGE: &str = "\
 second [--seed N] [--calls N] [--lists N] [--faults] [--fault N] [--program PATH]
 
-Compares the library with a model on each cell of some rows, on random calls, and on sheets merged in several orders and carried in files.
+Compares the library with a model on each cell of some rows, on random calls, and on sheets merged in several orders and
+carried in files.
   --seed N    the seed of all random choices (1)
   --calls N   calls on lent sheets (200000; 40000 with --faults)
   --lists N   lists of calls on a store, of about 15 calls (a twentieth of the calls)

@@ -1,5 +1,5 @@
-//! The program of document 02, A1, run on files and on bytes that are none: it reads standard input to its end, "whatever its
-//! length and however it arrives", and prints the text, or the line "refused 15" alone.
+//! The program of document 02, A1, run on files and on bytes that are none: it reads standard input to its end, "whatever
+//! its length and however it arrives", and prints the text, or the line "refused 15" alone.
 
 use crate::files::{case, file_bytes, grid_of_file, text_of, Slip};
 use crate::grid::{Grid, MAX_WORDS};

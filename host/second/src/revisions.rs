@@ -1,5 +1,5 @@
-//! Document 02, A12: "a new first section before the others: 1, then a revision number". What a look at the revision answers,
-//! on sheets and on words that are none.
+//! Document 02, A12: "a new first section before the others: 1, then a revision number". What a look at the revision
+//! answers, on sheets and on words that are none.
 
 use crate::fault::Fault;
 use crate::generate_lent::lone_buffer;
