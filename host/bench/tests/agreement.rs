@@ -3,6 +3,10 @@
 use bench::ordinary;
 use ostrubel::calls as library;
 use second::calls::{LentCall, LentOperation, Operation, StoreCall, StoreOperation};
+use second::days::{day_call, DayCall, Verb};
+use second::doors::{doors, Doors};
+use second::files;
+use second::formulas::{formula, Formula};
 use second::generate_lent::lent_call;
 use second::generate_store::store_list;
 use second::rng::Rng;
@@ -10,6 +14,7 @@ use second::rng::Rng;
 const SEED: u64 = 8;
 const LENT_CALLS: u64 = 14_000;
 const STORE_LISTS: u64 = 900;
+const OTHER_CALLS: u64 = 4_000;
 
 /// An answer, and the buffers that the call may have written.
 type Outcome = (u64, Vec<Vec<u32>>);
@@ -106,6 +111,42 @@ macro_rules! program {
                 };
                 (answer, work_words)
             }
+
+            pub fn day(call: &DayCall) -> Outcome {
+                let DayCall { verb, row, base, new, .. } = call;
+                let [mut day, mut marks, mut out] = [&call.day, &call.marks, &call.out].map(Vec::clone);
+                let answer = match *verb {
+                    Verb::Rewrite => $calls::day_rewrite(*row, new, &mut day, &mut marks),
+                    Verb::Back => $calls::day_back(*row, &mut day, &mut marks),
+                    Verb::Read { column } => $calls::day_read(*row, column, base, &day, &marks),
+                    Verb::Fold => $calls::day_fold(base, &day, &marks, &mut out),
+                    Verb::Show { values } => $calls::day_show(*row, values, base, &day, &marks),
+                };
+                (answer, vec![day, marks, out])
+            }
+
+            pub fn doors(call: &Doors) -> Outcome {
+                let Doors { allowance, locks, cabinets, hand, .. } = call;
+                let (mut out, mut work) = (call.out.clone(), call.work.words());
+                let answer = $calls::open_doors(*allowance, locks, cabinets, hand, &mut out, &mut work);
+                (answer, vec![out, work])
+            }
+
+            pub fn formula(call: &Formula) -> Outcome {
+                let Formula { target, monoid, op, text, .. } = call;
+                let (mut store, mut stack) = (call.store.clone(), call.stack.words());
+                let answer = $calls::store_formula(*target, *monoid, *op, text, &mut store, &mut stack);
+                (answer, vec![store, stack])
+            }
+
+            /// A file is read, a matrix is written as a file and as a text.
+            pub fn file(case: &files::Case) -> (Outcome, [(u64, Vec<u8>); 2]) {
+                let (mut words, mut bytes, mut text) = (case.words.clone(), case.bytes.clone(), case.text.clone());
+                let read = $calls::read_file(&case.file, &mut words);
+                let written = $calls::write_file(&case.sheet, &mut bytes);
+                let printed = $calls::write_text(&case.sheet, &mut text);
+                ((read, vec![words]), [(written, bytes), (printed, text)])
+            }
         }
     };
 }
@@ -149,4 +190,41 @@ fn calls_on_a_store_agree() {
         }
     }
     assert!(calls > 10_000 && accepted * 4 > calls, "enough calls: {calls}, {accepted} accepted");
+}
+
+/// Both carry out so many random calls, and give the same. At least a quarter is accepted.
+fn agree<C, T: PartialEq>(name: &str, make: fn(&mut Rng) -> C, sides: [fn(&C) -> T; 2], accepts: fn(&T) -> bool) {
+    let mut accepted = 0;
+    for number in 0..OTHER_CALLS {
+        let call = make(&mut Rng::of_case(SEED, 3, number));
+        let [expected, seen] = sides.map(|side| side(&call));
+        assert!(expected == seen, "seed {SEED}, call {number}: {name}");
+        accepted += u64::from(accepts(&expected));
+    }
+    assert!(accepted * 4 > OTHER_CALLS, "enough accepted calls: {accepted}");
+}
+
+fn is_accepted(outcome: &Outcome) -> bool {
+    outcome.0 & 255 == 0
+}
+
+#[test]
+fn calls_on_a_day_matrix_agree() {
+    agree("a day matrix", day_call, [by_library::day, by_ordinary::day], is_accepted);
+}
+
+#[test]
+fn doors_agree() {
+    agree("doors", doors, [by_library::doors, by_ordinary::doors], is_accepted);
+}
+
+#[test]
+fn formulas_agree() {
+    agree("a formula", formula, [by_library::formula, by_ordinary::formula], is_accepted);
+}
+
+#[test]
+fn files_agree() {
+    let accepts = |(read, written): &(Outcome, [(u64, Vec<u8>); 2])| is_accepted(read) && written[0].0 & 255 == 0;
+    agree("a file", files::case, [by_library::file, by_ordinary::file], accepts);
 }

@@ -43,13 +43,13 @@ pub enum Verb {
 /// One call, with all the buffers that any of the five has.
 #[derive(Clone, Debug)]
 pub struct DayCall {
-    verb: Verb,
-    row: u32,
-    base: Vec<u32>,
-    day: Vec<u32>,
-    marks: Vec<u32>,
-    new: Vec<u32>,
-    out: Vec<u32>,
+    pub verb: Verb,
+    pub row: u32,
+    pub base: Vec<u32>,
+    pub day: Vec<u32>,
+    pub marks: Vec<u32>,
+    pub new: Vec<u32>,
+    pub out: Vec<u32>,
 }
 
 /// The answer, and the buffers that a call may write.

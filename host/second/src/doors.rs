@@ -33,12 +33,12 @@ pub enum Slip {
 /// One call: the allowance, the three inputs, the answer's buffer and the work buffer.
 #[derive(Clone, Debug)]
 pub struct Doors {
-    allowance: u32,
-    locks: Vec<u32>,
-    cabinets: Vec<u32>,
-    hand: Vec<u32>,
-    out: Vec<u32>,
-    work: Work,
+    pub allowance: u32,
+    pub locks: Vec<u32>,
+    pub cabinets: Vec<u32>,
+    pub hand: Vec<u32>,
+    pub out: Vec<u32>,
+    pub work: Work,
 }
 
 /// The answer, and the two written buffers after the call.

@@ -116,11 +116,11 @@ fn print(words: &[u32], buffer: &[u8], slip: Slip) -> Outcome<u8> {
 
 /// What is lent: a file to read with the words to read it into, and a sheet to write with the bytes to write it into.
 pub struct Case {
-    file: Vec<u8>,
-    words: Vec<u32>,
-    sheet: Vec<u32>,
-    bytes: Vec<u8>,
-    text: Vec<u8>,
+    pub file: Vec<u8>,
+    pub words: Vec<u32>,
+    pub sheet: Vec<u32>,
+    pub bytes: Vec<u8>,
+    pub text: Vec<u8>,
 }
 
 /// A length near another one, or some other.
@@ -188,10 +188,6 @@ fn compare<T: PartialEq>(name: &str, expected: Outcome<T>, seen: Outcome<T>) -> 
 }
 
 impl Case {
-    pub fn file(&self) -> &[u8] {
-        &self.file
-    }
-
     pub fn judge(&self, slip: Slip) -> Result<(), String> {
         let mut words = self.words.clone();
         let answer = calls::read_file(&self.file, &mut words);

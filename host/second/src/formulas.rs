@@ -154,12 +154,12 @@ impl Tree {
 /// One call.
 #[derive(Clone, Debug)]
 pub struct Formula {
-    store: Vec<u32>,
-    target: usize,
-    monoid: u32,
-    op: u32,
-    text: Vec<u8>,
-    stack: Work,
+    pub store: Vec<u32>,
+    pub target: usize,
+    pub monoid: u32,
+    pub op: u32,
+    pub text: Vec<u8>,
+    pub stack: Work,
 }
 
 /// The answer, and the two written buffers after the call.

@@ -132,7 +132,7 @@ fn printed(program: &str, input: &Input) -> Result<Vec<u8>, String> {
 /// Runs the program on the list above and on random files. How many there were.
 pub fn judge(program: &str, seed: u64, random: u64) -> Result<usize, String> {
     let mut inputs = inputs();
-    inputs.extend((0..random).map(|number| whole(case(&mut Rng::of_case(seed, 5, number)).file().to_vec())));
+    inputs.extend((0..random).map(|number| whole(case(&mut Rng::of_case(seed, 5, number)).file)));
     for (number, input) in inputs.iter().enumerate() {
         let grid = grid_of_file(&input.bytes, Slip::None);
         let expected = grid.map_or("refused 15\n".to_string(), |grid| text_of(&grid, Slip::None));

@@ -18,6 +18,8 @@ pub enum Refusal {
     InsufficientSpace = 11,
     InvalidStore = 12,
     EmptySlot = 13,
+    InvalidFormula = 14,
+    InvalidFile = 15,
 }
 
 pub type Result<T> = std::result::Result<T, Refusal>;

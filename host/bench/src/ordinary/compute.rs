@@ -89,7 +89,7 @@ impl Write<'_> {
 }
 
 /// Adds up the rows of b that the entries of a row name, each times its entry.
-fn product_row(monoid: BinaryOp, op: BinaryOp, a: Row, b: Matrix, dense: &mut DenseRow, t: &mut RowBuffer) {
+pub fn product_row(monoid: BinaryOp, op: BinaryOp, a: Row, b: Matrix, dense: &mut DenseRow, t: &mut RowBuffer) {
     for (k, x) in a.iter() {
         for (j, y) in b.row(k as usize).iter() {
             dense.add(j, op.apply(x, y), monoid);
@@ -106,7 +106,7 @@ fn intersection_row(op: BinaryOp, a: Row, b: Row, t: &mut RowBuffer) {
     });
 }
 
-fn union_row(op: BinaryOp, a: Row, b: Row, t: &mut RowBuffer) {
+pub fn union_row(op: BinaryOp, a: Row, b: Row, t: &mut RowBuffer) {
     visit_both(a, b, |j, x, y| {
         if let Some(value) = op.unite(x, y) {
             t.push(j, value);

@@ -1,5 +1,7 @@
 //! Matrices in words: the validity test, and a view of a valid one.
 
+use std::ops::Range;
+
 pub const MAX_SIDE: usize = 1000;
 pub const MAX_ENTRIES: usize = 2048;
 
@@ -117,8 +119,13 @@ impl<'a> Matrix<'a> {
         self.columns_at() + self.entries() + 1
     }
 
+    /// The positions of the entries of row i.
+    pub fn span(&self, i: usize) -> Range<usize> {
+        self.starts[i] as usize..self.starts[i + 1] as usize
+    }
+
     pub fn row(&self, i: usize) -> Row<'a> {
-        let span = self.starts[i] as usize..self.starts[i + 1] as usize;
+        let span = self.span(i);
         Row { columns: &self.columns[span.clone()], values: &self.values[span] }
     }
 
@@ -157,6 +164,6 @@ pub fn write_empty(buffer: &mut [u32], rows: u32, cols: u32) {
 }
 
 /// The words before the row starts.
-fn write_front(buffer: &mut [u32], revision: u32, rows: u32, cols: u32) {
+pub fn write_front(buffer: &mut [u32], revision: u32, rows: u32, cols: u32) {
     buffer[..STARTS_AT].copy_from_slice(&[1, revision, 2, rows, cols, rows + 1]);
 }

@@ -22,6 +22,13 @@ impl<'w> Output<'w> {
         Output { starts, columns, values, rows: 0, entries: 0 }
     }
 
+    /// The sections of a result that is in a buffer: row starts, columns and values.
+    pub fn sections(buffer: &[u32], rows: usize, entries: usize) -> (&[u32], &[u32], &[u32]) {
+        let (starts, rest) = buffer.split_at(MAX_SIDE + 1);
+        let (columns, values) = rest.split_at(MAX_ENTRIES);
+        (&starts[..=rows], &columns[..entries], &values[..entries])
+    }
+
     pub fn push(&mut self, column: u32, value: u32) -> Result<()> {
         if self.entries == MAX_ENTRIES {
             return Err(Refusal::TooManyEntries);

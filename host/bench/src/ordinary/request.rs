@@ -13,7 +13,7 @@ const TRANSPOSE_FIRST: u32 = 8;
 const TRANSPOSE_SECOND: u32 = 16;
 
 /// Three of the largest matrices: the result and two transposed inputs.
-const WORKSPACE_WORDS: usize = 3 * MAX_WORDS;
+pub const WORKSPACE_WORDS: usize = 3 * MAX_WORDS;
 
 #[derive(Clone, Copy)]
 pub enum Operation<'a> {

@@ -63,7 +63,7 @@ fn empty(slot: usize, words: &mut [u32]) -> Result<usize> {
 }
 
 /// The store, where it is one and the slots are below 8. Refused by 12.
-fn parse<'a>(words: &'a [u32], slots: &[usize]) -> Result<Store<'a>> {
+pub fn parse<'a>(words: &'a [u32], slots: &[usize]) -> Result<Store<'a>> {
     let store = Store::parse(words).ok_or(Refusal::InvalidStore)?;
     ensure(slots.iter().all(|&slot| slot < SLOTS), Refusal::InvalidStore)?;
     Ok(store)
