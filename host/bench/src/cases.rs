@@ -2,14 +2,14 @@
 
 use crate::entries::Entries;
 use crate::jobs::{
-    library, ordinary, Buffers, Job, LentJob, Operation, Program, ProgramSubject, StoreCall, PLUS, REPLACE,
-    STORE_WORDS, STRUCTURAL, TRANSPOSE_FIRST, WORK_WORDS,
+    library, ordinary, Buffers, DayCall, DayJob, Job, LentJob, Operation, Program, ProgramSubject, StoreCall, PLUS,
+    REPLACE, STORE_WORDS, STRUCTURAL, TRANSPOSE_FIRST, WORK_WORDS,
 };
 use crate::peer::{self, Peer};
-use crate::scene::{full_row, Scene, Size, SIZES};
+use crate::scene::{corridor, full_row, Scene, Size, SIZES};
 use crate::timing::Subject;
 use ostrubel::calls::OptionNumbers;
-use ostrubel::SLOTS;
+use ostrubel::{Store, MAX_ROWS, SLOTS};
 use std::rc::Rc;
 
 /// The table that a case is in.
@@ -20,6 +20,12 @@ pub enum Section {
     Row,
     Lent(Size),
     Store(Size),
+    /// A day matrix over a base matrix.
+    Day(Size),
+    /// Files and texts.
+    Files,
+    /// Keys behind doors.
+    Doors,
 }
 
 /// A call by the library, the ordinary program and SuiteSparse, where they have it.
@@ -32,12 +38,16 @@ pub struct Case {
     pub subjects: [Option<Box<dyn Subject>>; 3],
 }
 
-/// The slots of the store: three matrices and two vectors.
+/// The slots of the store: three matrices, two vectors and the factors of a Kronecker product.
 const A: usize = 0;
 const B: usize = 1;
 const C: usize = 2;
 const U: usize = 3;
 const W: usize = 4;
+const OUTER: usize = 5;
+const BLOCK: usize = 6;
+/// Where the value of a formula goes.
+const TARGET: usize = 7;
 
 const PLAIN: OptionNumbers = OptionNumbers { flags: 0, has_mask: 0, has_accumulator: 0, accumulator: 0 };
 const MASKED: OptionNumbers = OptionNumbers { flags: STRUCTURAL, has_mask: 1, ..PLAIN };
@@ -63,6 +73,11 @@ pub fn all_cases() -> Result<Vec<Case>, String> {
     for scene in &scenes {
         cases.extend(store_cases(scene)?);
     }
+    for scene in &scenes {
+        cases.extend(day_cases(scene)?);
+    }
+    cases.extend(file_cases(&scenes)?);
+    cases.extend(door_cases(&scenes)?);
     Ok(cases)
 }
 
@@ -108,6 +123,72 @@ fn part_case(call: &'static str, variant: &str, job: Job) -> Result<Case, String
     Ok(Case { section: Section::Parts, call, variant: variant.to_string(), entries: None, subjects })
 }
 
+/// A call that SuiteSparse has not, with the entries that it answers, where it does.
+fn own_case(
+    section: Section,
+    call: &'static str,
+    variant: String,
+    job: Job,
+    answers_entries: bool,
+) -> Result<Case, String> {
+    let Agreed { subjects: [library, ordinary], answer, .. } = agree(job, call, &variant)?;
+    let entries = accepted(answer, call, &variant)?;
+    let subjects = [Some(library), Some(ordinary), None];
+    Ok(Case { section, call, variant, entries: answers_entries.then_some(entries), subjects })
+}
+
+fn day_cases(scene: &Scene) -> Result<Vec<Case>, String> {
+    let Scene { size, a, day, marks, w, .. } = scene;
+    let [marked, unmarked] = scene.middle_rows();
+    let ((day_i, day_j), _) = middle_entry(day);
+    let (i, j) = *a.cells.keys().find(|(i, _)| *i >= unmarked && !marks.cells.contains_key(&(0, *i))).expect("one");
+    let calls = [
+        ("`day_rewrite`", "a row without a mark", DayCall::Rewrite { i: unmarked }),
+        ("`day_rewrite`", "a row that has its mark", DayCall::Rewrite { i: marked }),
+        ("`day_back`", "a row that has its mark", DayCall::Back { i: marked }),
+        ("`day_read`", "a present cell of the base matrix", DayCall::Read { i, j }),
+        ("`day_read`", "a present cell of the day matrix", DayCall::Read { i: day_i, j: day_j }),
+        ("`day_fold`", "a quarter of the rows from the day matrix", DayCall::Fold),
+    ];
+    let [base, day, marks, row] = [a, day, marks, w].map(Entries::words);
+    let case = |(name, variant, call): (&'static str, &str, DayCall)| {
+        let answers_entries = !matches!(call, DayCall::Read { .. });
+        let (base, day, marks, row) = (base.clone(), day.clone(), marks.clone(), row.clone());
+        let job = Job::Day(DayJob { call, base, day, marks, row });
+        own_case(Section::Day(*size), name, variant.to_string(), job, answers_entries)
+    };
+    calls.into_iter().map(case).collect()
+}
+
+fn file_cases(scenes: &[Scene]) -> Result<Vec<Case>, String> {
+    let mut cases = Vec::new();
+    for Scene { size, a, .. } in scenes {
+        let variant = format!("a matrix of {} entries in {} rows", size.entries, size.side);
+        let words = a.words();
+        let file = words.iter().flat_map(|word| word.to_le_bytes()).collect();
+        cases.push(own_case(Section::Files, "`read_file`", variant.clone(), Job::ReadFile(file), true)?);
+        cases.push(own_case(Section::Files, "`write_file`", variant.clone(), Job::WriteFile(words.clone()), true)?);
+        cases.push(own_case(Section::Files, "`write_text`", variant, Job::WriteText(words), false)?);
+    }
+    Ok(cases)
+}
+
+fn door_cases(scenes: &[Scene]) -> Result<Vec<Case>, String> {
+    let case = |variant: String, sheets: [&Entries; 3]| {
+        let [locks, cabinets, hand] = sheets.map(Entries::words);
+        own_case(Section::Doors, "`open_doors`", variant, Job::Doors { locks, cabinets, hand }, true)
+    };
+    let mut cases = Vec::new();
+    for Scene { size, a, b, u, .. } in scenes {
+        let (keys, hand) = (size.side, u.cells.len());
+        let variant = format!("{keys} keys and doors, {} entries in each matrix, {hand} keys in hand", size.entries);
+        cases.push(case(variant, [a, b, u])?);
+    }
+    let [locks, cabinets, hand] = corridor(MAX_ROWS as usize);
+    cases.push(case(format!("{MAX_ROWS} doors behind one another, as many rounds"), [&locks, &cabinets, &hand])?);
+    Ok(cases)
+}
+
 /// Reads of each cell of a row with 400 entries. The call is a read of one cell; all of them are timed together.
 fn row_case() -> Result<Case, String> {
     let (call, variant) = ("`read_cell`", "each of the 512 cells of a row with 400 entries, 512 calls");
@@ -132,6 +213,7 @@ fn agree(job: Job, call: &str, variant: &str) -> Result<Agreed, String> {
     let run = |program: Program| {
         let mut buffers = Buffers::default();
         buffers.work.fill(1);
+        buffers.stack.fill(1);
         job.restore(&mut buffers);
         (program(&job, &mut buffers), buffers)
     };
@@ -184,14 +266,23 @@ fn assign(scene: &Scene) -> Operation {
 }
 
 fn plain_text(pattern: &str) -> String {
+    with_pattern("plain", pattern)
+}
+
+/// A variant, and what its matrices are, if they are special.
+fn with_pattern(variant: &str, pattern: &str) -> String {
     match pattern {
-        "" => "plain".to_string(),
-        _ => format!("plain; {pattern}"),
+        "" => variant.to_string(),
+        _ => format!("{variant}; {pattern}"),
     }
 }
 
+fn block_text(block: &Entries) -> String {
+    plain_text(&format!("B of {} by {} cells", block.rows, block.cols))
+}
+
 fn lent_cases(scene: &Scene) -> Result<Vec<Case>, String> {
-    let Scene { size, a, b, mask, c, u, vector_mask, w, .. } = scene;
+    let Scene { size, a, b, mask, c, u, vector_mask, w, outer, block, .. } = scene;
     let (left, right, factors_text) = &scene.factors;
     let (addend, addend_text) = &scene.addend;
     let all = EVERYTHING_TEXT.to_string();
@@ -219,6 +310,7 @@ fn lent_cases(scene: &Scene) -> Result<Vec<Case>, String> {
         ("`assign`", all.clone(), lent_job(assign(scene), EVERYTHING, [a, b, mask, c])),
         ("`kronecker`", plain_text("B of one cell"), lent_job(Operation::Kronecker, PLAIN, [a, &one, mask, c])),
         ("`kronecker`", all, lent_job(Operation::Kronecker, EVERYTHING, [a, &one, mask, c])),
+        ("`kronecker`", block_text(block), lent_job(Operation::Kronecker, PLAIN, [outer, block, mask, c])),
     ];
     jobs.into_iter().map(|(call, variant, job)| lent_case(*size, call, variant, job)).collect()
 }
@@ -231,10 +323,10 @@ fn lent_case(size: Size, call: &'static str, variant: String, job: LentJob) -> R
     Ok(Case { section: Section::Lent(size), call, variant, entries, subjects: [Some(library), Some(ordinary), peer] })
 }
 
-/// The words of a store with `a` and the scene's other matrices.
-fn store_words(scene: &Scene, a: &Entries) -> Vec<u32> {
+/// The words of a store with these matrices.
+fn store_words(matrices: &[&Entries]) -> Vec<u32> {
     let mut words = Vec::new();
-    for entries in [a, &scene.b, &scene.c, &scene.u, &scene.w] {
+    for entries in matrices {
         let matrix = entries.words();
         words.push(matrix.len() as u32);
         words.extend(matrix);
@@ -275,6 +367,7 @@ fn store_cases(scene: &Scene) -> Result<Vec<Case>, String> {
         ("`store_select`", "plain", operation(Operation::Select, PLAIN, [A, A, A, C])),
         ("`store_reduce_rows`", "plain", operation(Operation::ReduceRows, PLAIN, [A, A, W, W])),
         ("`store_assign`", "plain", operation(assign(scene), PLAIN, [A, A, A, C])),
+        ("`store_kronecker`", &block_text(&scene.block), operation(Operation::Kronecker, PLAIN, [OUTER, BLOCK, C, C])),
     ];
     let mut cases = Vec::new();
     for (call, variant, job) in cell_calls.into_iter().chain(operations) {
@@ -283,13 +376,34 @@ fn store_cases(scene: &Scene) -> Result<Vec<Case>, String> {
     // A full matrix takes no new cell: the first one lacks the entry that is put.
     let new_cell = StoreCall::SetCell { slot: A, i, j, value: 7 };
     cases.insert(2, store_case(scene, &without, "`store_set_cell`", "a new cell", new_cell)?);
+    let (left, right, factors_text) = &scene.factors;
+    cases.push(formula_case(scene.size, "0*1", factors_text, &[left, right])?);
+    // A sum of two products of more entries would have too many.
+    if scene.size.entries == SIZES[0].entries {
+        let matrices = [left, right, &scene.c, &scene.mask];
+        cases.push(formula_case(scene.size, "0*1+2*3", factors_text, &matrices)?);
+    }
     Ok(cases)
+}
+
+/// A formula over a store with these matrices alone, into an empty slot.
+fn formula_case(size: Size, text: &'static str, about: &str, matrices: &[&Entries]) -> Result<Case, String> {
+    let call = "`store_formula`";
+    let variant = with_pattern(&format!("`{text}`"), about);
+    let peer = peer::formula(text, matrices);
+    let job = Job::Store(StoreCall::Formula { target: TARGET, text }, store_words(matrices));
+    let Agreed { subjects: [library, ordinary], answer, after } = agree(job, call, &variant)?;
+    let entries = Some(accepted(answer, call, &variant)?);
+    let value =
+        Store::from_words(after.store).and_then(|store| store.matrix(TARGET)).map_err(|error| error.to_string())?;
+    let peer = agree_peer(peer, value.words(), call, &variant)?;
+    Ok(Case { section: Section::Store(size), call, variant, entries, subjects: [Some(library), Some(ordinary), peer] })
 }
 
 fn store_case(scene: &Scene, a: &Entries, call: &'static str, variant: &str, job: StoreCall) -> Result<Case, String> {
     let peer = peer::element(&job, a);
     let is_read = matches!(job, StoreCall::ReadCell { .. } | StoreCall::Reduce { .. });
-    let job = Job::Store(job, store_words(scene, a));
+    let job = Job::Store(job, store_words(&[a, &scene.b, &scene.c, &scene.u, &scene.w, &scene.outer, &scene.block]));
     let Agreed { subjects: [library, ordinary], answer, after } = agree(job, call, variant)?;
     let entries = if is_read { None } else { Some(accepted(answer, call, variant)?) };
     // A call on a cell is on the matrix in the first slot, which begins behind its count.

@@ -6,6 +6,7 @@ use ostrubel::calls::{self as library_calls, OptionNumbers};
 use std::hint::black_box;
 use std::rc::Rc;
 
+use ostrubel::{FORMULA_WORDS, MAX_ALLOWANCE, MAX_TEXT_BYTES};
 pub use ostrubel::{MAX_MATRIX_WORDS as MATRIX_WORDS, MAX_STORE_WORDS as STORE_WORDS, WORKSPACE_WORDS as WORK_WORDS};
 
 pub const REPLACE: u32 = 1;
@@ -27,14 +28,27 @@ pub const THRESHOLD: u32 = 0;
 /// The buffers that calls write: the same for the library and the ordinary program.
 #[derive(Clone, PartialEq, Eq)]
 pub struct Buffers {
+    /// C, or a new matrix, or the day matrix.
     pub c: Vec<u32>,
+    pub marks: Vec<u32>,
     pub store: Vec<u32>,
     pub work: Vec<u32>,
+    /// Of formulas.
+    pub stack: Vec<u32>,
+    /// A file or a text.
+    pub bytes: Vec<u8>,
 }
 
 impl Default for Buffers {
     fn default() -> Self {
-        Buffers { c: vec![0; MATRIX_WORDS], store: vec![0; STORE_WORDS], work: vec![0; WORK_WORDS] }
+        Buffers {
+            c: vec![0; MATRIX_WORDS],
+            marks: vec![0; MATRIX_WORDS],
+            store: vec![0; STORE_WORDS],
+            work: vec![0; WORK_WORDS],
+            stack: vec![0; FORMULA_WORDS],
+            bytes: vec![0; MAX_TEXT_BYTES],
+        }
     }
 }
 
@@ -68,7 +82,24 @@ pub enum StoreCall {
     ClearCell { slot: usize, i: u32, j: u32 },
     ReadCell { slot: usize, i: u32, j: u32 },
     Reduce { slot: usize },
+    Formula { target: usize, text: &'static str },
     Operation { operation: Operation, options: OptionNumbers, a: usize, b: usize, mask: usize, c: usize },
+}
+
+pub enum DayCall {
+    Rewrite { i: u32 },
+    Back { i: u32 },
+    Read { i: u32, j: u32 },
+    Fold,
+}
+
+/// A call on a day matrix over a base matrix. `row` is the new row.
+pub struct DayJob {
+    pub call: DayCall,
+    pub base: Vec<u32>,
+    pub day: Vec<u32>,
+    pub marks: Vec<u32>,
+    pub row: Vec<u32>,
 }
 
 pub enum Job {
@@ -86,32 +117,52 @@ pub enum Job {
     Lent(LentJob),
     /// A call on a store with these words.
     Store(StoreCall, Vec<u32>),
+    Day(DayJob),
+    ReadFile(Vec<u8>),
+    WriteFile(Vec<u32>),
+    WriteText(Vec<u32>),
+    /// The doors that open, as far as there are rounds.
+    Doors {
+        locks: Vec<u32>,
+        cabinets: Vec<u32>,
+        hand: Vec<u32>,
+    },
 }
 
 impl Job {
-    /// Old C or the old store into their buffer. The workspace is as the last call left it: zeros.
+    /// Old C, the old store or the old day matrix and marks into their buffers. Workspace and stack are as the last call
+    /// left them: zeros.
     pub fn restore(&self, buffers: &mut Buffers) {
         match self {
-            Job::Check(_) | Job::Fill | Job::Reduce(_) | Job::ReadRow { .. } => {}
             Job::Lent(job) => buffers.c[..job.c.len()].copy_from_slice(&job.c),
             Job::Store(_, store) => buffers.store.copy_from_slice(store),
+            Job::Day(job) if job.writes() => {
+                buffers.c[..job.day.len()].copy_from_slice(&job.day);
+                buffers.marks[..job.marks.len()].copy_from_slice(&job.marks);
+            }
+            _ => {}
         }
     }
 
+    /// Whether a second call finds and does what the first one did.
     pub fn repeats(&self) -> bool {
         use StoreCall::{ReadCell, Reduce};
         match self {
-            Job::Check(_) | Job::Fill | Job::Reduce(_) | Job::ReadRow { .. } => true,
             Job::Lent(_) => false,
             Job::Store(call, _) => matches!(call, ReadCell { .. } | Reduce { .. }),
+            Job::Day(job) => !job.writes(),
+            _ => true,
         }
     }
 
-    /// Each word that the call is to look at is read once, each of C and of the workspace is written once. The workspace
-    /// is left as a call leaves it.
-    fn floor(&self, Buffers { c, store, work }: &mut Buffers) -> u32 {
+    /// Each word that the call is to look at is read once, each of old C, of the workspace and of the stack is written once.
+    /// Workspace and stack are left as a call leaves them.
+    fn floor(&self, Buffers { c, store, work, stack, .. }: &mut Buffers) -> u32 {
         match self {
-            Job::Check(words) | Job::Reduce(words) => read(words),
+            Job::Check(words) | Job::Reduce(words) | Job::WriteFile(words) | Job::WriteText(words) => read(words),
+            Job::ReadFile(bytes) => u32::from(bytes.iter().fold(0, |bits, byte| bits | byte)),
+            Job::Day(job) => read_all(&job.inputs()),
+            Job::Doors { locks, cabinets, hand } => read_all(&[locks, cabinets, hand]) | write(work),
             Job::Fill => write(work),
             Job::ReadRow { words, cols } => (0..*cols).fold(0, |bits, _| bits | read(black_box(words))),
             Job::Lent(job) if job.options.flags > MAX_FLAGS => write(work),
@@ -122,6 +173,7 @@ impl Job {
             Job::Store(StoreCall::Operation { operation, .. }, _) => {
                 read(store) | read_all(&operation.lists()) | write(work)
             }
+            Job::Store(StoreCall::Formula { .. }, _) => read(store) | write(stack),
             Job::Store(..) => read(store),
         }
     }
@@ -136,6 +188,20 @@ impl LentJob {
         let mask = if self.options.has_mask != 0 { &self.mask[..] } else { &[] };
         let [rows, cols] = self.operation.lists();
         [&self.a, b, mask, rows, cols]
+    }
+}
+
+impl DayJob {
+    /// Whether it writes into the day matrix and the marks.
+    fn writes(&self) -> bool {
+        matches!(self.call, DayCall::Rewrite { .. } | DayCall::Back { .. })
+    }
+
+    /// What the call reads; no words for what it has not.
+    fn inputs(&self) -> [&[u32]; 4] {
+        let base = if self.writes() { &[] } else { &self.base[..] };
+        let row = if matches!(self.call, DayCall::Rewrite { .. }) { &self.row[..] } else { &[] };
+        [base, &self.day, &self.marks, row]
     }
 }
 
@@ -182,7 +248,24 @@ macro_rules! program {
                         answers.wrapping_mul(31) ^ $calls::read_cell(0, j, black_box(words))
                     }),
                     Job::Lent(job) => lent(job, &mut buffers.c, &mut buffers.work),
-                    Job::Store(call, _) => store(call, &mut buffers.store, &mut buffers.work),
+                    Job::Store(call, _) => store(call, buffers),
+                    Job::Day(job) => day(job, &mut buffers.c, &mut buffers.marks),
+                    Job::ReadFile(file) => $calls::read_file(file, &mut buffers.c),
+                    Job::WriteFile(words) => $calls::write_file(words, &mut buffers.bytes),
+                    Job::WriteText(words) => $calls::write_text(words, &mut buffers.bytes),
+                    Job::Doors { locks, cabinets, hand } => {
+                        let Buffers { c, work, .. } = buffers;
+                        $calls::open_doors(MAX_ALLOWANCE, locks, cabinets, hand, c, work)
+                    }
+                }
+            }
+
+            fn day(job: &DayJob, c: &mut [u32], marks: &mut [u32]) -> u64 {
+                match job.call {
+                    DayCall::Rewrite { i } => $calls::day_rewrite(i, &job.row, c, marks),
+                    DayCall::Back { i } => $calls::day_back(i, c, marks),
+                    DayCall::Read { i, j } => $calls::day_read(i, j, &job.base, &job.day, &job.marks),
+                    DayCall::Fold => $calls::day_fold(&job.base, &job.day, &job.marks, c),
                 }
             }
 
@@ -202,7 +285,8 @@ macro_rules! program {
                 }
             }
 
-            fn store(call: &StoreCall, words: &mut [u32], work: &mut [u32]) -> u64 {
+            fn store(call: &StoreCall, buffers: &mut Buffers) -> u64 {
+                let Buffers { store: words, work, stack, .. } = buffers;
                 match *call {
                     StoreCall::NewEmpty { slot, rows, cols } => $calls::store_new_empty(slot, rows, cols, words),
                     StoreCall::Drop { slot } => $calls::store_drop(slot, words),
@@ -210,6 +294,9 @@ macro_rules! program {
                     StoreCall::ClearCell { slot, i, j } => $calls::store_clear_cell(slot, i, j, words),
                     StoreCall::ReadCell { slot, i, j } => $calls::store_read_cell(slot, i, j, words),
                     StoreCall::Reduce { slot } => $calls::store_reduce(slot, PLUS, words),
+                    StoreCall::Formula { target, text } => {
+                        $calls::store_formula(target, PLUS, TIMES, text.as_bytes(), words, stack)
+                    }
                     StoreCall::Operation { ref operation, options, a, b, mask, c } => {
                         store_operation(operation, options, [a, b, mask, c], words, work)
                     }

@@ -42,6 +42,12 @@ pub struct Scene {
     /// All rows and all columns in random order.
     pub row_list: Vec<u32>,
     pub col_list: Vec<u32>,
+    /// Two matrices whose Kronecker product has the size: the second is a block with a value in every cell.
+    pub outer: Entries,
+    pub block: Entries,
+    /// A day matrix over A and its marks: a quarter of the rows is marked, and has B's entries at A's positions.
+    pub day: Entries,
+    pub marks: Entries,
 }
 
 impl Scene {
@@ -66,12 +72,47 @@ impl Scene {
         let (u, vector_mask, w) = (vector(), vector(), vector());
         let vector_mask = vector_mask.with_zeros(rng);
         let (row_list, col_list) = (rng.permutation(all), rng.permutation(all));
+        let width = if side % 5 == 0 { 5 } else { 4 };
+        let outer = Entries::random(rng, side / width, side / width, entries / (width * width)).spread(spread);
+        let block = Entries::random(rng, width, width, width * width);
         let [a, b, mask, c] = [a, b, mask, c].map(|entries| entries.spread(spread));
+        let (day, marks) = day_over(&a, &b, MARKED * spread);
         let [u, vector_mask, w] = [u, vector_mask, w].map(|entries| entries.spread(spread));
         let factors = (factors.0.spread(spread), factors.1.spread(spread), factors.2);
         let addend = (addend.0.spread(spread), addend.1);
-        Scene { size, a, b, mask, c, factors, addend, u, vector_mask, w, row_list, col_list }
+        Scene { size, a, b, mask, c, factors, addend, u, vector_mask, w, row_list, col_list, outer, block, day, marks }
     }
+
+    /// The marked row in the middle, and one that has no mark.
+    pub fn middle_rows(&self) -> [u32; 2] {
+        let (marked, spread) = (MARKED * self.size.spread, self.size.spread);
+        let middle = self.size.side / 2 / marked * marked;
+        [middle as u32, (middle + spread) as u32]
+    }
+}
+
+/// One row in so many is marked.
+const MARKED: usize = 4;
+
+/// Every row whose number `step` divides is marked; in these the day matrix has the entries of `b` at positions of `a`.
+fn day_over(a: &Entries, b: &Entries, step: usize) -> (Entries, Entries) {
+    let is_marked = |i: u32| i as usize % step == 0;
+    let mut day = b.clone();
+    day.cells.retain(|position, _| is_marked(position.0) && a.cells.contains_key(position));
+    let mut marks = Entries::new(1, a.rows);
+    marks.cells.extend((0..a.rows as u32).filter(|&i| is_marked(i)).map(|i| ((0, i), 1)));
+    (day, marks)
+}
+
+/// Key k opens door k, and key k + 1 is behind it; key 0 is in hand. So each of the doors takes a round.
+pub fn corridor(length: usize) -> [Entries; 3] {
+    let keys = 0..length as u32;
+    let [mut locks, mut cabinets] = [(); 2].map(|()| Entries::new(length, length));
+    locks.cells.extend(keys.clone().map(|k| ((k, k), 1)));
+    cabinets.cells.extend(keys.skip(1).map(|k| ((k - 1, k), 1)));
+    let mut hand = Entries::new(1, length);
+    hand.cells.insert((0, 0), 1);
+    [locks, cabinets, hand]
 }
 
 fn with_words((a, b): (Entries, Entries), words: &'static str) -> (Entries, Entries, &'static str) {

@@ -41,6 +41,9 @@ fn title(section: Section) -> String {
         Section::Row => "The cells of a row".to_string(),
         Section::Lent(of) => format!("{}: lent matrices", size(of)),
         Section::Store(of) => format!("{}: a store of {STORE_WORDS} words", size(of)),
+        Section::Day(of) => format!("{}: a day matrix over a base matrix", size(of)),
+        Section::Files => "Files and texts".to_string(),
+        Section::Doors => "Keys behind doors".to_string(),
     }
 }
 

@@ -13,10 +13,14 @@ fn all_sides_agree() {
     let count = |of: fn(Section) -> bool| cases.iter().filter(|case| of(case.section)).count();
     assert_eq!(count(|section| section == Section::Parts), 2 * SIZES.len() + 2);
     assert_eq!(count(|section| section == Section::Row), 1);
-    assert_eq!(count(|section| matches!(section, Section::Lent(_))), 22 * SIZES.len());
-    assert_eq!(count(|section| matches!(section, Section::Store(_))), 16 * SIZES.len());
+    assert_eq!(count(|section| matches!(section, Section::Lent(_))), 23 * SIZES.len());
+    let sums = SIZES.iter().filter(|size| size.entries == 300).count();
+    assert_eq!(count(|section| matches!(section, Section::Store(_))), 18 * SIZES.len() + sums);
+    assert_eq!(count(|section| matches!(section, Section::Day(_))), 6 * SIZES.len());
+    assert_eq!(count(|section| section == Section::Files), 3 * SIZES.len());
+    assert_eq!(count(|section| section == Section::Doors), SIZES.len() + 1);
     let has_peer = |case: &&Case| case.subjects[2].is_some();
-    let peers = if cfg!(feature = "suitesparse") { (22 + 4 + 1) * SIZES.len() + 1 } else { 0 };
+    let peers = if cfg!(feature = "suitesparse") { (23 + 4 + 1 + 1) * SIZES.len() + sums + 1 } else { 0 };
     assert_eq!(cases.iter().filter(has_peer).count(), peers);
 }
 
@@ -41,7 +45,7 @@ fn products_are_measured() {
 #[test]
 fn matrices_have_their_entries() {
     for size in SIZES {
-        let Scene { a, b, mask, c, factors, addend, .. } = Scene::new(size);
+        let Scene { a, b, mask, c, factors, addend, outer, block, day, marks, .. } = Scene::new(size);
         for entries in [&a, &b, &mask, &c, &factors.0, &factors.1, &addend.0] {
             assert_eq!((entries.rows, entries.cols, entries.cells.len()), (size.side, size.side, size.entries));
             let words = entries.words();
@@ -51,5 +55,9 @@ fn matrices_have_their_entries() {
         let common = a.cells.keys().filter(|position| b.cells.contains_key(position)).count();
         assert!(common >= size.entries / 2);
         assert!(mask.cells.values().any(|&value| value == 0));
+        assert_eq!([outer.rows * block.rows, outer.cols * block.cols], [size.side; 2]);
+        assert_eq!((outer.cells.len() * block.cells.len(), block.rows > 1), (size.entries, true));
+        assert_eq!((marks.cols, marks.cells.len()), (size.side, (size.side / size.spread).div_ceil(4)));
+        assert!(day.cells.keys().all(|position| marks.cells.contains_key(&(0, position.0))));
     }
 }

@@ -13,7 +13,7 @@ use crate::timing::Subject;
 #[cfg(feature = "suitesparse")]
 pub use elements::{element, row};
 #[cfg(feature = "suitesparse")]
-pub use operations::{operation, total};
+pub use operations::{formula, operation, total};
 
 /// A call whose result can be looked at.
 pub trait Peer: Subject {
@@ -24,6 +24,12 @@ pub trait Peer: Subject {
 /// An operation on lent matrices.
 #[cfg(not(feature = "suitesparse"))]
 pub fn operation(_: &LentJob) -> Option<Box<dyn Peer>> {
+    None
+}
+
+/// A formula without brackets over matrices in the slots from 0 on.
+#[cfg(not(feature = "suitesparse"))]
+pub fn formula(_: &str, _: &[&Entries]) -> Option<Box<dyn Peer>> {
     None
 }
 

@@ -19,9 +19,78 @@ pub fn operation(job: &LentJob) -> Option<Box<dyn Peer>> {
 }
 
 fn matrix(words: &[u32]) -> Matrix {
-    let Entries { rows, cols, cells } = Entries::read(words);
-    let triples: Vec<(u32, u32, i32)> = cells.into_iter().map(|((i, j), value)| (i, j, value)).collect();
-    Matrix::from_triples(rows as u32, cols as u32, &triples).expect(FAILED)
+    matrix_of(&Entries::read(words))
+}
+
+fn matrix_of(Entries { rows, cols, cells }: &Entries) -> Matrix {
+    let triples: Vec<(u32, u32, i32)> = cells.iter().map(|(&(i, j), &value)| (i, j, value)).collect();
+    Matrix::from_triples(*rows as u32, *cols as u32, &triples).expect(FAILED)
+}
+
+fn entries_of(matrix: &Matrix) -> Entries {
+    let (rows, cols) = matrix.shape().expect(FAILED);
+    let triples = matrix.triples().expect(FAILED);
+    let cells = triples.into_iter().map(|(i, j, value)| ((i, j), value)).collect();
+    Entries { rows: rows as usize, cols: cols as usize, cells }
+}
+
+/// A formula without brackets over matrices in the slots from 0 on: each step by its call, into a new matrix.
+pub fn formula(text: &str, matrices: &[&Entries]) -> Option<Box<dyn Peer>> {
+    let slot = |factor: &str| factor.parse().expect("a digit");
+    let terms = text.split('+').map(|term| term.split('*').map(slot).collect()).collect();
+    let matrices: Vec<Matrix> = matrices.iter().map(|entries| matrix_of(entries)).collect();
+    let plain = Descriptor::new(0).expect(FAILED);
+    Some(Box::new(FormulaCall { terms, matrices, semiring: semiring(), plain, value: None }))
+}
+
+struct FormulaCall {
+    /// The slots of each term's factors.
+    terms: Vec<Vec<usize>>,
+    matrices: Vec<Matrix>,
+    semiring: Semiring,
+    plain: Descriptor,
+    value: Option<Matrix>,
+}
+
+impl FormulaCall {
+    /// A step into a new matrix, by the shapes of its operands.
+    fn step(&self, is_product: bool, a: &Matrix, b: &Matrix) -> Matrix {
+        let c = Matrix::new(a.shape().expect(FAILED).0, b.shape().expect(FAILED).1).expect(FAILED);
+        let write = WriteBack { mask: None, accumulator: None, descriptor: &self.plain };
+        let done = match is_product {
+            true => suitesparse::mxm(&c, write, &self.semiring, a, b),
+            false => suitesparse::ewise_add(&c, write, Binary::Plus, a, b),
+        };
+        done.expect(FAILED);
+        c
+    }
+
+    fn term(&self, slots: &[usize]) -> Matrix {
+        let [first, second, rest @ ..] = slots else { panic!("a product has two factors at least") };
+        let product = self.step(true, &self.matrices[*first], &self.matrices[*second]);
+        rest.iter().fold(product, |product, slot| self.step(true, &product, &self.matrices[*slot]))
+    }
+}
+
+impl Subject for FormulaCall {
+    fn restore(&mut self, _: &mut Buffers) {
+        self.value = None;
+    }
+
+    fn call(&mut self, _: &mut Buffers) {
+        let terms = self.terms.iter().map(|slots| self.term(slots));
+        self.value = terms.reduce(|sum, term| self.step(false, &sum, &term));
+    }
+
+    fn repeats(&self) -> bool {
+        false
+    }
+}
+
+impl Peer for FormulaCall {
+    fn result(&self) -> Entries {
+        entries_of(self.value.as_ref().expect("after a call"))
+    }
 }
 
 fn vector(words: &[u32]) -> Vector {
@@ -144,10 +213,7 @@ impl Subject for MatrixCall {
 
 impl Peer for MatrixCall {
     fn result(&self) -> Entries {
-        let (rows, cols) = self.c.shape().expect(FAILED);
-        let triples = self.c.triples().expect(FAILED);
-        let cells = triples.into_iter().map(|(i, j, value)| ((i, j), value)).collect();
-        Entries { rows: rows as usize, cols: cols as usize, cells }
+        entries_of(&self.c)
     }
 }
 
