@@ -20,8 +20,8 @@
  * Answers. Each call returns one number: take it apart by the functions below. A call that is accepted has the code 0;
  * only ostrubel_row_view and ostrubel_day_show have no code.
  * A refused call has the lowest code that applies (on a store 12 comes first, and 13 between 2 and 7; of a file 15 comes
- * before 11), changes no word but the workspace's, and its entries, value, position or number are 0. The workspace is all
- * zeros after every call that has one.
+ * before 11; of a formula in the order that is said there), changes no word but the workspace's or a formula's stack's, and
+ * its entries, value, position or number are 0. Workspace and stack are all zeros after every call that has them.
  *
  * Threads. A call takes no memory beside its buffers and the stack, and keeps nothing: calls on several threads may run
  * at once where each has buffers of its own (those that are only read may be shared). 48 KB of stack are enough for any
@@ -37,7 +37,7 @@
 extern "C" {
 #endif
 
-/* A number of words or bytes, or a slot: 64 bits on every target, also where ostrubel_size has 32 (wasm32). */
+/* A number of words or bytes, or a slot: 64 bits on every target, also where size_t has 32 (wasm32). */
 typedef uint64_t ostrubel_size;
 
 /* Sizes, in words of 32 bits. */
@@ -70,9 +70,9 @@ enum {
     OSTRUBEL_FLAGS_OUT_OF_RANGE = 1,   /* flags above 31 */
     OSTRUBEL_UNKNOWN_OPERATOR = 2,     /* no such operator, monoid or accumulator */
     OSTRUBEL_INVALID_FIRST = 3,        /* the first input is no valid matrix; also the one to check or read */
-    OSTRUBEL_INVALID_SECOND = 4,       /* the second input is no valid matrix */
-    OSTRUBEL_INVALID_MASK = 5,         /* the mask, or the vector of the keys in hand, is no valid matrix */
-    OSTRUBEL_INVALID_OUTPUT = 6,       /* old C is no valid matrix */
+    OSTRUBEL_INVALID_SECOND = 4,       /* the second input, or the day matrix, is no valid matrix */
+    OSTRUBEL_INVALID_MASK = 5,         /* the mask, the marks or the keys in hand are no valid matrix */
+    OSTRUBEL_INVALID_OUTPUT = 6,       /* old C, or the new row of a day matrix, is no valid matrix */
     OSTRUBEL_INDEX_OUT_OF_BOUNDS = 7,  /* an index list shorter than 1 or longer than 1,000, or with an index twice;
                                           an index, row or column past A (as transposed) or past the matrix named,
                                           which is C for an assign;
@@ -80,8 +80,9 @@ enum {
     OSTRUBEL_INVALID_SHAPE = 8,        /* rows or columns outside 1 to 1,000; shapes of inputs, mask, C and result
                                           disagree; no vector (one row) where one is due */
     OSTRUBEL_WORKSPACE_TOO_SHORT = 9,  /* a workspace under 15,315 words, or a formula's stack under 65,000 */
-    OSTRUBEL_TOO_MANY_ENTRIES = 10,    /* the final C, or the matrix a cell is set in, would have over 2,048 entries */
-    OSTRUBEL_INSUFFICIENT_SPACE = 11,  /* the final C, a new matrix or the store does not fit its buffer */
+    OSTRUBEL_TOO_MANY_ENTRIES = 10,    /* the final C, or another matrix that is written or is a step of a formula, would
+                                          have over 2,048 entries */
+    OSTRUBEL_INSUFFICIENT_SPACE = 11,  /* the final C, another matrix, the store or a file does not fit its buffer */
     OSTRUBEL_INVALID_STORE = 12,       /* the length or the words are no store's, or a slot above 7 */
     OSTRUBEL_EMPTY_SLOT = 13,          /* a slot that must have a matrix is empty */
     OSTRUBEL_INVALID_FORMULA = 14,     /* a text that is no formula */
@@ -388,8 +389,9 @@ uint64_t ostrubel_store_kronecker(uint32_t flags, uint32_t has_mask, uint32_t ha
 /* ---- Files and texts: bytes that the caller owns, passed as a pointer and their number ---- */
 
 /*
- * A file is the words of a valid matrix and nothing more, four bytes each, the lowest byte first. Every grid has one file,
- * and reading what was written gives the words back. Any number of bytes may be passed.
+ * A file is the words of a valid matrix and nothing more, four bytes each, the lowest byte first. A matrix with its revision
+ * has one file, and reading what was written gives the words back. A file of the form before revisions, which begins with 2,
+ * is read too: its matrix has revision 0. Any number of bytes may be passed.
  */
 
 /* The matrix of a file at the front of the words. Answers its entries. Refused by 15, 11. */

@@ -122,6 +122,17 @@ impl Matrix {
     /// Row i of this day matrix becomes the row of a vector, and is marked with 1. [`DayOver::rewrite`] does it beside a
     /// base matrix. Answers the entries of the day matrix.
     ///
+    /// ```
+    /// use ostrubel::{Error, Matrix};
+    ///
+    /// let (mut day, mut marks) = (Matrix::new(3, 2)?, Matrix::new(1, 3)?);
+    /// assert_eq!(day.rewrite_row(&mut marks, 1, &Matrix::from_triples(1, 2, [(0, 1, 21)])?)?, 1);
+    /// assert_eq!((day.to_triples(), marks.to_triples()), (vec![(1, 1, 21)], vec![(0, 1, 1)]));
+    /// assert_eq!(day.take_row_back(&mut marks, 1)?, 0);
+    /// assert_eq!(marks.entries(), 0);
+    /// # Ok::<(), Error>(())
+    /// ```
+    ///
     /// # Errors
     ///
     /// `IndexOutOfBounds` for a row outside the matrix; `InvalidShape` where the marks are no vector with a column for each

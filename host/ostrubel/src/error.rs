@@ -31,11 +31,11 @@ pub enum Error {
     UnknownOperator = 2,
     /// 3: the first input, or the only one, is no valid matrix.
     InvalidFirst = 3,
-    /// 4: the second input is no valid matrix.
+    /// 4: the second input, or the day matrix, is no valid matrix.
     InvalidSecond = 4,
-    /// 5: the mask, or the vector of the keys in hand, is no valid matrix.
+    /// 5: the mask, the marks or the keys in hand are no valid matrix.
     InvalidMask = 5,
-    /// 6: the output is no valid matrix.
+    /// 6: the output, or the new row of a day matrix, is no valid matrix.
     InvalidOutput = 6,
     /// 7: an index, row or column past the matrix, or an index list that is empty, has over [`MAX_INDEXES`] indexes or
     /// has one of them twice, or an allowance above [`MAX_ALLOWANCE`].
