@@ -96,7 +96,7 @@ const MARKED: usize = 4;
 
 /// Every row whose number `step` divides is marked; in these the day matrix has the entries of `b` at positions of `a`.
 fn day_over(a: &Entries, b: &Entries, step: usize) -> (Entries, Entries) {
-    let is_marked = |i: u32| i as usize % step == 0;
+    let is_marked = |i: u32| (i as usize).is_multiple_of(step);
     let mut day = b.clone();
     day.cells.retain(|position, _| is_marked(position.0) && a.cells.contains_key(position));
     let mut marks = Entries::new(1, a.rows);
