@@ -11,7 +11,7 @@ pub trait Subject {
     /// The call that is timed.
     fn call(&mut self, buffers: &mut Buffers);
 
-    /// Whether a call changes nothing, so that nothing has to be put back.
+    /// Whether nothing has to be put back: a call changes nothing, or writes the same anew whatever was there.
     fn repeats(&self) -> bool;
 
     /// What no such call can do without, and nothing else.
