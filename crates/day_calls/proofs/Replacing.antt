@@ -64,7 +64,8 @@ module _ {day marks new : List ℕ} {i : ℕ} (r : Rewritable day marks i new) w
   pub count-with : countWith (entries day) (start day i) (start day (i + 1)) (entries new) ≡ entryCount (dayWith day i new)
   count-with =
       let g : length (gather column (cols day) (cellOf new 0)) ≡ entries new =
-      ap (λ (n : ℕ). length (gather column n (cellOf new 0))) (sym (r .new-cols)) ∙ vector-gathered (r .new-valid) (r .new-row) in
+      ap (λ (n : ℕ). length (gather column n (cellOf new 0))) (sym (r .new-cols))
+      ∙ vector-gathered (r .new-valid) (r .new-row) in
       ap (λ (k : ℕ). countWith (entries day) (start day i) (start day (i + 1)) k) (sym g)
       ∙ row-counted (r .back .over .day-valid) (r .back .row) (cellOf new 0)
 

@@ -21,15 +21,17 @@ use Rattle.day_folds.specs.Folding.{lentFold}
 use Rattle.day_calls.specs.Calls.{throughAnswer}
 use Rattle.day_claims.specs.Plain.{cellRead}
 
--- a cell that is found is read
+-- an accepted answer of a read, which gives the cell c
 pub record ReadAs (a : CellAnswer) (c : Cell) : Type 0 where
   pub code : a .code ≡ 0
   pub cell : cellRead a ≡ c
 
+-- the answer of a cell that was searched gives it
 found-of : (c : Cell) (p : ℕ) → ReadAs (foundAnswer (entryOf c p)) c
 found-of Absent p = record { code = refl; cell = refl }
 found-of (Present v) p = record { code = refl; cell = refl }
 
+-- so does the answer of a grid's cell
 pub found-read : (g : Grid) (i j : ℕ) → ReadAs (foundAnswer (entryAt g i j)) (g .cell i j)
 unfolding entryAt
 found-read g i j = found-of (g .cell i j) (entryPosition g i j)
@@ -55,10 +57,12 @@ module _ (base day marks : List ℕ) (i j : ℕ) (r : Readable base day marks i 
       sym (read-rest base day marks i j 0 b (sym (neither-refused day marks d m))
       (rw (lt-leb _ _ (r .row), lt-leb _ _ (r .col), same-holds, vector-holds)))
 
+  -- and the cell is the folded grid's
   pub through-read : ReadAs (throughAnswer base day marks i j) (lentFold base day marks .cell i j)
   unfolding throughAnswer
   through-read = rw none (found-read (shownFrom (gridOf base) (gridOf day) (gridOf marks) i) i j)
 
+-- a cell of a pair that fits together can be read
 pub readable : {base day marks : List ℕ} {i j : ℕ} → Pair base day marks → i < rows base → j < cols base
     → Readable base day marks i j
 readable p l m = record { pair = p; row = l; col = m }

@@ -25,6 +25,7 @@ pub record Holds (g : Grid) (s : List ℕ) : Type 0 where
   pub matrix : Matrix s
   pub same : Same (gridOf s) g
 
+-- what the contracts say of the words, `writtenRevised`, gives that
 pub written-holds : (v : ℕ) (g : Grid) (w s : List ℕ) → Within g → s ≡ writtenRevised v g w → Holds g s
 written-holds v g w s h e =
     rw e (record {
@@ -32,11 +33,12 @@ written-holds v g w s h e =
       same = encode-same v g (drop (gridSize g) w);
     })
 
--- with another row
+-- a matrix with another row can be written, if its entries are not too many
 pub row-within : {s : List ℕ} (i : ℕ) (row : ℕ → Cell) → Matrix s → entryCount (withRow (gridOf s) i row) ≤ maxEntries
     → Within (withRow (gridOf s) i row)
 row-within i row m few = record { row-range = m .header .row-range; col-range = m .header .col-range; few = few }
 
+-- they are not, where a row goes
 pub without-few : {day marks : List ℕ} {i : ℕ} (b : Backable day marks i) → entryCount (dayWithout day i) ≤ maxEntries
 without-few {day} {marks} {i} b =
     let m = b .over .day-valid in

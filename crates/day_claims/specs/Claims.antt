@@ -10,6 +10,7 @@ use borrow.Fn.Picked.{KnownAs}
 use Rattle.answers.specs.declared.Answer.{Answer}
 use Rattle.answers.specs.declared.CellAnswer.{CellAnswer}
 use Rattle.words.specs.Lent.{Address, lent}
+use Rattle.grid.specs.declared.Cell.{Cell}
 use Rattle.grid.specs.Grid.{Grid}
 use Rattle.matrix.specs.Layout.{rows, cols, gridOf}
 use Rattle.cells.proofs.read_cell.Reads as read-cell-reads
@@ -68,6 +69,28 @@ Folding =
     → read-cell-reads.Learnt μs (lent r out′, (i, (j, tt))) c (lent r out′, (i, (j, tt)))
     → (a .code ≡ 0) × (c .code ≡ 0) × (cellRead a ≡ cellRead c)
 
+-- reads through the pair, before a call and after it: row i reads as `row`, and every other row as before
+abbrev pub RowReads : List ℕ → List ℕ → List ℕ → List ℕ → List ℕ → ℕ → (ℕ → Cell) → Type 0
+RowReads base day marks day′ marks′ i row =
+    (κs λs : Lfts 2) (p q : Places) (r j : ℕ) (before after : CellAnswer) → r < rows base → j < cols base
+    → ReadTold κs p base day marks r j before → ReadTold λs q base day′ marks′ r j after
+    → (before .code ≡ 0) × (after .code ≡ 0) × (r ≡ i → cellRead after ≡ row j)
+    × ((r ≡ i → ⊥) → cellRead after ≡ cellRead before)
+
+-- "Rewriting takes a 1 by C strip": after an accepted rewrite the row reads as the new row
+abbrev pub Rewriting : Type 0
+Rewriting =
+    (κs : Lfts 3) (p : Places) (base day marks new day′ marks′ : List ℕ) (i : ℕ) (answer : Answer)
+    → pairRefusal base day marks ≡ 0 → RewriteTold κs p day marks i new answer day′ marks′ → answer .code ≡ 0
+    → RowReads base day marks day′ marks′ i (gridOf new .cell 0)
+
+-- "taking back empties the day row and its mark, if any": after an accepted taking back it reads as the base's row
+abbrev pub TakingBack : Type 0
+TakingBack =
+    (κs : Lfts 2) (p : Places) (base day marks day′ marks′ : List ℕ) (i : ℕ) (answer : Answer)
+    → pairRefusal base day marks ≡ 0 → BackTold κs p day marks i answer day′ marks′ → answer .code ≡ 0
+    → RowReads base day marks day′ marks′ i (gridOf base .cell i)
+
 -- a finite list of rewrites and takings back, refused ones among them, each on the words that the one before left; the
 -- plain grid g is given the same list
 pub data Run (base : Grid) : List ℕ → List ℕ → Grid → List ℕ → List ℕ → Grid → Type 0 where
@@ -94,8 +117,8 @@ pub record Claims : Type 3 where
   pub back-met : {M : Type 1} → back-statement.statement M
   pub read-met : {M : Type 1} → read-statement.statement M
   pub fold-met : {M : Type 1} → fold-statement.statement M
-  pub rewrite-known : KnownAs 3 rewrite-kinds.ps rewrite-kinds.r rewrite-reads.Ghost rewrite-reads.requires rewrite-reads.ensures
-      rewrite-reads.Asked rewrite-reads.Learnt
+  pub rewrite-known : KnownAs 3 rewrite-kinds.ps rewrite-kinds.r rewrite-reads.Ghost rewrite-reads.requires
+      rewrite-reads.ensures rewrite-reads.Asked rewrite-reads.Learnt
   pub back-known : KnownAs 2 back-kinds.ps back-kinds.r back-reads.Ghost back-reads.requires back-reads.ensures
       back-reads.Asked back-reads.Learnt
   pub read-known : KnownAs 2 read-kinds.ps read-kinds.r read-reads.Ghost read-reads.requires read-reads.ensures
@@ -110,4 +133,6 @@ pub record Claims : Type 3 where
   pub fold-free : (κs : Lfts 3) (base day marks out : RefT (List ℕ))
       → fold-reads.Asked κs (base, (day, (marks, (out, tt))))
   pub folding : Folding
+  pub rewriting : Rewriting
+  pub taking-back : TakingBack
   pub listed : Listed

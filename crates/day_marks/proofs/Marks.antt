@@ -30,22 +30,24 @@ use Rattle.day_marks.specs.Marks.{Vector, markWords}
 pub in-vector : {s : List ℕ} {i : ℕ} → Vector s i → InMatrix s 0 i
 in-vector v = record { matrix = v .matrix; row = omega (arith, v .one-row); col = v .col }
 
--- where it is, or would be put
+-- where a mark that was missed would be put
 pub absent-placed : {g : Grid} {i p q : ℕ} {e : EntryAt} → e ≡ entryAt g 0 i → e ≡ entry.Absent p → q ≡ positionOf e
     → AbsentAt g 0 i q
 absent-placed h k l =
     let a = absent-at (sym h ∙ k) in record { cell = a .cell; position = l ∙ ap positionOf k ∙ a .position }
 
+-- where a mark that was found is
 pub present-placed : {g : Grid} {i v p : ℕ} {e : EntryAt} → e ≡ entryAt g 0 i → e ≡ entry.Present v p
     → PresentAt g 0 i p
 present-placed h k = present-at (sym h ∙ k)
 
--- so whether the row is marked
+-- a row whose mark was missed is not marked
 pub found-unmarked : (g : Grid) (i : ℕ) {p : ℕ} {e : EntryAt} → e ≡ entryAt g 0 i → e ≡ entry.Absent p
     → marked g i ≡ false
 unfolding marking
 found-unmarked g i h k = ap marking (absent-at (sym h ∙ k) .cell)
 
+-- a row whose mark was found, whatever its value, is marked
 pub found-marked : (g : Grid) (i : ℕ) {v p : ℕ} {e : EntryAt} → e ≡ entryAt g 0 i → e ≡ entry.Present v p
     → marked g i ≡ true
 unfolding marking

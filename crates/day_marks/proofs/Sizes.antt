@@ -17,11 +17,12 @@ use Rattle.day_grids.specs.Day.{rewrittenMarks}
 use Rattle.day_marks.specs.Marks.{Vector, markWords}
 use Rattle.day_marks.proofs.Marks.{in-vector}
 
--- two words for a mark that is missing
+-- two words for a mark that is missing, none for one that is there
 words-of : (c : Cell) (p : ℕ) → markWords (entryOf c p) + cellCount c + cellCount c ≡ 2
 words-of Absent p = refl
 words-of (Present v) p = refl
 
+-- the marks with one for row i: what the test of their buffer counts
 pub marks-size : {s : List ℕ} {i : ℕ} {e : EntryAt} → Vector s i → e ≡ entryAt (gridOf s) 0 i
     → gridSize (rewrittenMarks (gridOf s) i) ≡ size s + markWords e
 unfolding entryAt

@@ -11,7 +11,7 @@ ghost use Rattle.edits.specs.Changes.{updated};
 ghost use Rattle.day_grids.specs.Day.{marked};
 ghost use Rattle.day_marks.specs.Marks.{Vector, markWords, shownWords};
 
-// Whether row i is marked.
+// Whether row i is marked, by an entry of whatever value.
 pub fn is_marked(marks: &[u32], i: u32) -> bool
     requires { ⌜ Vector (now marks) i ⌝ }
     ensures { λ r. ⌜ r ≡ marked (gridOf (now (marks .entry))) i ⌝ }
@@ -19,7 +19,7 @@ pub fn is_marked(marks: &[u32], i: u32) -> bool
     let found = cells::entry_at(marks, 0, i);
     let entry = found.entry;
     let EntryAt::Present {
-        value: _,
+        value: _value,
         position: _,
     } = entry
     else {
@@ -60,7 +60,7 @@ pub fn put_mark(marks: &mut [u32], i: u32, entry: EntryAt)
     ensures { λ _. ⌜ now (marks .exit) ≡ updated (now (marks .entry)) 0 i (Present 1) ⌝ }
 {
     let EntryAt::Present {
-        value: _,
+        value: _value,
         position: p,
     } = entry
     else {

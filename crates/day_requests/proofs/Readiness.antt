@@ -21,12 +21,13 @@ use Rattle.day_requests.specs.Refusal.{
 }
 use Rattle.day_requests.specs.Ready.{Day, Pair, Readable, Backable, Rewritable}
 
--- the facts of the two tests of shapes
+-- matrices of one shape have the same rows and columns
 same-facts : (base day : Grid) → sameShape base day ≡ true → (day .rows ≡ base .rows) × (day .cols ≡ base .cols)
 unfolding sameShape
 same-facts base day h =
     (eqb-true _ _ (and-left (eqb (day .rows) (base .rows)) _ h), eqb-true _ _ (and-right (eqb (day .rows) (base .rows)) _ h))
 
+-- a vector has one row and n columns
 vector-facts : (g : Grid) (n : ℕ) → isVector g n ≡ true → (g .rows ≡ 1) × (g .cols ≡ n)
 unfolding isVector
 vector-facts g n h =
@@ -50,6 +51,7 @@ pair-made {base} {day} {marks} a b c s v =
       same-cols = t .1;
     }
 
+-- where folding is not refused by 3 to 8, and showing a row, they fit together
 pub pair-ready : (base day marks : List ℕ) → pairRefusal base day marks ≡ 0 → Pair base day marks
 unfolding pairRefusal
 pair-ready base day marks h =
@@ -61,6 +63,7 @@ pair-ready base day marks h =
     pair-made (not-false _ (h₃ .here)) (not-false _ (h₄ .here)) (not-false _ (h₅ .here)) (not-false _ (h₈ .here))
     (not-false _ (k₈ .here))
 
+-- where reading a cell is not refused, they do, and have the cell
 pub read-ready : (base day marks : List ℕ) (i j : ℕ) → readRefusal base day marks i j ≡ 0
     → Readable base day marks i j
 unfolding readRefusal
@@ -94,6 +97,7 @@ back-made {day} {marks} a b l v =
       row = l;
     }
 
+-- where taking back is not refused
 pub back-ready : (day marks : List ℕ) (i : ℕ) → backRefusal day marks i ≡ 0 → Backable day marks i
 unfolding backRefusal
 back-ready day marks i h =
@@ -103,6 +107,7 @@ back-ready day marks i h =
     let h₈ = later _ 8 _ refl (h₇ .rest) in
     back-made (not-false _ (h₄ .here)) (not-false _ (h₅ .here)) (leb-false _ _ (h₇ .here)) (not-false _ (h₈ .here))
 
+-- where rewriting is not refused by 4 to 8, there is a new row that fits, too
 pub rewrite-ready : (day marks : List ℕ) (i : ℕ) (new : List ℕ) → rewriteRefusal day marks i new ≡ 0
     → Rewritable day marks i new
 unfolding rewriteRefusal

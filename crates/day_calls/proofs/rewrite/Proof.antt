@@ -64,7 +64,9 @@ returns c =
     rw (c .refused .ensures) (rewrite-many _ _ _ _ (entry q .pre) (omega (arith, counted q)))
 
 slice-read-if2 : tie.Need-slice-read-if2
-slice-read-if2 c = let m = ready (entry (c .before .before)) .back .over .day-valid in omega (arith, m .header .row-range .most)
+slice-read-if2 c =
+    let m = ready (entry (c .before .before)) .back .over .day-valid in
+    omega (arith, m .header .row-range .most)
 
 cast-if2 : tie.Need-cast-if2
 cast-if2 c = let m = ready (entry (c .before .before)) .back .over .day-valid in omega (arith, m .header .row-range .most)
@@ -177,18 +179,19 @@ same-length-6 c = search needs
 
 returns-4 : tie.Need-returns-4
 returns-4 c =
-    let f = c .before .before .before .before .before .before .before .before .before .before .before .before .before .before .before in
+    let p = c .before .before .before in
+    let o = p .before .before .before .before in
+    let t = o .before .before .before .before in
+    let f = t .before .before .before .before in
     let q = searched f in
     let r = ready (entry q) in
     let e = counted q in
     let k = marks-size (back-vector (r .back)) (f .entry-at .ensures .0) in
-    let w = c .before .before .before .before .before .before .before .before .before .before .before .before .mark-words .ensures in
-    let z = c .before .before .before .before .before .before .before .before .before .before .before .before .before .matrix-size .ensures in
-    let p = c .before .before .before in
-    let o = p .before .before .before .before in
+    let w = t .before .mark-words .ensures in
+    let z = t .before .before .matrix-size .ensures in
     let few = f .before .before .before .before .if1 .left in
     let fits = f .before .before .if2 .left in
-    let marks-fit = c .before .before .before .before .before .before .before .before .before .before .before .if3 .left in
+    let marks-fit = t .if3 .left in
     let d = with-written r _ _ (o .before .before .row-columns .ensures .words) (o .before .row-values .ensures .words) _
     (o .replace-row .ensures) in
     rw (c .accepted .ensures)

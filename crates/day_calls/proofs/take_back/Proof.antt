@@ -64,7 +64,8 @@ replace-row-requires : tie.Need-replace-row-requires
 replace-row-requires c κs = without-replaceable (ready (c .before .before .before .before .before .before)) _ _ refl refl
 
 take-mark-requires : tie.Need-take-mark-requires
-take-mark-requires c κs = back-vector (ready (c .before .before .before .before .before .before .before .before .before .before))
+take-mark-requires c κs =
+    back-vector (ready (c .before .before .before .before .before .before .before .before .before .before))
 
 accepted-requires : tie.Need-accepted-requires
 accepted-requires c κs = search needs

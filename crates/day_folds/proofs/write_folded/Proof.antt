@@ -22,7 +22,8 @@ start c = c .before .before .before .before .before .before .before .before
 
 -- the words that are copied are the folded grid's
 held : (c : tie.After-staged5) → let q = staged-at c in let a = start q .args in
-    take (q .before .before .before .row-count .result + a .n + a .n + fixedWords) (c .before .before .before .finish .last .0)
+    take (q .before .before .before .row-count .result + a .n + a .n + fixedWords)
+    (c .before .before .before .finish .last .0)
     ≡ encode (lentFold (now (a .base)) (now (a .day)) (now (a .marks)))
 held c =
     let q = staged-at c in

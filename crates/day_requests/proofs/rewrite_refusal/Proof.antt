@@ -49,7 +49,9 @@ returns-3 c =
     rewrite-rest _ _ _ _ _ (none (first p)) (rw (held p, le-leb _ _ (c .if3 .taken)))
 
 shared-slice-read-is-vector : tie.Need-shared-slice-read-is-vector
-shared-slice-read-is-vector c = let m = matrix-facts _ (day-held _ _ (none (first (c .before .before .before)))) in omega arith
+shared-slice-read-is-vector c =
+    let m = matrix-facts _ (day-held _ _ (none (first (c .before .before .before)))) in
+    omega arith
 
 is-vector-requires : tie.Need-is-vector-requires
 is-vector-requires c κs = matrix-facts _ (marks-held _ _ (none (first (c .before .before .before)))) .header

@@ -53,7 +53,10 @@ slice-read-a : tie.Need-slice-read-a
 slice-read-a c = search needs
 
 cast-a : tie.Need-cast-a
-cast-a c = let p = c .before .before .before .before .before .before .pre in let x = span p in omega (arith, p .matrix .header .few)
+cast-a c =
+    let p = c .before .before .before .before .before .before .pre in
+    let x = span p in
+    omega (arith, p .matrix .header .few)
 
 add-b : tie.Need-add-b
 add-b c = search needs
@@ -68,7 +71,10 @@ slice-read-b : tie.Need-slice-read-b
 slice-read-b c = search needs
 
 cast-b : tie.Need-cast-b
-cast-b c = let p = c .before .before .before .before .before .before .before .pre in let x = span p in omega (arith, p .matrix .header .few)
+cast-b c =
+    let p = c .before .before .before .before .before .before .before .pre in
+    let x = span p in
+    omega (arith, p .matrix .header .few)
 
 add-shift-starts : tie.Need-add-shift-starts
 add-shift-starts c = search needs
