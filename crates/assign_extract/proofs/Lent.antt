@@ -10,14 +10,14 @@ use Rattle.grid.specs.Grid.{Grid, Same}
 use Rattle.grid.proofs.Same.{same-trans}
 use Rattle.grid.specs.Revision.{updating, revisionAfter}
 use Rattle.matrix.specs.Layout.{revision, gridOf}
-use Rattle.encoding.specs.Encode.{gridSize}
+use Rattle.encoding.specs.Encode.{gridSize, updatedTo}
 use Rattle.encoding.proofs.Canonical.{encode-same}
 use Rattle.operations.specs.declared.Call.{Call}
 use Rattle.refusals.specs.Cases.{firstOf, answerFor}
 use Rattle.requests.specs.Inputs.{Ready}
 use Rattle.requests.specs.Refusal.{lentRefusal, lentFinal}
 use Rattle.requests.proofs.Refusals.{ready-of}
-use Rattle.calls.specs.Completion.{updatedTo, Attempted}
+use Rattle.calls.specs.Completion.{Attempted}
 use Rattle.call_codes.specs.declared.Verb.the-variants.{Assign, Extract}
 use Rattle.assign_extract.specs.ReadBack.{Accepted, accepted-call}
 use Rattle.assign_extract.proofs.Grids.{assigning, extracting, grids-back}

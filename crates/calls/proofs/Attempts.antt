@@ -18,12 +18,12 @@ use Rattle.grid.specs.Entries.{entryCount}
 use Rattle.grid.specs.Revision.{updating, revisionAfter}
 use Rattle.matrix.specs.Layout.{revision, rows, sizeOf}
 use Rattle.matrix.specs.HeaderWords.{withRevision}
-use Rattle.encoding.specs.Encode.{encode, gridSize}
+use Rattle.encoding.specs.Encode.{encode, gridSize, updatedTo}
 use Rattle.encoding.proofs.Canonical.{encode-length, encode-revised}
 use Rattle.operations.specs.declared.Call.{Call}
 use Rattle.requests.specs.Refusal.{inputRefusal, lentRefusal, lentFinal}
 use Rattle.compute.proofs.Progress.{final-rows}
-use Rattle.calls.specs.Completion.{updatedTo, Attempted, Committed}
+use Rattle.calls.specs.Completion.{Attempted, Committed}
 
 -- the writing of a grid over the front of words, with the revision after theirs
 over-front : (g : Grid) (c : List ℕ)

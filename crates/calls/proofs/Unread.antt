@@ -30,7 +30,8 @@ use Rattle.operations.specs.Calls.{
 use Rattle.operations.proofs.Results.{shapes-unread, second-unread, needs-unread, lists-unread}
 use Rattle.refusals.specs.Cases.{firstOf, answerFor}
 use Rattle.requests.specs.Refusal.{inputRefusal, outputRefusal, lentRefusal, lentFinal}
-use Rattle.calls.specs.Completion.{updatedTo, Completed}
+use Rattle.calls.specs.Completion.{Completed}
+use Rattle.encoding.specs.Encode.{updatedTo}
 
 -- the answer and the words, by the refusal of the inputs and the final C
 made-same : (call : Call) (a b b′ m c is is′ js js′ w : List ℕ)

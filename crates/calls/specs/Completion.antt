@@ -8,11 +8,10 @@ use lib.Dec.{leb}
 use Rattle.answers.specs.declared.Answer.{Answer}
 use Rattle.answers.specs.Refusals.{accepted, refused, unlessRefused, insufficientSpace}
 use Rattle.words.specs.Words.{overwrite}
-use Rattle.grid.specs.Grid.{Grid}
 use Rattle.grid.specs.Revision.{updating, revisionAfter}
 use Rattle.matrix.specs.Layout.{revision, rows, sizeOf}
 use Rattle.matrix.specs.HeaderWords.{withRevision}
-use Rattle.encoding.specs.Encode.{writtenRevised}
+use Rattle.encoding.specs.Encode.{updatedTo}
 use Rattle.operations.specs.declared.Call.{Call}
 use Rattle.refusals.specs.Cases.{answerFor}
 use Rattle.requests.specs.Refusal.{lentRefusal, lentFinal}
@@ -20,10 +19,6 @@ use Rattle.requests.specs.Refusal.{lentRefusal, lentFinal}
 -- the answer: 0 and the entries of the final C, or the lowest refusal and 0
 abbrev pub lentAnswer : Call → List ℕ → List ℕ → List ℕ → List ℕ → List ℕ → List ℕ → ℕ → Answer
 lentAnswer call a b m c is js work = answerFor (lentRefusal call a b m c is js work) (lentFinal call a b m c is js)
-
--- a grid written over C: its writing with the revision after that of C, and then the spare words as they were
-abbrev pub updatedTo : Grid → List ℕ → List ℕ
-updatedTo g c = writtenRevised (revisionAfter updating (revision c)) g c
 
 -- C's buffer: the final C written over it; where refused, as it was
 pub record Attempted (call : Call) (a b m c is js : List ℕ) (work : ℕ) (answer : Answer) (c′ : List ℕ) : Type 0 where

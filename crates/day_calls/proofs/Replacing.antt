@@ -10,10 +10,10 @@ use Rattle.grid.proofs.Counts.{gather-absent}
 use Rattle.rows.specs.Row.{lookup, Row}
 use Rattle.matrix.specs.Layout.{rows, cols, start, entries, rowColumns, rowValues, cellOf, gridOf}
 use Rattle.matrix.proofs.Facts.{matrix-made, row-span}
-use Rattle.encoding.specs.Encode.{gridSize}
+use Rattle.encoding.specs.Encode.{gridSize, updatedTo}
 use Rattle.encoding.proofs.Canonical.{valid-row}
 use Rattle.day_grids.specs.Day.{withRow, noEntries}
-use Rattle.row_edits.specs.Replacing.{updatedTo, countWith, Replaceable}
+use Rattle.row_edits.specs.Replacing.{countWith, Replaceable}
 use Rattle.day_marks.specs.Marks.{Vector}
 use Rattle.day_requests.specs.Ready.{Backable, Rewritable}
 use Rattle.day_calls.specs.Calls.{dayWith, dayWithout}

@@ -10,10 +10,9 @@ use Rattle.answers.specs.Refusals.{accepted, refused, tooManyEntries, insuffici
 use Rattle.grid.specs.declared.EntryAt.{EntryAt}
 use Rattle.grid.specs.declared.EntryAt.the-variants as entry
 use Rattle.grid.specs.Entries.{entryCount}
-use Rattle.encoding.specs.Encode.{gridSize}
+use Rattle.encoding.specs.Encode.{gridSize, updatedTo}
 use Rattle.refusals.specs.Cases.{firstApplying}
 use Rattle.refusals.proofs.Cases.{applying-first, applying-rest, Numbered}
-use Rattle.row_edits.specs.Replacing.{updatedTo}
 use Rattle.day_marks.specs.Marks.{markWords}
 use Rattle.day_requests.specs.Refusal.{rewriteCases, rewriteRefusal, backRefusal}
 use Rattle.day_calls.specs.Calls.{

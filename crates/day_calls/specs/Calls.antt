@@ -14,9 +14,8 @@ use Rattle.grid.specs.Grid.{Grid}
 use Rattle.grid.specs.Entries.{entryCount}
 use Rattle.grid.specs.Position.{entryAt}
 use Rattle.matrix.specs.Layout.{gridOf}
-use Rattle.encoding.specs.Encode.{gridSize, writtenOver}
+use Rattle.encoding.specs.Encode.{gridSize, writtenOver, updatedTo}
 use Rattle.refusals.specs.Cases.{Case, given, firstApplying, answerFor, outputCases}
-use Rattle.row_edits.specs.Replacing.{updatedTo}
 use Rattle.day_grids.specs.Day.{shownFrom, rewrittenDay, rewrittenMarks, takenDay, takenMarks}
 use Rattle.day_requests.specs.Refusal.{rewriteCases, backRefusal, readRefusal, pairCases}
 use Rattle.day_folds.specs.Folding.{lentFold}

@@ -11,7 +11,7 @@ use Rattle.grid.specs.declared.Cell.{Cell}
 use Rattle.grid.specs.declared.Cell.the-variants.{Absent, Present}
 use Rattle.grid.specs.Grid.{Grid, Same}
 use Rattle.matrix.specs.Layout.{rows, cols, cellOf, gridOf}
-use Rattle.row_edits.specs.Replacing.{updatedTo}
+use Rattle.encoding.specs.Encode.{updatedTo}
 use Rattle.day_grids.specs.Day.{throughPair, withRow, noEntries, rewrittenMarks, takenMarks}
 use Rattle.day_grids.proofs.Through.{rewritten-through, taken-through, through-same, same-row}
 use Rattle.day_requests.specs.Refusal.{backRefusal}

@@ -7,14 +7,12 @@ use Rattle.limits.specs.Limits.{maxRows, maxEntries}
 use Rattle.words.specs.Words.{at, part, overwrite}
 use Rattle.grid.specs.declared.Cell.{Cell}
 use Rattle.grid.specs.Update.{withCell}
-use Rattle.grid.specs.Revision.{updating, revisionAfter}
 use Rattle.matrix.specs.Layout.{
   countAt,
   columnsAt,
   countAgainAt,
   valuesAt,
   sizeOf,
-  revision,
   rows,
   cols,
   entries,
@@ -22,7 +20,7 @@ use Rattle.matrix.specs.Layout.{
   gridOf,
 }
 use Rattle.matrix.specs.Facts.{Matrix}
-use Rattle.encoding.specs.Encode.{writtenRevised}
+use Rattle.encoding.specs.Encode.{updatedTo}
 
 -- a row and a column of a valid matrix
 pub record InMatrix (s : List ℕ) (i j : ℕ) : Type 0 where
@@ -38,7 +36,7 @@ pub record HasSpace (s : List ℕ) : Type 0 where
 -- the words with the cell at row i and column j changed to x, and the next revision: "Each accepted call that writes into a
 -- sheet adds one to that sheet's revision"
 abbrev pub updated : List ℕ → ℕ → ℕ → Cell → List ℕ
-updated s i j x = writtenRevised (revisionAfter updating (revision s)) (withCell (gridOf s) i j x) s
+updated s i j x = updatedTo (withCell (gridOf s) i j x) s
 
 abbrev pub raised : ℕ → ℕ
 raised x = x + 1

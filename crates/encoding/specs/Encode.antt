@@ -4,8 +4,10 @@ use Prim.Native.Nat.{ℕ, zero, suc, _+_}
 use mathlib.Core.List.{List, [], _∷_, _++_}
 use lib.ListN.{length, drop}
 use Rattle.grid.specs.Grid.{Grid}
+use Rattle.grid.specs.Revision.{updating, revisionAfter}
 use Rattle.grid.specs.Entries.{column, flatten, gridColumns, gridValues}
 pub use Rattle.grid.specs.Size.{gridSize, Within}
+use Rattle.matrix.specs.Layout.{revision}
 
 -- a section "after its count"
 abbrev pub counted : List ℕ → List ℕ
@@ -42,3 +44,8 @@ writtenRevised v g w = encodeRevised v g ++ drop (gridSize g) w
 
 abbrev pub writtenOver : Grid → List ℕ → List ℕ
 writtenOver g w = writtenRevised 0 g w
+
+-- a grid written over the matrix in the words w by a call that writes into it: "Each accepted call that writes into a sheet
+-- adds one to that sheet's revision"
+abbrev pub updatedTo : Grid → List ℕ → List ℕ
+updatedTo g w = writtenRevised (revisionAfter updating (revision w)) g w

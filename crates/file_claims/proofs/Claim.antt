@@ -5,8 +5,11 @@ use mathlib.Core.Path.{_≡_, sym, ap, _∙_}
 use mathlib.Core.Bool.{Bool, true, false, cond}
 use mathlib.Core.List.{List, [], _∷_, _++_}
 use lib.ListN.{length, take, drop}
+use lib.Dec.{eqb}
 use lib.Seq.{take-at}
+use borrow.Author.Tests.{eqb-true}
 use Rattle.conditions.specs.Tests.{_and_}
+use Rattle.conditions.proofs.Tests.{and-left, and-right}
 use Rattle.words.specs.Words.{at}
 use Rattle.answers.specs.declared.Answer.{Answer}
 use Rattle.answers.specs.Refusals.{accepted}
@@ -18,7 +21,7 @@ use Rattle.encoding.specs.OneWriting.{AreWords, matrixWords}
 use Rattle.encoding.proofs.OneWriting.{one-writing}
 use Rattle.word_bytes.specs.Bytes.{bytesOf, wordsOf, AreBytes}
 use Rattle.word_bytes.proofs.RoundTrips as trips
-use Rattle.files.specs.File.{oldForm, formWords, formBytes, Taken, FileRead, FileWritten, fileBytes}
+use Rattle.files.specs.File.{oldForm, formWords, formBytes, fileOf, Taken, FileRead, FileWritten, fileBytes}
 use Rattle.files.proofs.Writing.{file-length}
 use Rattle.files.proofs.read_file.Met as read-file-met
 use Rattle.files.proofs.read_file.Reads as read-file-reads
@@ -37,6 +40,7 @@ use Rattle.file_claims.proofs.Fronts.{
   words-of,
 }
 use Rattle.file_claims.proofs.Accepted.{Read, read-accepted, file-read, Wrote, write-accepted, file-written}
+use Rattle.file_claims.proofs.OldFiles.{file-taken}
 
 -- what the contracts tell
 read-told : {f w w′ : List ℕ} {x : Answer} → Reading f w x w′ → FileRead f w x w′
@@ -174,6 +178,17 @@ one-written {s} {t} p e q d same r =
     ∙ sym (written-is q d)
 
 -- ---- a file of before A12
+old-taken : {f w w′ : List ℕ} {x : Answer} → OldForm f → oldFile (length f) (wordsOf f) ≡ true
+    → length f + 8 ≤ length w * 4 → Reading f w x w′ → x .code ≡ 0
+unfolding fileOf
+old-taken {f} {w} {w′} {x} o g l t =
+    let v = file-taken f o ∙ g in
+    let b : bytesIn f ≡ length f + 8 = rw o in
+    let n = eqb-true _ _ (and-right (valid (wordsIn f)) (eqb (bytesIn f) (size (wordsIn f) * 4)) v) in
+    let m = and-left (valid (wordsIn f)) (eqb (bytesIn f) (size (wordsIn f) * 4)) v in
+    let d = file-read (bytesIn f) (wordsIn f) w x w′ m n (omega arith) (read-told t) in
+    ap (λ (a : Answer). a .code) (d .0)
+
 old-read : {f w w′ : List ℕ} {x : Answer} → OldForm f → Reading f w x w′ → x .code ≡ 0
     → (revision w′ ≡ 0) × (matrixWords w′ ≡ 1 ∷ 0 ∷ wordsOf f)
 old-read {f} {w} {w′} o t e =
@@ -214,6 +229,7 @@ one-file-claim = record {
   file-back = file-back;
   one-file = one-file;
   one-written = one-written;
+  old-taken = old-taken;
   old-read = old-read;
   old-back = old-back;
   old-refuses = old-refuses;

@@ -1,3 +1,4 @@
 pub mod Fronts
 pub mod Accepted
+pub mod OldFiles
 pub mod Claim

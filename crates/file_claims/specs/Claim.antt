@@ -3,7 +3,7 @@
 --
 -- The calls are `files::read_file` and `files::write_file`, and what they do is taken from their own contracts, by
 -- name: `Reads.Learnt` is what a caller learns when the function returns.
-use Prim.Native.Nat.{ℕ, _*_, _≤_}
+use Prim.Native.Nat.{ℕ, _+_, _*_, _≤_}
 use mathlib.Core.Path.{_≡_}
 use mathlib.Core.Bool.{true, false}
 use mathlib.Core.List.{List, _∷_, _++_}
@@ -81,6 +81,9 @@ pub record OneFile : Type 3 where
   pub one-written : {s t b b′ c c′ : List ℕ} {x y : Answer} → Writing s b x b′ → x .code ≡ 0
       → Writing t c y c′ → y .code ≡ 0 → Same (gridOf s) (gridOf t) → revision s ≡ revision t
       → written s b′ ≡ written t c′
+  -- "the new reader takes both": all that was a file by the rule before A12, where the new form has room
+  pub old-taken : {f w w′ : List ℕ} {x : Answer} → OldForm f → oldFile (length f) (wordsOf f) ≡ true
+      → length f + 8 ≤ length w * 4 → Reading f w x w′ → x .code ≡ 0
   -- "an old file having revision 0": what is read from it is its words behind the new section
   pub old-read : {f w w′ : List ℕ} {x : Answer} → OldForm f → Reading f w x w′ → x .code ≡ 0
       → (revision w′ ≡ 0) × (matrixWords w′ ≡ 1 ∷ 0 ∷ wordsOf f)

@@ -13,22 +13,22 @@ use Rattle.words.specs.Words.{at, part}
 use Rattle.rows.specs.Row.{rising}
 
 -- "2, then rows R, columns C; R+1, then the row starts; N, then the column numbers; N, then the values"
-abbrev oldRows : List ℕ → ℕ
+abbrev pub oldRows : List ℕ → ℕ
 oldRows h = at h 1
 
-abbrev oldCols : List ℕ → ℕ
+abbrev pub oldCols : List ℕ → ℕ
 oldCols h = at h 2
 
-abbrev oldStart : List ℕ → ℕ → ℕ
+abbrev pub oldStart : List ℕ → ℕ → ℕ
 oldStart h i = at h (i + 4)
 
-abbrev oldEntries : List ℕ → ℕ
+abbrev pub oldEntries : List ℕ → ℕ
 oldEntries h = at h (oldRows h + 5)
 
-abbrev oldSize : List ℕ → ℕ
+abbrev pub oldSize : List ℕ → ℕ
 oldSize h = oldRows h + oldEntries h + oldEntries h + 7
 
-abbrev oldColumns : List ℕ → ℕ → List ℕ
+abbrev pub oldColumns : List ℕ → ℕ → List ℕ
 oldColumns h i = part (oldRows h + 6 + oldStart h i) (oldRows h + 6 + oldStart h (i + 1)) h
 
 -- the tests of a matrix

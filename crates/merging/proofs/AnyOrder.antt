@@ -19,10 +19,10 @@ use Rattle.grid.proofs.Same.{same-refl, same-sym, same-trans, same-count}
 use Rattle.matrix.specs.Layout.{revision, rows, cols, size, gridOf, workspaceWords}
 use Rattle.matrix.specs.HeaderWords.{withRevision}
 use Rattle.matrix.specs.Valid.{valid}
-use Rattle.encoding.specs.Encode.{encode, gridSize}
+use Rattle.encoding.specs.Encode.{encode, gridSize, updatedTo}
 use Rattle.encoding.proofs.Canonical.{encode-ext, encode-revised, valid-encoded, valid-size}
 use Rattle.requests.specs.Refusal.{lentFinal}
-use Rattle.calls.specs.Completion.{lentAnswer, updatedTo}
+use Rattle.calls.specs.Completion.{lentAnswer}
 use Rattle.calls.proofs.operate.Met as operate-met
 use Rattle.calls.proofs.operate.Reads as operate-reads
 use Rattle.merging.specs.Merging.{join, joinAll, _∈_, here, there, Rearranged, Worded}

@@ -27,12 +27,12 @@ use Rattle.operations.specs.Calls.{callFinal, indexesValid, shapesAgree}
 use Rattle.grid.specs.Revision.{updating, revisionAfter}
 use Rattle.matrix.specs.Layout.{revision, rows, cols, valuesFrom, rowColumns, rowValues, cellOf, gridOf, workspaceWords}
 use Rattle.matrix.specs.Valid.{valid}
-use Rattle.encoding.specs.Encode.{encodeRevised, gridSize, Within}
+use Rattle.encoding.specs.Encode.{encodeRevised, gridSize, Within, updatedTo}
 use Rattle.encoding.proofs.Canonical.{encode-length, encode-valid, encode-same, valid-within}
 use Rattle.call_codes.specs.Decoding.{decoded}
 use Rattle.refusals.specs.Cases.{answerFor}
 use Rattle.requests.specs.Refusal.{inputRefusal, lentRefusal, lentFinal}
-use Rattle.calls.specs.Completion.{updatedTo, Attempted}
+use Rattle.calls.specs.Completion.{Attempted}
 use Rattle.merging.specs.Merging.{join, Word, Worded}
 use Rattle.merging.specs.AnyOrder.{byMax, identity, Words}
 use Rattle.merging.proofs.Cells.{identity-cell}

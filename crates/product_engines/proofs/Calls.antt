@@ -7,7 +7,8 @@ use Rattle.answers.specs.declared.Answer.{Answer}
 use Rattle.answers.specs.Refusals.{unlessRefused}
 use Rattle.operations.specs.declared.Call.{Call}
 use Rattle.requests.specs.Refusal.{lentFinal}
-use Rattle.calls.specs.Completion.{updatedTo, Completed}
+use Rattle.calls.specs.Completion.{Completed}
+use Rattle.encoding.specs.Encode.{updatedTo}
 use Rattle.calls.proofs.operate_with.Met as with-met
 use Rattle.calls.proofs.operate_with.Reads as with
 use Rattle.model.specs.Effects.{Reply, wrote, found, totalled}

@@ -1,5 +1,5 @@
-// Runs each call that writes into a matrix, accepted and then refused, and prints the answer and the revision after it; then
-// calls that write into none, and a lay over a matrix. All matrices are 1 by 1.
+// Runs each call that writes into a matrix, accepted and then refused, and prints the answer and the revision after it; calls
+// that write into none; and calls that make a matrix, over another one. All matrices are 1 by 1.
 use call_codes::Options;
 use call_codes::Verb;
 use model::Roles;
@@ -13,6 +13,9 @@ fn main() {
     lent_lay();
     stored_cells();
     stored(&mut work);
+    day_rows();
+    folded();
+    formulas();
 }
 
 // No mask and no accumulator: the number 9 is not looked at.
@@ -37,6 +40,8 @@ fn lent(work: &mut Workspace) {
     operate(b"extract", plain(0), Verb::Extract, &mut c, work);
     operate(b"select", plain(0), Verb::Select(0, 5), &mut c, work);
     operate(b"reduce_rows", plain(0), Verb::ReduceRows(3), &mut c, work);
+    operate(b"assign", plain(0), Verb::Assign, &mut c, work);
+    operate(b"kronecker", plain(0), Verb::Kronecker(3), &mut c, work);
     operate(b"none inside", plain(2), Verb::EwiseAdd(3), &mut c, work);
 }
 
@@ -133,6 +138,8 @@ fn stored(work: &mut Workspace) {
     perform(b"extract", Verb::Extract, &mut store, work);
     perform(b"select", Verb::Select(0, 5), &mut store, work);
     perform(b"reduce_rows", Verb::ReduceRows(3), &mut store, work);
+    perform(b"assign", Verb::Assign, &mut store, work);
+    perform(b"kronecker", Verb::Kronecker(3), &mut store, work);
 }
 
 fn perform(label: &[u8], verb: Verb, store: &mut [u32], work: &mut Workspace) {
@@ -156,5 +163,66 @@ fn perform_in(verb: Verb, store: &mut [u32], work: &mut [u32]) {
         output: 0,
     };
     let r = store_calls::operate(store, options, verb, roles, &[0], &[0], work);
+    report_slot(r.code, r.entries, &store[..]);
+}
+
+// Rows of a day matrix: rewritten, refused; taken back, taken back though unmarked, refused. The marks have the last
+// revision at first.
+fn day_rows() {
+    let mut day: [u32; 12] = [1, 7, 2, 1, 1, 2, 0, 0, 0, 0, 9, 9];
+    let mut marks: [u32; 12] = [1, 4294967295, 2, 1, 1, 2, 0, 0, 0, 0, 9, 9];
+    test_support::heading(b"a row of a day matrix: rewritten, refused; taken back, again, refused");
+    rewrite(&mut day, &mut marks, 0);
+    rewrite(&mut day, &mut marks, 1);
+    take_back(&mut day, &mut marks, 0);
+    take_back(&mut day, &mut marks, 0);
+    take_back(&mut day, &mut marks, 1);
+}
+
+fn rewrite(day: &mut [u32], marks: &mut [u32], i: u32) {
+    let row: &[u32] = &[1, 7, 2, 1, 1, 2, 0, 1, 1, 0, 1, 5];
+    let r = day_calls::rewrite_row(day, marks, i, row);
+    report(r.code, r.entries, &day[..]);
+    report_marks(&marks[..]);
+}
+
+fn take_back(day: &mut [u32], marks: &mut [u32], i: u32) {
+    let r = day_calls::take_back(day, marks, i);
+    report(r.code, r.entries, &day[..]);
+    report_marks(&marks[..]);
+}
+
+fn report_marks(marks: &[u32]) {
+    let r = revision::revision_of(marks);
+    test_support::print_pair(b"  of the marks: ", r.code, r.value);
+}
+
+// A day matrix folded into a buffer that holds a matrix of revision 7: refused, it stays; the folded one starts at 0.
+fn folded() {
+    let day: &[u32] = &[1, 7, 2, 1, 1, 2, 0, 1, 1, 0, 1, 5];
+    let mut out: [u32; 12] = [1, 7, 2, 1, 1, 2, 0, 0, 0, 0, 9, 9];
+    test_support::heading(b"folded: refused, then accepted");
+    fold(&day[..11], day, &mut out);
+    fold(day, day, &mut out);
+}
+
+fn fold(base: &[u32], day: &[u32], out: &mut [u32]) {
+    let r = day_calls::fold(base, day, day, out);
+    report(r.code, r.entries, &out[..]);
+}
+
+// A formula over its own slot: refused, it stays; the copy starts at 0.
+fn formulas() {
+    let mut store = [0u32; 20];
+    let mut stack = [7u32; 65000];
+    test_support::heading(b"a formula: refused, then accepted");
+    lay_slot(&mut store, 1);
+    set(&mut store, 0);
+    formula(b"0+", &mut store, &mut stack);
+    formula(b"0", &mut store, &mut stack);
+}
+
+fn formula(text: &[u8], store: &mut [u32], stack: &mut [u32]) {
+    let r = store_formulas::formula(store, 0, 3, 5, text, stack);
     report_slot(r.code, r.entries, &store[..]);
 }

@@ -36,7 +36,7 @@ use Rattle.matrix.specs.HeaderWords.{touched}
 use Rattle.matrix.proofs.Facts.{matrix-made, row-span}
 use Rattle.matrix.proofs.Rows.{columns-length}
 use Rattle.matrix.proofs.HeaderWords.{header-own, header-recounted}
-use Rattle.encoding.specs.Encode.{entriesBefore, gridSize, encodeRevised, writtenRevised}
+use Rattle.encoding.specs.Encode.{entriesBefore, gridSize, encodeRevised, writtenRevised, updatedTo}
 use Rattle.encoding.proofs.Decoded.{valid-columns, valid-values}
 use Rattle.encoding.proofs.Canonical.{encode-touched, valid-before, valid-entries, valid-row-columns}
 use Rattle.encoding.proofs.Assembled.{Assembled, assembled}
@@ -44,7 +44,6 @@ use Rattle.edits.proofs.Located.{Located, part-located, located-part, located-f
 use Rattle.edits.proofs.Located.{located-both, located-moved}
 use Rattle.day_grids.specs.Day.{withRow}
 use Rattle.day_grids.proofs.Rows.{RowAround, row-around, row-around-length, row-other, gather-here}
-use Rattle.row_edits.specs.Replacing.{updatedTo}
 
 -- t is s with row i changed to the columns cs and the values vs, so that there are n′ entries: section by section
 pub record RowChanged (s t : List ℕ) (i n′ : ℕ) (cs vs : List ℕ) : Type 0 where

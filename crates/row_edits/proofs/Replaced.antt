@@ -13,16 +13,8 @@ use Rattle.matrix.proofs.Facts.{row-span}
 use Rattle.matrix.specs.HeaderWords.{touched}
 use Rattle.edits.specs.Changes.{Mapped, Bounded}
 use Rattle.day_grids.specs.Day.{withRow}
-use Rattle.row_edits.specs.Replacing.{
-  updatedTo,
-  countWith,
-  Replaceable,
-  shifted,
-  RoomBounds,
-  Opened,
-  PutBounds,
-  rowPut,
-}
+use Rattle.row_edits.specs.Replacing.{countWith, Replaceable, shifted, RoomBounds, Opened, PutBounds, rowPut}
+use Rattle.encoding.specs.Encode.{updatedTo}
 use Rattle.row_edits.proofs.Changed.{RowChanged, row-changed}
 use Rattle.row_edits.proofs.Putting.{
   put-length,

@@ -5,8 +5,6 @@ use mathlib.Core.List.{List}
 use lib.ListN.{length, set}
 use Rattle.limits.specs.Limits.{maxRows, maxEntries}
 use Rattle.words.specs.Words.{at, overwrite}
-use Rattle.grid.specs.Grid.{Grid}
-use Rattle.grid.specs.Revision.{updating, revisionAfter}
 use Rattle.rows.specs.Row.{Row}
 use Rattle.matrix.specs.Layout.{
   countAt,
@@ -14,18 +12,12 @@ use Rattle.matrix.specs.Layout.{
   countAgainAt,
   valuesAt,
   sizeOf,
-  revision,
   rows,
   cols,
   start,
   entries,
 }
 use Rattle.matrix.specs.Facts.{Matrix}
-use Rattle.encoding.specs.Encode.{writtenRevised}
-
--- the words of a matrix that a call writes into, with the grid g and the next revision
-abbrev pub updatedTo : Grid → List ℕ → List ℕ
-updatedTo g s = writtenRevised (revisionAfter updating (revision s)) g s
 
 -- how many entries a matrix has when those from a up to b give way to k others
 abbrev pub countWith : ℕ → ℕ → ℕ → ℕ → ℕ

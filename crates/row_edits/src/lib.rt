@@ -12,7 +12,8 @@ ghost use Rattle.rows.specs.Row.{lookup};
 ghost use Rattle.matrix.specs.Layout.{gridOf};
 ghost use Rattle.edits.specs.Changes.{Mapped, Bounded};
 ghost use Rattle.day_grids.specs.Day.{withRow};
-ghost use Rattle.row_edits.specs.Replacing.{updatedTo, Replaceable, shifted, RoomBounds, Opened, PutBounds, rowPut};
+ghost use Rattle.row_edits.specs.Replacing.{Replaceable, shifted, RoomBounds, Opened, PutBounds, rowPut};
+ghost use Rattle.encoding.specs.Encode.{updatedTo};
 
 // Row i takes these columns and values. Each word behind the row is moved at most once.
 pub fn replace_row(words: &mut [u32], i: usize, columns: &[u32], values: &[u32])
