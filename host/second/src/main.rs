@@ -288,12 +288,13 @@ fn compare_revisions(run: &Run) -> Result<(), Disagreement> {
     Ok(())
 }
 
-/// Formulas over a store, as many calls as lists of calls on one; and every text of at most seven bytes.
+/// Formulas over a store: as many single calls, and as many lists that have some, as lists of calls on one; and every text
+/// of at most seven bytes over eight byte values.
 fn compare_formulas(run: &Run) -> Result<(), Disagreement> {
     let &Run { seed, lists, .. } = run;
     let mut codes: BTreeMap<u32, u64> = BTreeMap::new();
     for number in 0..lists {
-        match formulas::formula(&mut Rng::of_case(seed, 9, number)).judge() {
+        match formulas::single(&mut Rng::of_case(seed, 9, number)).judge(formulas::Slip::None) {
             Ok(answer) => *codes.entry(code_of(answer)).or_default() += 1,
             Err(text) => {
                 println!("seed {seed}, formula {number}: {text}");
@@ -302,6 +303,21 @@ fn compare_formulas(run: &Run) -> Result<(), Disagreement> {
         }
     }
     println!("seed {seed}: {lists} formulas over a store, by codes {codes:?}: no disagreement");
+    let mut counts = formulas::Counts::default();
+    for number in 0..lists {
+        let rng = || Rng::of_case(seed, 10, number);
+        let mut judge = |list: &formulas::List| list.judge(&mut counts, formulas::Slip::None);
+        if judge(&formulas::list(&mut rng())).is_err() {
+            let judge = |list: &formulas::List| list.judge(&mut formulas::Counts::default(), formulas::Slip::None);
+            let small = shrink(rng(), formulas::list, |list| judge(list).is_err());
+            println!("seed {seed}, list with formulas {number}, made small: {}", judge(&small).unwrap_err());
+            return Err(Disagreement);
+        }
+    }
+    let formulas::Counts { others, codes } = counts;
+    println!(
+        "seed {seed}: {lists} lists of {others} calls on a store and formulas by codes {codes:?}: no disagreement"
+    );
     match formulas::judge_texts(TEXT_BYTES) {
         Ok((formulas, others)) => println!("texts of at most {TEXT_BYTES} bytes: {formulas} formulas, {others} others"),
         Err(text) => {
