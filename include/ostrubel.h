@@ -19,9 +19,9 @@
  *
  * Answers. Each call returns one number: take it apart by the functions below. A call that is accepted has the code 0;
  * only ostrubel_row_view and ostrubel_day_show have no code.
- * A refused call has the lowest code that applies (on a store 12 comes first, and 13 between 2 and 7; of a file 15 comes
- * before 11), changes no word but the workspace's, and its entries, value, position or number are 0. The workspace is all
- * zeros after every call that has one.
+ * A refused call has the lowest code that applies (on a store 12 comes first, and 13 between 2 and 7; a formula has an
+ * order of its own; of a file 15 comes before 11), changes no word but the workspace's, and its entries, value, position
+ * or number are 0. The workspace is all zeros after every call that has one.
  *
  * Threads. A call takes no memory beside its buffers and the stack, and keeps nothing: calls on several threads may run
  * at once where each has buffers of its own (those that are only read may be shared). 48 KB of stack are enough for any
@@ -80,7 +80,8 @@ enum {
     OSTRUBEL_INVALID_SHAPE = 8,        /* rows or columns outside 1 to 1,000; shapes of inputs, mask, C and result
                                           disagree; no vector (one row) where one is due */
     OSTRUBEL_WORKSPACE_TOO_SHORT = 9,  /* a workspace under 15,315 words, or a formula's stack under 65,000 */
-    OSTRUBEL_TOO_MANY_ENTRIES = 10,    /* the final C, or the matrix a cell is set in, would have over 2,048 entries */
+    OSTRUBEL_TOO_MANY_ENTRIES = 10,    /* the final C, the matrix a cell is set in, or that of a formula's step would
+                                          have over 2,048 entries */
     OSTRUBEL_INSUFFICIENT_SPACE = 11,  /* the final C, a new matrix or the store does not fit its buffer */
     OSTRUBEL_INVALID_STORE = 12,       /* the length or the words are no store's, or a slot above 7 */
     OSTRUBEL_EMPTY_SLOT = 13,          /* a slot that must have a matrix is empty */
@@ -324,14 +325,15 @@ uint64_t ostrubel_store_reduce(ostrubel_size slot, uint32_t monoid, const uint32
 
 /*
  * The value of a formula over the slots takes the place of what the target holds, if anything. The text is `text_len`
- * bytes, at most 64, with no blanks: terms joined by +, a term factors joined by *, a factor a digit 0 to 7, which names a
- * slot, or a formula in round brackets, of which at most three are open at once. * is the product by the monoid and the
+ * bytes, at most 64, with no blanks: terms joined by +, a term factors joined by *, a factor a digit 0 to 7, which names
+ * a slot, or a formula in round brackets, of which at most three are open at once. * is the product by the monoid and the
  * operator, + the union by the monoid's operator, both from left to right. All slots are read before the target is
- * written. Answers the result's entries. Refused by 12, 2, 14, 13 (a slot that the text names), 9, the first failing step's
- * 8 or 10, and 11. The stack has at least 65,000 words, and is all zeros after every call.
+ * written. Answers the result's entries. Refused by 12, 2, 14, 13 (a slot that the text names), 9, the first failing
+ * step's 8 or 10, and 11. The stack has at least 65,000 words, and is all zeros after every call.
  */
-uint64_t ostrubel_store_formula(ostrubel_size target, uint32_t monoid, uint32_t op, const uint8_t *text, ostrubel_size text_len,
-                                uint32_t *store, ostrubel_size store_len, uint32_t *stack, ostrubel_size stack_len);
+uint64_t ostrubel_store_formula(ostrubel_size target, uint32_t monoid, uint32_t op, const uint8_t *text,
+                                ostrubel_size text_len, uint32_t *store, ostrubel_size store_len, uint32_t *stack,
+                                ostrubel_size stack_len);
 
 /*
  * The operations by slots, with options, operators and workspace as above. One slot may have several roles: all are
