@@ -325,11 +325,11 @@ uint64_t ostrubel_store_reduce(ostrubel_size slot, uint32_t monoid, const uint32
 
 /*
  * The value of a formula over the slots takes the place of what the target holds, if anything. The text is `text_len`
- * bytes, at most 64, with no blanks: terms joined by +, a term factors joined by *, a factor a digit 0 to 7, which names a
- * slot, or a formula in round brackets, of which at most three are open at once. * is the product by the monoid and the
+ * bytes, at most 64, with no blanks: terms joined by +, a term factors joined by *, a factor a digit 0 to 7, which names
+ * a slot, or a formula in round brackets, of which at most three are open at once. * is the product by the monoid and the
  * operator, + the union by the monoid's operator, both from left to right. All slots are read before the target is
- * written. Answers the result's entries. Refused by 12, 2, 14, 13 (a slot that the text names), 9, the first failing step's
- * 8 or 10, and 11. The stack has at least 65,000 words, and is all zeros after every call.
+ * written. Answers the result's entries. Refused by 12, 2, 14, 13 (a slot that the text names), 9, the first failing
+ * step's 8 or 10, and 11. The stack has at least 65,000 words, and is all zeros after every call.
  */
 uint64_t ostrubel_store_formula(ostrubel_size target, uint32_t monoid, uint32_t op, const uint8_t *text,
                                 ostrubel_size text_len, uint32_t *store, ostrubel_size store_len, uint32_t *stack,

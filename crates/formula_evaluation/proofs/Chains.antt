@@ -37,7 +37,7 @@ use Rattle.formula_values.proofs.Failures.{onto-failure, term-onto-failure}
 use Rattle.formula_evaluation.specs.declared.Evaluated.{Evaluated}
 use Rattle.formula_evaluation.specs.declared.Evaluated.the-variants.{Ends, Missing, Refused}
 use Rattle.formula_evaluation.specs.Evaluating.{
-  sheetOf,
+  slotWorth,
   formulaWorth,
   formulaOnto,
   termWorth,
@@ -68,6 +68,7 @@ pub record Parts {T P : Type 0} (b : ℕ) (In : T → ℕ → Type 0) (In′ : P
   pub worth-is : worthOf t ≡ more-onto onto others (worth′ first)
   pub onto-is : (v : Value) → onto t v ≡ more-onto onto others (step op v (worth′ first))
 
+-- all that the proofs of both use: every phrase comes apart, and nothing comes after a failure
 pub record Chain {T P : Type 0} (b : ℕ) (In : T → ℕ → Type 0) (In′ : P → ℕ → Type 0) (Stops Stops′ : List ℕ → Type 0)
     (bytes : T → List ℕ → List ℕ) (bytes′ : P → List ℕ → List ℕ) (worthOf : T → Value) (onto : T → Value → Value)
     (worth′ : P → Value) (op : Operation) : Type 0 where
@@ -77,6 +78,7 @@ pub record Chain {T P : Type 0} (b : ℕ) (In : T → ℕ → Type 0) (In′ : P
   pub failing : (m : More T) (x : Failure) → more-onto onto m (fails x) ≡ fails x
 
 -- ---- both
+-- a formula: terms are added
 pub terms : (monoid : Monoid) (op : BinaryOp) (s : List ℕ)
     → Chain 43 Within TermWithin FormulaStops TermStops before term-before (formulaWorth monoid op s)
     (formulaOnto monoid op s) (termWorth monoid op s) (sumOf monoid)
@@ -108,8 +110,9 @@ terms monoid op s = record { parts = take; stops = stop; apart = λ r h. h .1; f
 
     fail : (m : More Formula) (x : Failure) → more-onto (formulaOnto monoid op s) m (fails x) ≡ fails x
     fail done x = refl
-    fail (more f) x = onto-failure (sheetOf s) (sumOf monoid) (productOf monoid op) x f
+    fail (more f) x = onto-failure (slotWorth s) (sumOf monoid) (productOf monoid op) x f
 
+-- a term: it is multiplied by factors
 pub factors : (monoid : Monoid) (op : BinaryOp) (s : List ℕ)
     → Chain 42 TermWithin FactorWithin TermStops FactorStops term-before factor-before (termWorth monoid op s)
     (termOnto monoid op s) (factorWorth monoid op s) (productOf monoid op)
@@ -137,14 +140,15 @@ factors monoid op s = record { parts = take; stops = λ m r h. tt; apart = λ r 
 
     fail : (m : More Term) (x : Failure) → more-onto (termOnto monoid op s) m (fails x) ≡ fails x
     fail done x = refl
-    fail (more t) x = term-onto-failure (sheetOf s) (sumOf monoid) (productOf monoid op) x t
+    fail (more t) x = term-onto-failure (slotWorth s) (sumOf monoid) (productOf monoid op) x t
 
--- ---- refusals
+-- ---- answers
 -- a value whose code is not 0 is a failure
 failed : (k : ℕ) (v : Value) → k ≡ valueCode v → (k ≡ 0 → ⊥) → (x : Failure) × (v ≡ fails x)
 failed k (worth g) e n = absurd (n e)
 failed k (fails x) e n = (x, refl)
 
+-- ahead of p is ahead of what comes before p
 pub ahead-from : (at p n : ℕ) (o : Evaluated) → at ≤ p → Ahead p n o → Ahead at n o
 ahead-from at p n (Ends q) h a = (omega (arith, a .0), a .1)
 ahead-from at p n Missing h a = tt
@@ -159,14 +163,14 @@ module _ {T P : Type 0} {b : ℕ} {In : T → ℕ → Type 0} {In′ : P → ℕ
   pub whole-fails : (w w′ : List ℕ) (o : Evaluated) → ((q : ℕ) → o ≡ Ends q → ⊥)
       → Evaluates In′ Stops′ bytes′ worth′ text at d w o → Evaluates In Stops bytes worthOf text at d w′ o
   whole-fails w w′ (Ends q) n e = absurd (n q refl)
-  whole-fails w w′ Missing n e = record { ahead = tt; ground = tt; result = go }
+  whole-fails w w′ Missing n e = record { ahead = tt; some-grid = tt; result = go }
     where
       go : (t : T) (r : List ℕ) → In t d → Stops r → drop at text ≡ bytes t r → ⊥
       go t r i h z =
           let p = C .parts t in
           e .result (p .first) (more-before b bytes (p .others) r) (p .within d i .0) (C .stops (p .others) r h)
           (z ∙ p .bytes-are r)
-  whole-fails w w′ (Refused k) n e = record { ahead = tt; ground = tt; result = go }
+  whole-fails w w′ (Refused k) n e = record { ahead = tt; some-grid = tt; result = go }
     where
       go : (t : T) (r : List ℕ) → In t d → Stops r → drop at text ≡ bytes t r → Result (worthOf t) text r w′ (Refused k)
       go t r i h z =
@@ -188,7 +192,7 @@ module _ {T P : Type 0} {b : ℕ} {In : T → ℕ → Type 0} {In′ : P → ℕ
       subst (λ (x : Evaluated). Evaluates In′ Stops′ bytes′ worth′ text at d w x) z e in
       record {
         ahead = ahead-from at q (length text) o′ (f .ahead .0) (c .ahead);
-        ground = c .ground;
+        some-grid = c .some-grid;
         result = λ t r i h y.
             let p = C .parts t in
             let k =
@@ -204,7 +208,7 @@ module _ {T P : Type 0} {b : ℕ} {In : T → ℕ → Type 0} {In′ : P → ℕ
   -- the joining byte does not follow: nothing does
   pub nothing-follows : (w : List ℕ) → at ≤ length text → (g : Grid) × Standing g w → Apart b (drop at text)
       → Continues b In Stops bytes onto text at d w w (Ends at)
-  nothing-follows w l k a = record { ahead = (omega arith, l); ground = k; result = go }
+  nothing-follows w l k a = record { ahead = (omega arith, l); some-grid = k; result = go }
     where
       go : (g : Grid) → Standing g w → (m : More T) (r : List ℕ) → MoreWithin In m d → Stops r
           → drop at text ≡ more-before b bytes m r → Worked (more-onto onto m (worth g)) text r at w
@@ -241,7 +245,7 @@ module _ {T P : Type 0} {b : ℕ} {In : T → ℕ → Type 0} {In′ : P → ℕ
     pub next-fails : (w y w′ : List ℕ) (o : Evaluated) → ((q : ℕ) → o ≡ Ends q → ⊥)
         → Evaluates In′ Stops′ bytes′ worth′ text (at + 1) d y o → Continues b In Stops bytes onto text at d w w′ o
     next-fails w y w′ (Ends q) n e = absurd (n q refl)
-    next-fails w y w′ Missing n e = record { ahead = tt; ground = tt; result = go }
+    next-fails w y w′ Missing n e = record { ahead = tt; some-grid = tt; result = go }
       where
         go : (g : Grid) → Standing g w → (m : More T) (r : List ℕ) → MoreWithin In m d → Stops r
             → drop at text ≡ more-before b bytes m r → ⊥
@@ -249,7 +253,7 @@ module _ {T P : Type 0} {b : ℕ} {In : T → ℕ → Type 0} {In′ : P → ℕ
             let p = next g m r i h z in
             e .result (p .phrase) (more-before b bytes (p .others) r) (p .within .0) (C .stops (p .others) r h)
             (p .bytes-are)
-    next-fails w y w′ (Refused k) n e = record { ahead = tt; ground = tt; result = go }
+    next-fails w y w′ (Refused k) n e = record { ahead = tt; some-grid = tt; result = go }
       where
         go : (g : Grid) → Standing g w → (m : More T) (r : List ℕ) → MoreWithin In m d → Stops r
             → drop at text ≡ more-before b bytes m r → Result (more-onto onto m (worth g)) text r w′ (Refused k)
@@ -277,7 +281,7 @@ module _ {T P : Type 0} {b : ℕ} {In : T → ℕ → Type 0} {In′ : P → ℕ
           → Continues b In Stops bytes onto text at d w w′ (Refused k)
       step-fails w′ k n code = record {
         ahead = tt;
-        ground = tt;
+        some-grid = tt;
         result = λ g s m r i h c.
             let p = next g m r i h c in
             let u =
@@ -299,7 +303,7 @@ module _ {T P : Type 0} {b : ℕ} {In : T → ℕ → Type 0} {In′ : P → ℕ
           → Continues b In Stops bytes onto text q d w₂ w′ o′ → Continues b In Stops bytes onto text at d w w′ o′
       step-goes-on w₂ w′ o′ stepped c = record {
         ahead = ahead-from at q (length text) o′ (omega (arith, found .ahead .0)) (c .ahead);
-        ground = c .ground;
+        some-grid = c .some-grid;
         result = λ g s m r i h j.
             let p = next g m r i h j in
             let u =

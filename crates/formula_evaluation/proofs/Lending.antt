@@ -24,7 +24,7 @@ use Rattle.formula_values.specs.Values.{Value, worth}
 use Rattle.formula_evaluation.specs.declared.Evaluated.{Evaluated}
 use Rattle.formula_evaluation.proofs.Evaluated.{the-type}
 use Rattle.formula_evaluation.specs.declared.Evaluated.the-variants.{Ends, Missing, Refused}
-use Rattle.formula_evaluation.specs.Evaluating.{sheetOf, Standing, Lent, LentOn, Evaluates}
+use Rattle.formula_evaluation.specs.Evaluating.{slotWorth, Standing, Lent, LentOn, Evaluates}
 use Rattle.formula_evaluation.proofs.Standing.{behind, behind-length, size-most, copied-standing}
 
 -- an answer that is passed on ends nowhere
@@ -33,11 +33,13 @@ not-ends (Ends p) h q e = ⊎-elim (λ z. omega arith) (λ z. omega arith) h
 not-ends Missing h q e = let z : _≡_ {A = ℕ} 0 1 = cc in omega arith
 not-ends (Refused k) h q e = let z : _≡_ {A = ℕ} 0 1 = cc in omega arith
 
--- ---- a byte
+-- ---- what `stands` tells
+-- the byte is not b
 pub stands-none : (s : List ℕ) (p b : ℕ) (r : Bool) → Stands s p b r → not r ≡ true → Apart b (drop p s)
 stands-none s p b true h n = absurd (false≢true n)
 stands-none s p b false h n = h
 
+-- it is
 pub stands-some : (s : List ℕ) (p b : ℕ) (r : Bool) → Stands s p b r → not r ≡ false
     → (p < length s) × (getD s p 0 ≡ b)
 stands-some s p b true h n = h
@@ -45,12 +47,15 @@ stands-some s p b false h n = absurd (false≢true (sym n))
 
 -- ---- what is lent on
 module _ {text : List ℕ} {at d : ℕ} {s w : List ℕ} where
+  -- by a formula to its first term
   pub lent-term : Lent 4 text at d s w → Lent 3 text at d s w
   lent-term h = record { place = h .place; room = omega (arith, h .room); store = h .store; held = h .held }
 
+  -- by a term to its first factor
   pub lent-factor : Lent 3 text at d s w → Lent 2 text at d s w
   lent-factor h = record { place = h .place; room = omega (arith, h .room); store = h .store; held = h .held }
 
+  -- by `more_terms` to the next term, behind the sum so far
   pub behind-term : Lent 4 text at d s w → at < length text → Lent 3 text (at + 1) d s (behind w)
   behind-term h l =
       let r = h .room in
@@ -62,6 +67,7 @@ module _ {text : List ℕ} {at d : ℕ} {s w : List ℕ} where
         held = h .held;
       }
 
+  -- by `more_factors` to the next factor, behind the product so far
   pub behind-factor : Lent 3 text at d s w → at < length text → Lent 2 text (at + 1) d s (behind w)
   behind-factor h l =
       let r = h .room in
@@ -73,15 +79,17 @@ module _ {text : List ℕ} {at d : ℕ} {s w : List ℕ} where
         held = h .held;
       }
 
+  -- by a factor to the formula in its brackets
   pub lent-inner : Lent 2 text at d s w → (d ≡ 0 → ⊥) → at < length text → Lent 4 text (at + 1) (d - 1) s w
   lent-inner h n l =
       record { place = omega arith; room = omega (arith, h .room); store = h .store; held = h .held }
 
+  -- to what goes on from p, with a grid at the front
   pub lent-on : {k : ℕ} → Lent k text at d s w → (p : ℕ) (w′ : List ℕ) → p ≤ length text → length w′ ≡ length w
       → (g : Grid) × Standing g w′ → LentOn k text p d s w′
   lent-on h p w′ l e g = record {
     lent = record { place = l; room = omega (arith, h .room); store = h .store; held = h .held };
-    ground = g;
+    some-grid = g;
   }
 
 -- ---- an answer that ends at p
@@ -91,13 +99,16 @@ module _ {T : Type 0} {In : T → ℕ → Type 0} {Stops : List ℕ → Type 0} 
   ended : Evaluates In Stops bytes worthOf text at d w (Ends p)
   ended = subst (λ (x : Evaluated). Evaluates In Stops bytes worthOf text at d w x) z e
 
+  -- p is within the text
   pub ended-ahead : (at ≤ p) × (p ≤ length text)
   ended-ahead = ended .ahead
 
-  pub ended-ground : (g : Grid) × Standing g w
-  ended-ground = ended .ground
+  -- and a grid stands at the front
+  pub ended-grid : (g : Grid) × Standing g w
+  ended-grid = ended .some-grid
 
 -- ---- a slot's matrix
+-- its words are the writing of its grid
 held-encoded : (x : List ℕ) → Held x → encodeRevised (revision x) (gridOf x) ≡ x
 held-encoded x h =
     let v = valid-encoded x (matrix-made x (h .matrix)) in
@@ -105,6 +116,7 @@ held-encoded x h =
     sym (v ∙ ap (λ (k : ℕ). w ++ drop k x) (h .whole) ∙ ap (λ (t : List ℕ). w ++ t) (drop-length x) ∙ append-nil w)
 
 module _ (x : List ℕ) (h : Held x) where
+  -- they are no more than a region
   pub held-long : length x ≤ maxMatrixWords
   held-long =
       omega (
@@ -114,14 +126,17 @@ module _ (x : List ℕ) (h : Held x) where
         size-most (gridOf x) (valid-within x (matrix-made x (h .matrix))),
       )
 
+  -- and some
   held-some : length x ≡ 0 → ⊥
   held-some z = omega (arith, ap length (held-encoded x h), encode-length (revision x) (gridOf x))
 
+  -- `load` copies them, with the revision 0
   pub held-standing : (w : List ℕ) → maxMatrixWords ≤ length w
       → Standing (gridOf x) (withRevision 0 (overwrite 0 x w))
   held-standing w l =
       copied-standing x w (revision x) (gridOf x) (valid-within x (matrix-made x (h .matrix))) (held-encoded x h)
       (omega (arith, held-long))
 
-pub held-sheet : (s : List ℕ) (k : ℕ) → Held (slotAt s k) → sheetOf s k ≡ worth (gridOf (slotAt s k))
-held-sheet s k h = rw (ne-eqb (length (slotAt s k)) 0 (held-some (slotAt s k) h)) refl
+-- the slot is worth its grid
+pub held-worth : (s : List ℕ) (k : ℕ) → Held (slotAt s k) → slotWorth s k ≡ worth (gridOf (slotAt s k))
+held-worth s k h = rw (ne-eqb (length (slotAt s k)) 0 (held-some (slotAt s k) h)) refl

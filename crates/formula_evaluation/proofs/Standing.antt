@@ -48,10 +48,12 @@ size-most g h = omega (arith, h .row-range .most, h .few)
 abbrev pub behind : List ℕ → List ℕ
 behind w = take (length w - maxMatrixWords) (drop maxMatrixWords w)
 
+-- the words where what is behind comes back as y
 abbrev pub back : List ℕ → List ℕ → List ℕ
 back w y = putMid maxMatrixWords (length w - maxMatrixWords) w y
 
 module _ (w y : List ℕ) (l : maxMatrixWords ≤ length w) where
+  -- the first region, and then y
   pub back-is : back w y ≡ take maxMatrixWords w ++ y
   back-is =
       ap (λ (z : List ℕ). take maxMatrixWords w ++ (y ++ z)) (post-is maxMatrixWords (length w) w l ∙ drop-length w)
@@ -60,13 +62,16 @@ module _ (w y : List ℕ) (l : maxMatrixWords ≤ length w) where
   front : length (take maxMatrixWords w) ≡ maxMatrixWords
   front = length-take-le maxMatrixWords w l
 
+  -- how many words are lent on
   pub behind-length : length (behind w) ≡ length w - maxMatrixWords
   behind-length = simp (length-take, length-drop) (omega arith)
 
+  -- the length stays
   pub back-length : length y ≡ length (behind w) → length (back w y) ≡ length w
   back-length e =
       ap length back-is ∙ length-append (take maxMatrixWords w) y ∙ omega (arith, front, behind-length)
 
+  -- the operands of a step: the first region, and that of y
   left-back : leftWords (back w y) ≡ leftWords w
   left-back = ap leftWords back-is ∙ take-at (take maxMatrixWords w) y maxMatrixWords front
 
@@ -75,7 +80,8 @@ module _ (w y : List ℕ) (l : maxMatrixWords ≤ length w) where
       ap (take maxMatrixWords) (ap (drop maxMatrixWords) back-is
       ∙ drop-at (take maxMatrixWords w) y maxMatrixWords front)
 
--- ---- the words of a region in which a grid stands
+-- ---- a region in which a grid stands
+-- its words
 region-words : {g : Grid} {w : List ℕ} → Standing g w
     → take maxMatrixWords w ≡ encode g ++ drop (gridSize g) (take maxMatrixWords w)
 region-words {g} {w} s =
@@ -83,14 +89,17 @@ region-words {g} {w} s =
     ∙ ap (λ (x : List ℕ). x ++ drop (gridSize g) (take maxMatrixWords w))
     (take-take (gridSize g) maxMatrixWords w (size-most g (s .within)) ∙ s .words)
 
+-- they are a matrix
 region-matrix : {g : Grid} {w : List ℕ} → Standing g w → Matrix (take maxMatrixWords w)
 region-matrix {g} {w} s =
     rw (region-words s) (encode-matrix 0 g (drop (gridSize g) (take maxMatrixWords w)) (s .within))
 
+-- of that grid
 region-same : {g : Grid} {w : List ℕ} → Standing g w → Same (gridOf (take maxMatrixWords w)) g
 region-same {g} {w} s = rw (region-words s) (encode-same 0 g (drop (gridSize g) (take maxMatrixWords w)))
 
 -- ---- the two steps
+-- what both have
 pub record Step (op : Operation) : Type 0 where
   pub second : hasSecond op ≡ true
   pub lists : hasLists op ≡ false
@@ -100,6 +109,7 @@ pub record Step (op : Operation) : Type 0 where
       → InRange maxCols (stepGrid op a b .cols)
   pub within : (v w : Value) → WithinValue v → WithinValue w → WithinValue (step op v w)
 
+-- +
 pub adding : (monoid : Monoid) → Step (sumOf monoid)
 adding monoid = record {
   second = refl;
@@ -109,6 +119,7 @@ adding monoid = record {
   within = sum-within monoid;
 }
 
+-- *
 pub multiplying : (monoid : Monoid) (op : BinaryOp) → Step (productOf monoid op)
 multiplying monoid op = record {
   second = refl;
@@ -118,7 +129,7 @@ multiplying monoid op = record {
   within = product-within monoid op;
 }
 
--- an operand stands where it stood, and the other behind it
+-- ---- g stands where it stood, and h behind it
 module _ {op : Operation} (o : Step op) (w y : List ℕ) (l : maxMatrixWords ≤ length w) {g h : Grid} (s : Standing g w)
     (t : Standing h y) where
   left-same : Same (gridOf (leftWords (back w y))) g
@@ -127,6 +138,7 @@ module _ {op : Operation} (o : Step op) (w y : List ℕ) (l : maxMatrixWords ≤
   right-same : Same (gridOf (rightWords (back w y))) h
   right-same = rw (right-back w y l) (region-same t)
 
+  -- what `formula_steps::step` asks for
   pub operands : 3 * maxMatrixWords ≤ length (back w y) → Operands op (back w y)
   operands k =
       let a = left-same in
@@ -146,6 +158,7 @@ module _ {op : Operation} (o : Step op) (w y : List ℕ) (l : maxMatrixWords ≤
       }
 
   module _ {code : ℕ} {w₂ : List ℕ} (p : Stepped op (back w y) code w₂) where
+    -- its code is that of the step on the two grids
     pub code-standing : code ≡ valueCode (step op (worth g) (worth h))
     code-standing =
         p .code-is
@@ -155,11 +168,13 @@ module _ {op : Operation} (o : Step op) (w y : List ℕ) (l : maxMatrixWords ≤
         (worth g)
         (worth h) left-same right-same)
 
+    -- the code 0 is of neither failure
     none : (x z : Bool) → valueCode (outcome x z (stepGrid op g h)) ≡ 0 → (x ≡ true) × (z ≡ true)
     none true true e = (refl, refl)
     none true false e = absurd (omega arith)
     none false z e = absurd (omega arith)
 
+    -- for 0 the grid of the step stands at the front
     pub stepped-standing : code ≡ 0 → (r : Grid) × (step op (worth g) (worth h) ≡ worth r) × Standing r w₂
     stepped-standing z =
         let a = gridOf (leftWords (back w y)) in
@@ -182,7 +197,7 @@ module _ {op : Operation} (o : Step op) (w y : List ℕ) (l : maxMatrixWords ≤
           },
         )
 
--- ---- a slot's matrix copied to the front, with the revision 0
+-- ---- a slot's matrix copied to the front, with the revision 0: for `load`
 pub copied-standing : (x w : List ℕ) (v : ℕ) (g : Grid) → Within g → encodeRevised v g ≡ x → length x ≤ length w
     → Standing g (withRevision 0 (overwrite 0 x w))
 copied-standing x w v g h e l =

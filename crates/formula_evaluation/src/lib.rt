@@ -1,7 +1,7 @@
 // Working out a formula over the slots of a store, from left to right. The functions read the text as the grammar has
 // it and call each other; the bytes left and the bracket allowance fall. Each leaves its value at the front of the
-// words that it is lent, and lends the words behind the largest matrix on for the next operand: so no word that holds a
-// pending value is lent.
+// words that it is lent, and lends the words behind the largest matrix on to the next operand: so no word that holds a
+// pending value is lent to the next operand.
 use formula_steps::SECOND_AT;
 use formula_texts::CLOSE;
 use formula_texts::FIRST_DIGIT;

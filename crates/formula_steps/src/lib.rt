@@ -1,6 +1,6 @@
 // One step of a formula: a product or a union of two matrices that stand in one lent area, the first at its front and
 // the second one region of the largest matrix further on. T is put together in the third region, row by row, and then
-// moved to the front. Nothing is lent twice: each row is worked out before it is written.
+// moved to the front. Nothing is lent by & and by &mut at once: each row is worked out before it is written.
 use answers::INVALID_SHAPE;
 use answers::TOO_MANY_ENTRIES;
 use limits::MAX_ENTRIES;
@@ -164,6 +164,7 @@ fn inputs_agree(shapes: Shapes, needs: Needs) -> bool
     same_shape(second, other)
 }
 
+// Whether two shapes are one.
 fn same_shape(a: Shape, b: Shape) -> bool
     ensures { λ r. ⌜ r ≡ matches a b ⌝ }
 {

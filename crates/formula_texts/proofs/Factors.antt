@@ -36,34 +36,43 @@ unfolding before
 plain c d x r (digit n) w e z = let a : c ≡ 48 + n = head-same e in (omega arith, omega arith)
 plain c d x r (bracketed f) w e z = absurd (z (head-same e))
 
+-- a factor has a byte
 some : (r : List ℕ) (y : Factor) → [] ≡ factor-before y r → ⊥
 unfolding before
 some r (digit n) e = let z : _≡_ {A = ℕ} 0 1 = cc in omega arith
 some r (bracketed f) e = let z : _≡_ {A = ℕ} 0 1 = cc in omega arith
 
+-- no formula goes on at ")"
 pub closing : (r : List ℕ) → FormulaStops (41 ∷ r)
 closing r = ((tt, λ z. omega arith), λ z. omega arith)
 
+-- after formulas that cannot go on the same bytes are left
 pub formula-rest : (d d′ : ℕ) (x r q : List ℕ) → FormulaStops r → FormulaStops q → FormulaThen d x r
     → FormulaThen d′ x q → r ≡ q
 formula-rest d d′ x r q h k u v = formula-once (u .0) (v .0) r q h k (sym (u .2) ∙ v .2) .1
 
+-- ---- the answers of `factor`, in the order of the code
 module _ (s : List ℕ) (at d : ℕ) where
+  -- past the end
   pub factor-past : length s ≤ at → Read FactorThen FactorStops s at d Missing
   factor-past h r u z = some r (u .0) (sym (drop-of-length-le s h) ∙ u .2)
 
   module _ (l : at < length s) where
+    -- the byte at `at`, and those after it
     cut : drop at s ≡ getD s at 0 ∷ drop (at + 1) s
     cut = at-byte s at (getD s at 0) l refl
 
+    -- ---- the byte is "("
     module _ (x : getD s at 0 ≡ 40) where
       bracket : (r : List ℕ) → FactorThen d (drop at s) r
           → (e : ℕ) × (d ≡ suc e) × FormulaThen e (drop (at + 1) s) (41 ∷ r)
       bracket r u = opened (getD s at 0) d (drop (at + 1) s) r (u .0) (u .1) (sym cut ∙ u .2) x
 
+      -- no allowance is left
       pub too-deep : d ≡ 0 → Read FactorThen FactorStops s at d Missing
       too-deep h r u z = let b = bracket r u in let e : d ≡ suc (b .0) = b .1 in omega arith
 
+      -- what follows is a formula and ")"
       inner : (r : List ℕ) → FactorThen d (drop at s) r → FormulaThen (d - 1) (drop (at + 1) s) (41 ∷ r)
       inner r u =
           let b = bracket r u in
@@ -73,6 +82,7 @@ module _ (s : List ℕ) (at d : ℕ) where
           less : (e : ℕ) → d ≡ suc e → e ≡ d - 1
           less e q = omega arith
 
+      -- no formula follows
       pub no-inner : (o : Phrase) → o ≡ Missing → Read FormulaThen FormulaStops s (at + 1) (d - 1) o
           → Read FactorThen FactorStops s at d Missing
       no-inner o e h r u z = h′ (41 ∷ r) (inner r u) (closing r)
@@ -84,11 +94,13 @@ module _ (s : List ℕ) (at d : ℕ) where
         found : Ended FormulaThen FormulaStops s (at + 1) (d - 1) p
         found = rw e at h
 
+        -- one follows, and no ")"
         pub unclosed : Apart 41 (drop p s) → Read FactorThen FactorStops s at d Missing
         unclosed a r u z =
             apart-not 41 (drop p s) r a (formula-rest (d - 1) (d - 1) (drop (at + 1) s) (drop p s) (41 ∷ r)
             (found .stops) (closing r) (found .phrase) (inner r u))
 
+        -- one follows, and ")"
         pub closed : (d ≡ 0 → ⊥) → p < length s → getD s p 0 ≡ 41 → Read FactorThen FactorStops s at d (Ends (p + 1))
         unfolding before
         closed n m y =
@@ -112,11 +124,14 @@ module _ (s : List ℕ) (at d : ℕ) where
             whole zero n g w q = absurd (n refl)
             whole (suc c) n g w q = (bracketed g, rw (less c) at w, q)
 
+    -- ---- it is another
     module _ (x : getD s at 0 ≡ 40 → ⊥) where
+      -- no digit 0 to 7
       pub no-digit : (48 ≤ getD s at 0 → getD s at 0 ≤ 55 → ⊥) → Read FactorThen FactorStops s at d Missing
       no-digit n r u z =
           let b = plain (getD s at 0) d (drop (at + 1) s) r (u .0) (u .1) (sym cut ∙ u .2) x in n (b .0) (b .1)
 
+      -- a digit 0 to 7
       pub one-digit : 48 ≤ getD s at 0 → getD s at 0 ≤ 55 → Read FactorThen FactorStops s at d (Ends (at + 1))
       unfolding before
       one-digit h k =

@@ -27,6 +27,7 @@ use Rattle.formula_texts.specs.Reader.{Parsed, found, grown, follow, clo
 
 -- ---- how deep the calls go, and the bytes that pay for it
 mutual
+  -- the depth that reading a tree takes
   pub need : Formula → ℕ
   need (one-term t) = term-need t + 1
   need (plus t f) = term-need t + need f + 1
@@ -42,6 +43,7 @@ mutual
 mutual
   unfolding need text
 
+  -- at most three for each byte of its text
   pub paid : (f : Formula) → need f ≤ 3 * length (text f)
   paid (one-term t) = omega (arith, term-paid t)
   paid (plus t f) = rw (length-append (term-text t) (43 ∷ text f)) (omega (arith, term-paid t, paid f))
@@ -60,6 +62,7 @@ back : (k : ℕ) → 48 + k - 48 ≡ k
 back k = omega arith
 
 module _ {A B : Type 0} (b : ℕ) (one : A → B) (more : A → B → B) (k : List ℕ → Parsed B) where
+  -- where b does not follow, the first tree is the whole
   follow-ends : (a : A) (r : List ℕ) → Apart b r → follow b one more k (found a r) ≡ found (one a) r
   follow-ends a [] h = refl
   follow-ends a (x ∷ r) h = rw (ne-eqb x b h)
@@ -67,6 +70,7 @@ module _ {A B : Type 0} (b : ℕ) (one : A → B) (more : A → B → B) (k : Li
 mutual
   unfolding need before read-formula
 
+  -- `read-formula` finds f before r, where f cannot go on in r; for `reading-found`
   pub formula-found : (f : Formula) (n d : ℕ) (r : List ℕ) → Within f d → FormulaStops r → need f ≤ n
       → read-formula n d (before f r) ≡ found f r
   formula-found (one-term t) zero d r w s l = absurd (omega arith)

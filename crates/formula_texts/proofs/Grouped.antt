@@ -48,6 +48,7 @@ use Rattle.formula_texts.specs.Values.{
 }
 use Rattle.formula_texts.proofs.Once.{one-reading}
 
+-- ---- grouping keeps the text
 mutual
   unfolding text sum-text grouped
 
@@ -81,7 +82,7 @@ mutual
   factor-grouped-text (digit n) = refl
   factor-grouped-text (bracketed f) = ap (λ (y : List ℕ). 40 ∷ y ++ 41 ∷ []) (grouped-text f)
 
--- ---- back
+-- ---- a grouped tree in the order of its text
 mutual
   ordered : Sum → Formula
   ordered (first-term p) = one-term (product-ordered p)
@@ -103,6 +104,7 @@ mutual
   operand-ordered (place n) = digit n
   operand-ordered (group s) = bracketed (ordered s)
 
+-- grouped again it is the same
 mutual
   unfolding ordered grouped
 
@@ -131,6 +133,7 @@ mutual
   operand-again (place n) = refl
   operand-again (group s) = ap group (again s)
 
+-- and its text is the same
 ordered-text : (s : Sum) → text (ordered s) ≡ sum-text s
 ordered-text s = sym (grouped-text (ordered s)) ∙ ap sum-text (again s)
 
@@ -140,42 +143,42 @@ one-grouping s u e =
     sym (again s) ∙ ap grouped (one-reading (ordered s) (ordered u) (ordered-text s ∙ e ∙ sym (ordered-text u)))
     ∙ again u
 
--- ---- values
-module _ {A : Type 0} (sheet : ℕ → A) (add multiply : A → A → A) where
+-- ---- grouping keeps the value
+module _ {A : Type 0} (slot : ℕ → A) (add multiply : A → A → A) where
   mutual
     unfolding grouped sum-value value
 
-    pub grouped-value : (f : Formula) → sum-value sheet add multiply (grouped f) ≡ value sheet add multiply f
+    pub grouped-value : (f : Formula) → sum-value slot add multiply (grouped f) ≡ value slot add multiply f
     grouped-value (one-term t) = term-grouped-value t
     grouped-value (plus t f) =
-        onto-value f (first-term (term-grouped t)) ∙ ap (value-onto sheet add multiply f) (term-grouped-value t)
+        onto-value f (first-term (term-grouped t)) ∙ ap (value-onto slot add multiply f) (term-grouped-value t)
 
     onto-value : (f : Formula) (s : Sum)
-        → sum-value sheet add multiply (grouped-onto f s) ≡ value-onto sheet add multiply f
-        (sum-value sheet add multiply s)
-    onto-value (one-term t) s = ap (add (sum-value sheet add multiply s)) (term-grouped-value t)
+        → sum-value slot add multiply (grouped-onto f s) ≡ value-onto slot add multiply f
+        (sum-value slot add multiply s)
+    onto-value (one-term t) s = ap (add (sum-value slot add multiply s)) (term-grouped-value t)
     onto-value (plus t f) s =
         onto-value f (and-term s (term-grouped t))
-        ∙ ap (λ (a : A). value-onto sheet add multiply f (add (sum-value sheet add multiply s) a))
+        ∙ ap (λ (a : A). value-onto slot add multiply f (add (sum-value slot add multiply s) a))
         (term-grouped-value t)
 
     term-grouped-value : (t : Term)
-        → product-value sheet add multiply (term-grouped t) ≡ term-value sheet add multiply t
+        → product-value slot add multiply (term-grouped t) ≡ term-value slot add multiply t
     term-grouped-value (one-factor x) = factor-grouped-value x
     term-grouped-value (times x t) =
         term-onto-value t (first-factor (factor-grouped x))
-        ∙ ap (term-value-onto sheet add multiply t) (factor-grouped-value x)
+        ∙ ap (term-value-onto slot add multiply t) (factor-grouped-value x)
 
     term-onto-value : (t : Term) (p : Product)
-        → product-value sheet add multiply (term-grouped-onto t p) ≡ term-value-onto sheet add multiply t
-        (product-value sheet add multiply p)
-    term-onto-value (one-factor x) p = ap (multiply (product-value sheet add multiply p)) (factor-grouped-value x)
+        → product-value slot add multiply (term-grouped-onto t p) ≡ term-value-onto slot add multiply t
+        (product-value slot add multiply p)
+    term-onto-value (one-factor x) p = ap (multiply (product-value slot add multiply p)) (factor-grouped-value x)
     term-onto-value (times x t) p =
         term-onto-value t (and-factor p (factor-grouped x))
-        ∙ ap (λ (a : A). term-value-onto sheet add multiply t (multiply (product-value sheet add multiply p) a))
+        ∙ ap (λ (a : A). term-value-onto slot add multiply t (multiply (product-value slot add multiply p) a))
         (factor-grouped-value x)
 
     factor-grouped-value : (x : Factor)
-        → operand-value sheet add multiply (factor-grouped x) ≡ factor-value sheet add multiply x
+        → operand-value slot add multiply (factor-grouped x) ≡ factor-value slot add multiply x
     factor-grouped-value (digit n) = refl
     factor-grouped-value (bracketed f) = grouped-value f

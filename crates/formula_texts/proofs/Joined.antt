@@ -24,21 +24,26 @@ use Rattle.formula_texts.specs.Reading.{
 }
 use Rattle.formula_texts.proofs.Once.{tail-same, apart-not, term-once, factor-once}
 
--- ---- a byte of s, and what follows it
+-- ---- a byte of s, and what follows it; also for `formula_evaluation`
+-- b stands at p
 pub at-byte : (s : List ℕ) (p b : ℕ) → p < length s → getD s p 0 ≡ b → drop p s ≡ b ∷ drop (p + 1) s
 at-byte s p b h e = drop-cons s p 0 h ∙ rw (e, add-one)
 
+-- nothing stands there
 pub past-end : (s : List ℕ) (p b : ℕ) → length s ≤ p → Apart b (drop p s)
 past-end s p b h = rw (drop-of-length-le s h) tt
 
+-- another byte stands there
 pub other-byte : (s : List ℕ) (p b : ℕ) → p < length s → (getD s p 0 ≡ b → ⊥) → Apart b (drop p s)
 other-byte s p b h n = rw (drop-cons s p 0 h) n
 
 -- ---- phrases of one kind are phrases of another kind, joined by b
+-- such a phrase is one of the other kind alone, or that and b and more
 pub data Splits (Then Then′ : ℕ → List ℕ → List ℕ → Type 0) (b d : ℕ) (x r : List ℕ) : Type 0 where
   alone : Then′ d x r → Splits Then Then′ b d x r
   joined : (y : List ℕ) → Then′ d x (b ∷ y) → Then d y r → Splits Then Then′ b d x r
 
+-- all that the readings of both use
 pub record Joins (Then Then′ : ℕ → List ℕ → List ℕ → Type 0) (Stops′ : List ℕ → Type 0) (b : ℕ) : Type 0 where
   pub only : (d : ℕ) (x r : List ℕ) → Then′ d x r → Then d x r
   pub more : (d : ℕ) (x y r : List ℕ) → Then′ d x (b ∷ y) → Then d y r → Then d x r
@@ -46,6 +51,7 @@ pub record Joins (Then Then′ : ℕ → List ℕ → List ℕ → Type 0) (Stop
   pub once : (d : ℕ) (x r q : List ℕ) → Stops′ r → Stops′ q → Then′ d x r → Then′ d x q → r ≡ q
   pub between : (y : List ℕ) → Stops′ (b ∷ y)
 
+-- a formula is terms joined by "+"
 pub terms : Joins FormulaThen TermThen TermStops 43
 unfolding before
 terms = record {
@@ -61,6 +67,7 @@ terms = record {
     go d x r (one-term t) w e = alone (t, w, e)
     go d x r (plus t f) w e = joined (before f r) (t, w .0, e) (f, w .1, refl)
 
+-- a term is factors joined by "*"
 pub factors : Joins TermThen FactorThen FactorStops 42
 unfolding before
 factors = record {
@@ -82,6 +89,7 @@ factors = record {
     go d x r (one-factor y) w e = alone (y, w, e)
     go d x r (times y t) w e = joined (term-before t r) (y, w .0, e) (t, w .1, refl)
 
+-- ---- the answers of `formula` and of `term`
 module _ {Then Then′ : ℕ → List ℕ → List ℕ → Type 0} {Stops′ : List ℕ → Type 0} {b : ℕ} (J : Joins Then Then′ Stops′ b)
     (s : List ℕ) (at d : ℕ) where
   -- no first phrase: none at all

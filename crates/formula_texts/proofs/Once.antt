@@ -23,6 +23,7 @@ use Rattle.formula_texts.specs.Reading.{before, term-before, factor-befo
 mutual
   unfolding before text
 
+  -- `before` is the text and then r
   pub before-is : (f : Formula) (r : List ℕ) → before f r ≡ text f ++ r
   before-is (one-term t) r = term-before-is t r
   before-is (plus t f) r =
@@ -39,13 +40,16 @@ mutual
   factor-before-is (bracketed f) r =
       rw (before-is f (41 ∷ r)) (ap (λ (y : List ℕ). 40 ∷ y) (sym (append-assoc (text f) (41 ∷ []) r)))
 
--- ---- what begins with b
+-- ---- lists of bytes
+-- of equal lists the first bytes are equal
 pub head-same : {a b : ℕ} {x y : List ℕ} → a ∷ x ≡ b ∷ y → a ≡ b
 head-same e = cc
 
+-- and so are the others
 pub tail-same : {a b : ℕ} {x y : List ℕ} → a ∷ x ≡ b ∷ y → x ≡ y
 tail-same e = cc
 
+-- what does not begin with b is no list that does
 pub apart-not : (b : ℕ) (r x : List ℕ) → Apart b r → r ≡ b ∷ x → ⊥
 apart-not b [] x a e = let z : _≡_ {A = ℕ} 0 1 = cc in omega arith
 apart-not b (y ∷ r) x a e = a (head-same e)
@@ -54,6 +58,7 @@ apart-not b (y ∷ r) x a e = a (head-same e)
 mutual
   unfolding before
 
+  -- the same bytes, in which neither goes on: the same formula, and the same bytes after it
   pub formula-once : (f g : Formula) (r q : List ℕ) → FormulaStops r → FormulaStops q → before f r ≡ before g q
       → (f ≡ g) × (r ≡ q)
   formula-once (one-term t) (one-term u) r q h k e =
@@ -69,6 +74,7 @@ mutual
       let b : f ≡ g = i .0 in
       (cc, i .1)
 
+  -- the same of terms
   pub term-once : (t u : Term) (r q : List ℕ) → TermStops r → TermStops q → term-before t r ≡ term-before u q
       → (t ≡ u) × (r ≡ q)
   term-once (one-factor x) (one-factor y) r q h k e =
@@ -84,6 +90,7 @@ mutual
       let b : t ≡ u = i .0 in
       (cc, i .1)
 
+  -- and of factors, which never go on
   pub factor-once : (x y : Factor) (r q : List ℕ) → factor-before x r ≡ factor-before y q → (x ≡ y) × (r ≡ q)
   factor-once (digit n) (digit m) r q e =
       let a : 48 + n ≡ 48 + m = head-same e in

@@ -9,9 +9,11 @@ use Rattle.formula_texts.proofs.Once.{one-reading}
 use Rattle.formula_texts.proofs.Reader.{reading-found, reading-sound}
 use Rattle.formula_texts.proofs.Grouped.{grouped-text, one-grouping, grouped-value}
 
+-- an outcome is not both
 not-both : (o : Outcome) (f : Formula) → o ≡ unreadable → o ≡ read-as f → ⊥
 not-both o f p q = let z : _≡_ {A = ℕ} 0 1 = cc in omega arith
 
+-- "each accepted text has one reading"
 pub each-once : OneReading
 each-once = record {
   one = λ s f g h k. one-reading f g (h .written ∙ sym (k .written));
@@ -21,5 +23,5 @@ each-once = record {
   unread = λ s e i. not-both (reading s) (i .0) e (reading-found s (i .0) (i .1));
   grouped-text = grouped-text;
   one-grouping = one-grouping;
-  grouped-value = λ {A} sheet add multiply f. grouped-value sheet add multiply f;
+  grouped-value = λ {A} slot add multiply f. grouped-value slot add multiply f;
 }

@@ -26,6 +26,7 @@ use Rattle.formula_texts.proofs.Once.{before-is}
 use Rattle.formula_texts.proofs.Found.{paid, formula-found}
 use Rattle.formula_texts.proofs.Sound.{formula-sound}
 
+-- a text of the language has its tree as its computed reading
 pub reading-found : (s : List ℕ) (f : Formula) → Reading s f → reading s ≡ read-as f
 unfolding reading
 reading-found s f R =
@@ -37,6 +38,7 @@ reading-found s f R =
     formula-found f (3 * length s) 3 [] (R .within) ((tt, tt), tt) (omega (arith, paid f)) in
     rw (le-leb (length s) 64 l) (ap whole (rw e at g))
 
+-- the computed reading is a reading
 pub reading-sound : (s : List ℕ) (f : Formula) → reading s ≡ read-as f → Reading s f
 unfolding reading
 reading-sound s f e = by (leb (length s) 64) (read-formula (3 * length s) 3 s) refl refl e
@@ -60,7 +62,7 @@ reading-sound s f e = by (leb (length s) 64) (read-formula (3 * length s) 3 s) r
         } in
         rw u at w
 
--- an answer that decides the language is the computed one
+-- an answer that decides the language is the computed one: for `store_formulas::early_refusal`
 pub answer-is : (s : List ℕ) (r : Bool) → Decides (InLanguage s) r → r ≡ accepted s
 answer-is s r h = by r (reading s) refl h
   where

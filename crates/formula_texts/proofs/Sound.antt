@@ -35,13 +35,16 @@ use Rattle.formula_texts.specs.Reader.{
   read-factor,
 }
 
+-- nothing found is no tree
 never {ℓ} : {A : Type 0} {G : Type ℓ} {a : A} {r : List ℕ} → nothing ≡ found a r → G
 never e = absurd (let z : _≡_ {A = ℕ} 0 1 = cc in omega arith)
 
+-- ---- what `follow` finds: P is known of the first tree, and Q follows of the whole
 module _ {A B : Type 0} (b : ℕ) (one : A → B) (more : A → B → B) (k : List ℕ → Parsed B) (P : A → List ℕ → Type 0)
     (Q : B → List ℕ → Type 0)
     (alone : (a : A) (r : List ℕ) → P a r → Q (one a) r)
     (joined : (a : A) (c : B) (y r : List ℕ) → P a (b ∷ y) → k y ≡ found c r → Q (more a c) r) where
+  -- joined on to what follows
   grows : (a : A) (o : Parsed B) (y : List ℕ) → k y ≡ o → P a (b ∷ y) → (c : B) (r : List ℕ)
       → grown (more a) o ≡ found c r → Q c r
   grows a (found d q) y e p c r f =
@@ -50,6 +53,7 @@ module _ {A B : Type 0} (b : ℕ) (one : A → B) (more : A → B → B) (k : Li
       rw v at (rw u at (joined a d y q p e))
   grows a nothing y e p c r f = never f
 
+  -- either way
   follow-sound : (o : Parsed A) → ((a : A) (r : List ℕ) → o ≡ found a r → P a r) → (c : B) (r : List ℕ)
       → follow b one more k o ≡ found c r → Q c r
   follow-sound nothing h c r e = never e
@@ -66,10 +70,13 @@ module _ {A B : Type 0} (b : ℕ) (one : A → B) (more : A → B → B) (k : Li
           let v : x ∷ y ≡ r = cc in
           rw v at (rw u at (alone a (x ∷ y) (h a (x ∷ y) refl)))
 
+-- ---- factors
+-- by other names
 same-factor : {y z : Factor} {q r : List ℕ} (d : ℕ) (x : List ℕ) → y ≡ z → q ≡ r
     → FactorWithin y d × (x ≡ factor-before y q) → FactorWithin z d × (x ≡ factor-before z r)
 same-factor d x u v w = rw v at (rw u at w)
 
+-- a digit
 plain-sound : (c : ℕ) (x r : List ℕ) (y : Factor) (d : ℕ) → plain c x ≡ found y r
     → FactorWithin y d × (c ∷ x ≡ factor-before y r)
 unfolding before
@@ -92,6 +99,7 @@ plain-sound c x r y d e = by (ltb c 48) (ltb 55 c) refl refl e
         (omega arith, ap (λ (z : ℕ). z ∷ x) (back′ c l)) in
         same-factor d (c ∷ x) u v w
 
+-- a formula and ")", after "("
 closed-sound : (o : Parsed Formula) (y : Factor) (r : List ℕ) (d : ℕ) (x : List ℕ)
     → ((f : Formula) (q : List ℕ) → o ≡ found f q → Within f d × (x ≡ before f q)) → closed o ≡ found y r
     → FactorWithin y (suc d) × (40 ∷ x ≡ factor-before y r)
@@ -111,12 +119,14 @@ closed-sound (found f (c ∷ q)) y r d x h e = by (eqb c 41) refl e
     by false p g = never g
 closed-sound nothing y r d x h e = never e
 
+-- with an allowance
 inside-sound : (d : ℕ) (k : ℕ → Parsed Formula) (y : Factor) (r x : List ℕ)
     → ((e : ℕ) (f : Formula) (q : List ℕ) → k e ≡ found f q → Within f e × (x ≡ before f q))
     → inside d k ≡ found y r → FactorWithin y d × (40 ∷ x ≡ factor-before y r)
 inside-sound zero k y r x h e = never e
 inside-sound (suc d) k y r x h e = closed-sound (k d) y r d x (h d) e
 
+-- either
 factor-split : (c d : ℕ) (x r : List ℕ) (y : Factor) (k : ℕ → Parsed Formula)
     → ((e : ℕ) (f : Formula) (q : List ℕ) → k e ≡ found f q → Within f e × (x ≡ before f q))
     → cond (eqb c 40) (inside d k) (plain c x) ≡ found y r → FactorWithin y d × (c ∷ x ≡ factor-before y r)
@@ -130,6 +140,7 @@ factor-split c d x r y k h e = by (eqb c 40) refl e
 mutual
   unfolding before read-formula
 
+  -- what is found stands there, within the allowance; for `reading-sound`
   pub formula-sound : (n d : ℕ) (x : List ℕ) (f : Formula) (r : List ℕ) → read-formula n d x ≡ found f r
       → Within f d × (x ≡ before f r)
   formula-sound zero d x f r e = never e

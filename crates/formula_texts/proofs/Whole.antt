@@ -1,7 +1,7 @@
--- The whole text.
+-- The answers of `accepts`: the formula from 0 on is the whole text, or the text is not in the language.
 use mathlib.Core.Path.{_≡_, sym, ap, _∙_}
 use mathlib.Core.List.{List, [], append-nil}
-use Prim.Native.Nat.{ℕ, _-_, _≤_, _<_}
+use Prim.Native.Nat.{ℕ, _-_, _≤_}
 use native.Mathlib.Omega.{arith}
 use lib.ListN.{length, drop, length-drop}
 use lib.Seq.{drop-length}
@@ -12,21 +12,21 @@ use Rattle.formula_texts.specs.Reading.{before, FormulaThen, FormulaStop
 use Rattle.formula_texts.proofs.Once.{before-is}
 use Rattle.formula_texts.proofs.Factors.{formula-rest}
 
+-- a text of the language is a formula that nothing follows
 reading-is : (s : List ℕ) → InLanguage s → FormulaThen 3 s []
 reading-is s (f, R) = (f, R .within, sym (R .written) ∙ sym (append-nil (text f)) ∙ sym (before-is f []))
 
 nothing-follows : FormulaStops []
 nothing-follows = ((tt, tt), tt)
 
-pub too-long : (s : List ℕ) → 64 < length s → InLanguage s → ⊥
-too-long s h i = let l : length s ≤ 64 = i .1 .short in omega arith
-
+-- no formula stands at 0
 pub no-formula : (s : List ℕ) (o : Phrase) → o ≡ Missing → Read FormulaThen FormulaStops s 0 3 o → InLanguage s → ⊥
 no-formula s o e h i = h′ [] (reading-is s i) nothing-follows
   where
     h′ : (r : List ℕ) → FormulaThen 3 (drop 0 s) r → FormulaStops r → ⊥
     h′ = rw e at h
 
+-- one does, and bytes follow it
 pub bytes-left : (s : List ℕ) (o : Phrase) (q : ℕ) → o ≡ Ends q → Read FormulaThen FormulaStops s 0 3 o
     → (q ≡ length s → ⊥) → InLanguage s → ⊥
 bytes-left s o q e h n i =
@@ -36,6 +36,7 @@ bytes-left s o q e h n i =
     let m : length s - q ≡ 0 = sym (length-drop q s) ∙ l in
     n (omega (arith, f .inside))
 
+-- one does, and nothing follows
 pub whole-text : (s : List ℕ) (o : Phrase) (q : ℕ) → o ≡ Ends q → Read FormulaThen FormulaStops s 0 3 o
     → q ≡ length s → length s ≤ 64 → InLanguage s
 whole-text s o q e h n l =

@@ -20,5 +20,5 @@ pub record OneReading : Type 1 where
   -- grouped from left to right it has the same text, no other grouped tree has it, and its value is the same
   pub grouped-text : (f : Formula) → sum-text (grouped f) ≡ text f
   pub one-grouping : (s u : Sum) → sum-text s ≡ sum-text u → s ≡ u
-  pub grouped-value : {A : Type 0} (sheet : ℕ → A) (add multiply : A → A → A) (f : Formula)
-      → sum-value sheet add multiply (grouped f) ≡ value sheet add multiply f
+  pub grouped-value : {A : Type 0} (slot : ℕ → A) (add multiply : A → A → A) (f : Formula)
+      → sum-value slot add multiply (grouped f) ≡ value slot add multiply f

@@ -1,4 +1,4 @@
--- The value of a formula over any kind of sheets: of a tree in the order of the text, and of a grouped tree, where each
+-- The value of a formula, whatever its slots hold: of a tree in the order of the text, and of a grouped tree, where each
 -- step has its left side worked out first.
 use Prim.Native.Nat.{ℕ}
 use Rattle.formula_texts.specs.Trees.{Formula, Term, Factor, one-term, plus, one-factor, times, digit, bracketed}
@@ -14,8 +14,8 @@ use Rattle.formula_texts.specs.Grouped.{
   group,
 }
 
--- `sheet` is what a place holds, `add` and `multiply` are one step each
-module _ {A : Type 0} (sheet : ℕ → A) (add multiply : A → A → A) where
+-- `slot` is what a slot holds, `add` and `multiply` are one step each
+module _ {A : Type 0} (slot : ℕ → A) (add multiply : A → A → A) where
   unfoldable mutual
     pub sum-value : Sum → A
     sum-value (first-term p) = product-value p
@@ -26,7 +26,7 @@ module _ {A : Type 0} (sheet : ℕ → A) (add multiply : A → A → A) where
     product-value (and-factor p o) = multiply (product-value p) (operand-value o)
 
     pub operand-value : Operand → A
-    operand-value (place n) = sheet n
+    operand-value (place n) = slot n
     operand-value (group s) = sum-value s
 
   unfoldable mutual
@@ -47,5 +47,5 @@ module _ {A : Type 0} (sheet : ℕ → A) (add multiply : A → A → A) where
     term-value-onto (times x t) a = term-value-onto t (multiply a (factor-value x))
 
     pub factor-value : Factor → A
-    factor-value (digit n) = sheet n
+    factor-value (digit n) = slot n
     factor-value (bracketed f) = value f

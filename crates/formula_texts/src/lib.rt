@@ -44,7 +44,8 @@ pub fn stands(text: &[u8], p: usize, b: u8) -> bool
     false
 }
 
-// The longest formula from `at` on that needs no more open brackets than the allowance.
+// The formula from `at` on that neither + nor * follows, with no more brackets open than the allowance; or that there is
+// none.
 pub fn formula(text: &[u8], at: usize, allowance: u32) -> Phrase
     requires { ⌜ at ≤ length (now text) ⌝ }
     ensures { λ r. ⌜ Read FormulaThen FormulaStops (now (text .entry)) at allowance r ⌝ }
@@ -59,7 +60,7 @@ pub fn formula(text: &[u8], at: usize, allowance: u32) -> Phrase
     Phrase::Ends(p)
 }
 
-// The longest term.
+// The term from `at` on that no * follows.
 pub fn term(text: &[u8], at: usize, allowance: u32) -> Phrase
     requires { ⌜ at ≤ length (now text) ⌝ }
     ensures { λ r. ⌜ Read TermThen TermStops (now (text .entry)) at allowance r ⌝ }
@@ -74,7 +75,7 @@ pub fn term(text: &[u8], at: usize, allowance: u32) -> Phrase
     Phrase::Ends(p)
 }
 
-// A digit, or a formula in brackets.
+// The factor from `at` on: a digit, or a formula in brackets.
 pub fn factor(text: &[u8], at: usize, allowance: u32) -> Phrase
     requires { ⌜ at ≤ length (now text) ⌝ }
     ensures { λ r. ⌜ Read FactorThen FactorStops (now (text .entry)) at allowance r ⌝ }

@@ -31,6 +31,7 @@ abbrev pub WithinValue : Value → Type 0
 WithinValue (worth g) = Within g
 WithinValue (fails x) = Unit {0}
 
+-- a step on two grids, where T's shape is within the limits
 pub outcome-within : (op : Operation) (a b : Grid) → InRange maxRows (stepGrid op a b .rows)
     → InRange maxCols (stepGrid op a b .cols)
     → WithinValue (outcome (stepAgrees op a b) (stepFits op a b) (stepGrid op a b))
@@ -41,11 +42,13 @@ outcome-within op a b r c = by (stepAgrees op a b) (stepFits op a b) refl
     by true false e = tt
     by true true e = record { row-range = r; col-range = c; few = leb-true _ _ e }
 
+-- a sum
 pub sum-within : (monoid : Monoid) (v w : Value) → WithinValue v → WithinValue w → WithinValue (step (sumOf monoid) v w)
 sum-within monoid (worth a) (worth b) h k = outcome-within (sumOf monoid) a b (h .row-range) (h .col-range)
 sum-within monoid (worth a) (fails x) h k = tt
 sum-within monoid (fails x) w h k = tt
 
+-- a product
 pub product-within : (monoid : Monoid) (op : BinaryOp) (v w : Value) → WithinValue v → WithinValue w
     → WithinValue (step (productOf monoid op) v w)
 product-within monoid op (worth a) (worth b) h k =
@@ -54,9 +57,9 @@ product-within monoid op (worth a) (fails x) h k = tt
 product-within monoid op (fails x) w h k = tt
 
 -- a formula
-pub value-within : (monoid : Monoid) (op : BinaryOp) (sheet : ℕ → Value) → ((n : ℕ) → WithinValue (sheet n))
-    → (f : Formula) → WithinValue (formulaValue monoid op sheet f)
-value-within monoid op sheet h f =
-    related {B = Value} (λ v w. WithinValue v) sheet (step (sumOf monoid)) (step (productOf monoid op)) sheet
+pub value-within : (monoid : Monoid) (op : BinaryOp) (slot : ℕ → Value) → ((n : ℕ) → WithinValue (slot n))
+    → (f : Formula) → WithinValue (formulaValue monoid op slot f)
+value-within monoid op slot h f =
+    related {B = Value} (λ v w. WithinValue v) slot (step (sumOf monoid)) (step (productOf monoid op)) slot
     (step (sumOf monoid)) (step (productOf monoid op)) h (λ a b a′ b′ r q. sum-within monoid a b r q)
     (λ a b a′ b′ r q. product-within monoid op a b r q) f

@@ -48,6 +48,7 @@ same-code (fails x) (worth h) s = absurd s
 same-code (fails x) (fails y) s = ap (λ (z : Failure). valueCode (fails z)) s
 
 module _ (op : Operation) (n : hasLists op ≡ false) (a a′ b b′ : Grid) (s : Same a a′) (u : Same b b′) where
+  -- a step sees the same shapes
   shapes-are : shapesOf op a b a [] [] ≡ shapesOf op a′ b′ a′ [] []
   shapes-are = shapes-of-same a a′ b b′ a a′ [] [] s s op (λ h. u)
 
@@ -63,6 +64,7 @@ module _ (op : Operation) (n : hasLists op ≡ false) (a a′ b b′ : Grid) (s 
     cell = cell-same a a′ b b′ a a′ [] [] s s op (λ h. u) g (rw n refl);
   }
 
+  -- its value
   pub outcome-same : SameValue (outcome (stepAgrees op a b) (stepFits op a b) (stepGrid op a b))
       (outcome (stepAgrees op a′ b′) (stepFits op a′ b′) (stepGrid op a′ b′))
   outcome-same = rw agrees-same (by (stepAgrees op a′ b′) refl)
@@ -94,10 +96,10 @@ step-same op n (fails x) w (worth a′) w′ s u = absurd s
 step-same op n (fails x) w (fails y) w′ s u = s
 
 -- a formula
-pub value-same : (monoid : Monoid) (op : BinaryOp) (sheet sheet′ : ℕ → Value)
-    → ((n : ℕ) → SameValue (sheet n) (sheet′ n)) → (f : Formula)
-    → SameValue (formulaValue monoid op sheet f) (formulaValue monoid op sheet′ f)
-value-same monoid op sheet sheet′ h f =
-    related SameValue sheet (step (sumOf monoid)) (step (productOf monoid op)) sheet′ (step (sumOf monoid))
+pub value-same : (monoid : Monoid) (op : BinaryOp) (slot slot′ : ℕ → Value)
+    → ((n : ℕ) → SameValue (slot n) (slot′ n)) → (f : Formula)
+    → SameValue (formulaValue monoid op slot f) (formulaValue monoid op slot′ f)
+value-same monoid op slot slot′ h f =
+    related SameValue slot (step (sumOf monoid)) (step (productOf monoid op)) slot′ (step (sumOf monoid))
     (step (productOf monoid op)) h (λ a b a′ b′ r q. step-same (sumOf monoid) refl a b a′ b′ r q)
     (λ a b a′ b′ r q. step-same (productOf monoid op) refl a b a′ b′ r q) f

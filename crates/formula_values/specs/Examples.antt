@@ -17,8 +17,8 @@ use Rattle.formula_texts.specs.Values.{value}
 use Rattle.formula_values.specs.Values.{Value, worth, fails, disagree, valueGrid, formulaValue}
 
 -- slot n holds n + 1; slot 7 is 1 by 2
-abbrev sheet : ℕ → Value
-sheet n = worth (record { rows = 1; cols = cond (eqb n 7) 2 1; cell = λ i j. Present (n + 1) })
+abbrev slot : ℕ → Value
+slot n = worth (record { rows = 1; cols = cond (eqb n 7) 2 1; cell = λ i j. Present (n + 1) })
 
 abbrev cellOf : Value → Cell
 cellOf v = valueGrid v .cell 0 0
@@ -27,29 +27,29 @@ abbrev d : ℕ → Formula
 d n = one-term (one-factor (digit n))
 
 -- "0+1*2" is 1 + 2*3, and not (1 + 2)*3
-product-first : cellOf (formulaValue monoid.Plus Times sheet
+product-first : cellOf (formulaValue monoid.Plus Times slot
     (plus (one-factor (digit 0)) (one-term (times (digit 1) (one-factor (digit 2)))))) ≡ Present 7
 unfolding value dot binaryWord signed word flatten gather one _and_
 product-first = refl
 
 -- "(0+1)*2" is (1 + 2)*3
-brackets-first : cellOf (formulaValue monoid.Plus Times sheet
+brackets-first : cellOf (formulaValue monoid.Plus Times slot
     (one-term (times (bracketed (plus (one-factor (digit 0)) (d 1))) (one-factor (digit 2))))) ≡ Present 9
 unfolding value dot binaryWord signed word flatten gather one _and_
 brackets-first = refl
 
 -- "3*1*0" with MINUS is (4 - 2) - 1, and not 4 - (2 - 1)
-left-to-right : cellOf (formulaValue monoid.Plus Minus sheet
+left-to-right : cellOf (formulaValue monoid.Plus Minus slot
     (one-term (times (digit 3) (times (digit 1) (one-factor (digit 0)))))) ≡ Present 1
 unfolding value dot binaryWord signed word flatten gather one _and_
 left-to-right = refl
 
 -- "0+7": the shapes differ; "7*0": two columns on the left, one row on the right
-shapes-differ : formulaValue monoid.Plus Times sheet (plus (one-factor (digit 0)) (d 7)) ≡ fails disagree
+shapes-differ : formulaValue monoid.Plus Times slot (plus (one-factor (digit 0)) (d 7)) ≡ fails disagree
 unfolding value _and_
 shapes-differ = refl
 
-inner-differs : formulaValue monoid.Plus Times sheet (one-term (times (digit 7) (one-factor (digit 0))))
+inner-differs : formulaValue monoid.Plus Times slot (one-term (times (digit 7) (one-factor (digit 0))))
     ≡ fails disagree
 unfolding value _and_
 inner-differs = refl

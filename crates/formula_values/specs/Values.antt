@@ -51,6 +51,7 @@ stepAgrees op a b = inputsAgree (shapesOf op a b a [] []) (needsOf op (shapesOf 
 abbrev pub stepFits : Operation → Grid → Grid → Bool
 stepFits op a b = leb (entryCount (stepGrid op a b)) maxEntries
 
+-- 8 comes before 10
 abbrev pub outcome : (agrees fits : Bool) → Grid → Value
 outcome false fits g = fails disagree
 outcome true false g = fails overfull
@@ -72,4 +73,4 @@ productOf monoid op = Mxm monoid op
 
 -- the value of a formula, of what its digits are worth
 abbrev pub formulaValue : Monoid → BinaryOp → (ℕ → Value) → Formula → Value
-formulaValue monoid op sheet f = value sheet (step (sumOf monoid)) (step (productOf monoid op)) f
+formulaValue monoid op slot f = value slot (step (sumOf monoid)) (step (productOf monoid op)) f

@@ -200,8 +200,8 @@ pub data HostStep : List ℕ → StoreCall → ℕ → List ℕ → Type 0 where
       (k, (monoid, (op, (lent x text, (lent p s′, (lent q w′, tt))))))
       → HostStep s (formulaInto k monoid op text (length w)) answer s′
 
--- what that is: a call that may write; an operation or a formula, which also leaves its workspace zeros; a read and a reduction to a
--- number, which leave the words
+-- what that is: a call that may write; an operation or a formula, which also leaves its workspace zeros; a read and a
+-- reduction to a number, which leave the words
 pub data Tells : List ℕ → StoreCall → ℕ → List ℕ → Type 0 where
   wrote : {s s′ : List ℕ} {c : StoreCall} {r : ℕ} → StorePerformed s c r s′ → Tells s c r s′
   operated : {s s′ : List ℕ} {c : StoreCall} {r : ℕ} (w w′ : List ℕ) → StorePerformed s c r s′

@@ -38,16 +38,19 @@ use Rattle.model.proofs.Alike.{AlikeSlots, Alike, alike-at, alike-vacan
 use Rattle.model.proofs.Fitting.{WithinSlot, Fitting, put-fits}
 
 -- ---- values
+-- alike slots are worth the same
 slot-same : (x y : Slot) → AlikeSlots x y → SameValue (slotValue x) (slotValue y)
 slot-same vacant vacant a = refl
 slot-same vacant (holding u h) a = absurd a
 slot-same (holding v g) vacant a = absurd a
 slot-same (holding v g) (holding u h) a = a .1
 
+-- a slot within the limits is worth a grid within them
 slot-within : (x : Slot) → WithinSlot x → WithinValue (slotValue x)
 slot-within vacant w = tt
 slot-within (holding v g) w = w
 
+-- values that agree have grids that agree
 grids-same : (v w : Value) → SameValue v w → Same (valueGrid v) (valueGrid w)
 grids-same (worth g) (worth h) s = s
 grids-same (worth g) (fails y) s = absurd s
@@ -62,6 +65,7 @@ grid-within (fails disagree) w e f = absurd (false≢true (sym e))
 grid-within (fails overfull) w e f = absurd (false≢true (sym f))
 
 module _ (monoid : Monoid) (op : BinaryOp) where
+  -- a text on alike models
   read-same : (m m′ : Model) → Alike m m′ → (o : Outcome)
       → SameValue (readValue monoid op (λ n. slotValue (slotOf m n)) o)
       (readValue monoid op (λ n. slotValue (slotOf m′ n)) o)
@@ -70,13 +74,14 @@ module _ (monoid : Monoid) (op : BinaryOp) where
       (λ n. slot-same (slotOf m n) (slotOf m′ n) (alike-at m m′ n a)) f
   read-same m m′ a unreadable = refl
 
+  -- a text on a model within the limits
   read-within : (m : Model) → ((k : ℕ) → WithinSlot (slotOf m k)) → (o : Outcome)
       → WithinValue (readValue monoid op (λ n. slotValue (slotOf m n)) o)
   read-within m h (read-as f) =
       value-within monoid op (λ n. slotValue (slotOf m n)) (λ n. slot-within (slotOf m n) (h n)) f
   read-within m h unreadable = tt
 
--- ---- 13
+-- ---- 13: alike models have the same slots empty
 vacant-same : (m m′ : Model) → Alike m m′ → (text : List ℕ) → namesVacant m text ≡ namesVacant m′ text
 unfolding namesVacant
 vacant-same m m′ a [] = refl
@@ -86,6 +91,7 @@ vacant-same m m′ a (c ∷ x) =
     ∙ ap (λ (b : Bool). cond (vacantByte m′ c) true b) (vacant-same m m′ a x)
 
 -- ---- the call
+-- its cases, by what depends on the model
 abbrev casesBy : FormulaCall → Bool → List Case → Case → List Case
 casesBy x empty steps room =
     noSlot (x .target)
@@ -96,14 +102,17 @@ casesBy x empty steps room =
     ∷ (steps ++ (room ∷ []))
 
 module _ (n : ℕ) (m m′ : Model) (a : Alike m m′) (x : FormulaCall) where
+  -- the values agree
   worth-same : SameValue (formulaOn m x) (formulaOn m′ x)
   worth-same =
       read-same (monoidOf (monoidNumbered (x .monoid))) (binaryOf (binaryNumbered (x .op))) m m′ a (reading (x .text))
 
+  -- so do the results; for `Effects`
   pub formula-grid-same : firstApplying (formulaCases n m x) ≡ 0
       → Same (valueGrid (formulaOn m x)) (valueGrid (formulaOn m′ x))
   formula-grid-same z = grids-same (formulaOn m x) (formulaOn m′ x) worth-same
 
+  -- and the refusal is one
   pub formula-same : firstApplying (formulaCases n m x) ≡ firstApplying (formulaCases n m′ x)
   formula-same =
       let v = formulaOn m x in
@@ -116,6 +125,7 @@ module _ (n : ℕ) (m m′ : Model) (a : Alike m m′) (x : FormulaCall) where
       ∙ ap (λ (c : Case). firstApplying (casesBy x (namesVacant m′ (x .text)) (stepCases v′) c))
       (room-same n m m′ a (x .target) (valueGrid v) (valueGrid v′) (grids-same v v′ worth-same))
 
+-- each of its refusals has the number of a code
 pub formula-coded : (n : ℕ) (m : Model) (x : FormulaCall) → Coded (formulaCases n m x)
 formula-coded n m x = (
   omega arith,
@@ -128,6 +138,7 @@ formula-coded n m x = (
   ),
 )
 
+-- after an accepted formula the model fits its words again
 pub formula-fits : (n : ℕ) (m : Model) (x : FormulaCall) → Fitting n m → firstApplying (formulaCases n m x) ≡ 0
     → Fitting n (put m (x .target) (holding 0 (valueGrid (formulaOn m x))))
 formula-fits n m x h z =

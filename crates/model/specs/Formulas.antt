@@ -17,9 +17,10 @@ slotValue (holding v g) = worth g
 
 -- the value of a text's one reading. Of a text that has none it is never used: 14 comes before.
 abbrev pub readValue : Monoid → BinaryOp → (ℕ → Value) → Outcome → Value
-readValue monoid op sheet (read-as f) = formulaValue monoid op sheet f
-readValue monoid op sheet unreadable = fails disagree
+readValue monoid op slot (read-as f) = formulaValue monoid op slot f
+readValue monoid op slot unreadable = fails disagree
 
+-- of a text over the slots
 abbrev pub textValue : Monoid → BinaryOp → Model → List ℕ → Value
 textValue monoid op m text = readValue monoid op (λ n. slotValue (slotOf m n)) (reading text)
 

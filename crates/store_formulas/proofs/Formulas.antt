@@ -52,7 +52,7 @@ use Rattle.formula_values.specs.Values.{
 }
 use Rattle.formula_evaluation.specs.declared.Evaluated.{Evaluated}
 use Rattle.formula_evaluation.specs.declared.Evaluated.the-variants.{Ends, Missing, Refused}
-use Rattle.formula_evaluation.specs.Evaluating.{sheetOf, formulaWorth, Standing, Lent, Evaluates}
+use Rattle.formula_evaluation.specs.Evaluating.{slotWorth, formulaWorth, Standing, Lent, Evaluates}
 use Rattle.model.specs.Model.{Model, slotOf, holding, put, neededWith}
 use Rattle.model.specs.Effects.{wrote}
 use Rattle.model.specs.Formulas.{slotValue, readValue, namesVacant}
@@ -61,13 +61,13 @@ use Rattle.store_encoding.specs.Writing.{modelWriting}
 use Rattle.store_encoding.specs.Stores.{modelOf, Performed}
 use Rattle.store_encoding.proofs.Held.{slot-written, needed-model}
 use Rattle.store_encoding.proofs.Performed.{performed-no-store, performed-refused, performed-done}
-use Rattle.store_formulas.specs.Attempts.{earlyCases, Legible, valueOn, Valued, Committed}
-use Rattle.store_formulas.proofs.Bytes.{sheet-is, names-held, all-named}
+use Rattle.store_formulas.specs.Attempts.{earlyCases, Evaluable, valueOn, Valued, Committed}
+use Rattle.store_formulas.proofs.Bytes.{slot-worth-is, names-held, all-named}
 
 -- ---- the value of the text
 -- what is lent to work it out
-pub legible-lent : {s : List ℕ} {monoid op : ℕ} {text w : List ℕ} → Legible s monoid op text w → Lent 4 text 0 3 s w
-legible-lent {s} {monoid} {op} {text} {w} h = record {
+pub evaluable-lent : {s : List ℕ} {monoid op : ℕ} {text w : List ℕ} → Evaluable s monoid op text w → Lent 4 text 0 3 s w
+evaluable-lent {s} {monoid} {op} {text} {w} h = record {
   place = omega arith;
   room = omega (arith, h .space);
   store = h .store;
@@ -88,11 +88,11 @@ worth-model : (add : Monoid) (mul : BinaryOp) (s : List ℕ) (f : Formula)
 worth-model add mul s f =
     related (λ (a b : Value). a ≡ b) (λ n. slotValue (slotOf (modelOf s) n)) (step (sumOf add))
     (step (productOf add mul))
-    (sheetOf s) (step (sumOf add)) (step (productOf add mul)) (sheet-is s)
+    (slotWorth s) (step (sumOf add)) (step (productOf add mul)) (slot-worth-is s)
     (λ a b a′ b′ p q. ap (λ (x : Value). step (sumOf add) x b) p ∙ ap (step (sumOf add) a′) q)
     (λ a b a′ b′ p q. ap (λ (x : Value). step (productOf add mul) x b) p ∙ ap (step (productOf add mul) a′) q) f
 
-module _ {s : List ℕ} {monoid op : ℕ} {text w : List ℕ} (h : Legible s monoid op text w) where
+module _ {s : List ℕ} {monoid op : ℕ} {text w : List ℕ} (h : Evaluable s monoid op text w) where
   -- the numbers are known
   pub monoid-known : monoidNumbered monoid ≡ monoid-code.Unknown → ⊥
   monoid-known e = false≢true (sym (ap monoidKnown e) ∙ and-left _ _ (h .known))
@@ -102,6 +102,7 @@ module _ {s : List ℕ} {monoid op : ℕ} {text w : List ℕ} (h : Legible s mon
 
   module _ {add : Monoid} {mul : BinaryOp} (p : monoidNumbered monoid ≡ monoid-code.Known add)
       (q : binaryNumbered op ≡ binary-code.Known mul) where
+    -- the value of the text is that of its tree
     value-is : (f : Formula) → reading text ≡ read-as f → valueOn s monoid op text ≡ formulaWorth add mul s f
     value-is f e =
         ap (readValue (monoidOf (monoidNumbered monoid)) (binaryOf (binaryNumbered op))
@@ -111,6 +112,7 @@ module _ {s : List ℕ} {monoid op : ℕ} {text w : List ℕ} (h : Legible s mon
         ∙ ap (λ (x : BinaryCode). formulaValue add (binaryOf x) (λ n. slotValue (slotOf (modelOf s) n)) f) q
         ∙ worth-model add mul s f
 
+    -- what `formula_evaluation::formula` leaves is that value
     pub evaluated : (w′ : List ℕ) (o : Evaluated)
         → Evaluates Within FormulaStops before (formulaWorth add mul s) text 0 3 w′ o
         → Valued (valueOn s monoid op text) w′ o
@@ -137,6 +139,7 @@ module _ {s : List ℕ} {monoid op : ℕ} {text w : List ℕ} (h : Legible s mon
             let x = e .result (r .0) [] (R .within) ((tt, tt), tt) bytes in (x .0 ∙ ap valueCode (sym v), x .1)
 
 -- ---- the early refusals
+-- of five tests the first that is true
 abbrev last-two : (d e : Bool) → ℕ
 last-two d e = cond d 13 (cond e 9 0)
 
@@ -164,6 +167,7 @@ fifth d e p q = rw (p, q) refl
 none-of-two : (d e : Bool) → d ≡ false → e ≡ false → 0 ≡ last-two d e
 none-of-two d e p q = rw (p, q) refl
 
+-- the answers of `early_refusal`, in the order of the code
 module _ (m : Model) (x : FormulaCall) where
   abbrev past : Bool
   past = leb slotCount (x .target)
@@ -180,6 +184,7 @@ module _ (m : Model) (x : FormulaCall) where
   abbrev short : Bool
   short = ltb (x .stack) minStackWords
 
+  -- 12
   pub early-slot : slotCount ≤ x .target → 12 ≡ firstApplying (earlyCases m x)
   early-slot l = first-of-five past unknown other empty short (le-leb slotCount (x .target) l)
 
@@ -187,11 +192,13 @@ module _ (m : Model) (x : FormulaCall) where
     here : past ≡ false
     here = lt-leb slotCount (x .target) l
 
+    -- 2
     pub early-numbers : (monoidKnown (monoidNumbered (x .monoid)) and binaryKnown (binaryNumbered (x .op))) ≡ false
         → 2 ≡ firstApplying (earlyCases m x)
     early-numbers e = second-of-five past unknown other empty short here (ap not e)
 
     module _ (k : (monoidKnown (monoidNumbered (x .monoid)) and binaryKnown (binaryNumbered (x .op))) ≡ true) where
+      -- 14
       pub early-text : reader.accepted (x .text) ≡ false → 14 ≡ firstApplying (earlyCases m x)
       early-text e = third-of-five past unknown other empty short here (ap not k) (ap not e)
 
@@ -199,12 +206,15 @@ module _ (m : Model) (x : FormulaCall) where
         later-two : last-two empty short ≡ firstApplying (earlyCases m x)
         later-two = rest-of-five past unknown other empty short here (ap not k) (ap not a)
 
+        -- 13
         pub early-empty : namesVacant m (x .text) ≡ true → 13 ≡ firstApplying (earlyCases m x)
         early-empty e = fourth empty short e ∙ later-two
 
+        -- 9
         pub early-stack : namesVacant m (x .text) ≡ false → x .stack < minStackWords → 9 ≡ firstApplying (earlyCases m x)
         early-stack e i = fifth empty short e (lt-ltb (x .stack) minStackWords i) ∙ later-two
 
+        -- 0
         pub early-none : namesVacant m (x .text) ≡ false → minStackWords ≤ x .stack → 0 ≡ firstApplying (earlyCases m x)
         early-none e i = none-of-two empty short e (le-ltb (x .stack) minStackWords i) ∙ later-two
 
@@ -216,6 +226,7 @@ step-code (worth g) room k e n = absurd (n e)
 step-code (fails disagree) room k e n = e
 step-code (fails overfull) room k e n = e
 
+-- no step fails: the room tells
 no-step : (v : Value) (g : Grid) (room : Case) → v ≡ worth g
     → firstApplying (stepCases v ++ (room ∷ [])) ≡ firstApplying (room ∷ [])
 no-step v g room e = rw e refl
@@ -238,6 +249,7 @@ module _ (s : List ℕ) (x : FormulaCall) where
       → Performed s (formula x) (wrote answer) s′
   formula-by answer a s′ e r = record { answer-is = ap wrote e ∙ r .answer-is; words-are = r .words-are }
 
+  -- 12 of the words
   pub formula-no-store : storeValid s ≡ false → Performed s (formula x) (wrote (refused 12)) s
   unfolding effect
   formula-no-store h = performed-no-store s (effect (formula x)) h
@@ -251,6 +263,7 @@ module _ (s : List ℕ) (x : FormulaCall) where
         performed-refused s (effect (formula x)) h code (applying-first (earlyCases m x) late code e n) n
 
     module _ (z : firstApplying (earlyCases m x) ≡ 0) where
+      -- the others tell
       rest-is : firstApplying (formulaCases (length s) m x) ≡ firstApplying late
       rest-is = applying-rest (earlyCases m x) late (refl, (refl, (refl, (refl, (refl, tt))))) z
 
@@ -279,8 +292,9 @@ module _ (s : List ℕ) (x : FormulaCall) where
             space = ltb-false _ _ (h₅ .here);
           }
 
-      pub legible : (w : List ℕ) → length w ≡ x .stack → Legible s (x .monoid) (x .op) (x .text) w
-      legible w e =
+      -- what `evaluate` asks for
+      pub evaluable : (w : List ℕ) → length w ≡ x .stack → Evaluable s (x .monoid) (x .op) (x .text) w
+      evaluable w e =
           let o = none in
           record {
             store = store-facts s h;
@@ -300,13 +314,16 @@ module _ (s : List ℕ) (x : FormulaCall) where
 
       -- the result is committed
       module _ (g : Grid) (e : v ≡ worth g) (w : List ℕ) (t : Standing g w) where
+        -- the grid that is put
         grid-is : valueGrid v ≡ g
         grid-is = ap valueGrid e
 
+        -- the words that it needs
         needed : neededWith m k g ≡ wordsWith s k (gridSize g)
         needed =
             needed-model s k (holding 0 g) (store-facts s h) (none .slot) ∙ ap (wordsWith s k) (encode-length 0 g)
 
+        -- 11, or 0
         room-is : firstApplying (formulaCases (length s) m x)
             ≡ cond (ltb (length s) (wordsWith s k (gridSize g))) insufficientSpace 0
         room-is =
@@ -314,6 +331,7 @@ module _ (s : List ℕ) (x : FormulaCall) where
             ∙ ap (λ (y : Grid). cond (ltb (length s) (neededWith m k y)) insufficientSpace 0) grid-is
             ∙ ap (λ (y : ℕ). cond (ltb (length s) y) insufficientSpace 0) needed
 
+        -- what `commit` leaves is the call's effect
         pub formula-done : (answer : Answer) (s′ : List ℕ) → Committed s k w answer s′
             → Performed s (formula x) (wrote answer) s′
         unfolding effect

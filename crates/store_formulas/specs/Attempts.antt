@@ -36,6 +36,7 @@ use Rattle.model.specs.Formulas.{textValue, namesVacant}
 use Rattle.model.specs.Calls.{FormulaCall, noSlot, noSemiring}
 use Rattle.store_encoding.specs.Stores.{modelOf}
 
+-- a call by what its function is given
 abbrev pub asked : (target monoid op : ℕ) → List ℕ → ℕ → FormulaCall
 asked k monoid op text stack = record { target = k; monoid = monoid; op = op; text = text; stack = stack }
 
@@ -55,7 +56,7 @@ valueOn s monoid op text =
     textValue (monoidOf (monoidNumbered monoid)) (binaryOf (binaryNumbered op)) (modelOf s) text
 
 -- none of the early refusals applies
-pub record Legible (s : List ℕ) (monoid op : ℕ) (text w : List ℕ) : Type 0 where
+pub record Evaluable (s : List ℕ) (monoid op : ℕ) (text w : List ℕ) : Type 0 where
   pub store : Store s
   pub known : (monoidKnown (monoidNumbered monoid) and binaryKnown (binaryNumbered op)) ≡ true
   pub language : inLanguage text ≡ true
@@ -73,13 +74,14 @@ pub record ToCommit (s : List ℕ) (k end : ℕ) (w : List ℕ) : Type 0 where
   pub store : Store s
   pub slot : k < slotCount
   pub ends : end ≡ endFrom slotCount s
-  pub ground : (g : Grid) × Standing g w
+  pub some-grid : (g : Grid) × Standing g w
 
 -- that grid put into slot k, if there is room
 abbrev pub commitAnswer : List ℕ → ℕ → Grid → Answer
 commitAnswer s k g =
     cond (leb (wordsWith s k (gridSize g)) (length s)) (accepted (entryCount g)) (refused insufficientSpace)
 
+-- the answer and the words that `commit` leaves, of whatever grid stands at the front
 pub record Committed (s : List ℕ) (k : ℕ) (w : List ℕ) (answer : Answer) (s′ : List ℕ) : Type 0 where
   pub answer-is : (g : Grid) → Standing g w → answer ≡ commitAnswer s k g
   pub words-are : (g : Grid) → Standing g w → s′ ≡ unlessRefused answer s (slotPut s k (encode g))

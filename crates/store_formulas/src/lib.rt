@@ -30,7 +30,7 @@ ghost use Rattle.model.specs.Effects.{wrote};
 ghost use Rattle.model.specs.Formulas.{vacantByte, namesVacant};
 ghost use Rattle.model.specs.Calls.{formulaInto};
 ghost use Rattle.store_encoding.specs.Stores.{modelOf, Performed};
-ghost use Rattle.store_formulas.specs.Attempts.{asked, earlyCases, Legible, valueOn, Valued, ToCommit, Committed};
+ghost use Rattle.store_formulas.specs.Attempts.{asked, earlyCases, Evaluable, valueOn, Valued, ToCommit, Committed};
 
 // The formula's result takes the place of the target's matrix, if any: 0 and its number of entries. Refused by 12, 2,
 // 14, 13 of a slot that the text names, 9, the first failing step's 8 or 10, and 11.
@@ -157,7 +157,7 @@ fn byte_held(x: u8, store: &[u32]) -> bool
 
 // The value of the text, at the front of the stack, with the semiring's numbers decoded.
 fn evaluate(store: &[u32], monoid: u32, op: u32, text: &[u8], stack: &mut [u32]) -> Evaluated
-    requires { ⌜ Legible (now store) monoid op (now text) (now stack) ⌝ }
+    requires { ⌜ Evaluable (now store) monoid op (now text) (now stack) ⌝ }
     ensures { λ r. ⌜ Valued (valueOn (now (store .entry)) monoid op (now (text .entry))) (now (stack .exit)) r ⌝ }
 {
     let adding = operator_codes::monoid_code(monoid);
@@ -188,6 +188,7 @@ fn commit(store: &mut [u32], target: usize, end: usize, stack: &[u32]) -> Answer
     }
 }
 
+// A refusal by its code.
 fn refused(code: u32) -> Answer
     ensures { λ r. ⌜ r ≡ answers.refused code ⌝ }
 {

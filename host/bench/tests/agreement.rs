@@ -6,7 +6,7 @@ use second::calls::{LentCall, LentOperation, Operation, StoreCall, StoreOperatio
 use second::days::{day_call, DayCall, Verb};
 use second::doors::{doors, Doors};
 use second::files;
-use second::formulas::{formula, Formula};
+use second::formulas::{single, Formula, Single};
 use second::generate_lent::lent_call;
 use second::generate_store::store_list;
 use second::rng::Rng;
@@ -132,9 +132,9 @@ macro_rules! program {
                 (answer, vec![out, work])
             }
 
-            pub fn formula(call: &Formula) -> Outcome {
-                let Formula { target, monoid, op, text, .. } = call;
-                let (mut store, mut stack) = (call.store.clone(), call.stack.words());
+            pub fn formula(call: &Single) -> Outcome {
+                let Formula { target, monoid, op, text, stack } = &call.formula;
+                let (mut store, mut stack) = (call.store.clone(), stack.words());
                 let answer = $calls::store_formula(*target, *monoid, *op, text, &mut store, &mut stack);
                 (answer, vec![store, stack])
             }
@@ -220,7 +220,7 @@ fn doors_agree() {
 
 #[test]
 fn formulas_agree() {
-    agree("a formula", formula, [by_library::formula, by_ordinary::formula], is_accepted);
+    agree("a formula", single, [by_library::formula, by_ordinary::formula], is_accepted);
 }
 
 #[test]

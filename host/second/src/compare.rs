@@ -8,7 +8,7 @@ use crate::store_grids::StoreState;
 
 /// What differs, in sentences; nothing if the outcomes are equal. `answers` tells how the answer is
 /// to be shown.
-fn differences(expected: &Outcome, seen: &Outcome, answers: Answers) -> Vec<String> {
+pub(crate) fn differences(expected: &Outcome, seen: &Outcome, answers: Answers) -> Vec<String> {
     let mut lines = Vec::new();
     if expected.answer != seen.answer {
         lines.push(format!("the model answers   {}", answer_text(expected.answer, answers)));

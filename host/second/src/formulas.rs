@@ -1,14 +1,19 @@
 //! Document 02, A8: formulas over a store, by its sentences. A text is read from its last joining byte, so that what stands
-//! left of it is worked out first. The answer and every word of the store and of the stack are held against the library's.
+//! left of it is worked out first. The answer and every word of the store and of the stack are held against the library's,
+//! of single calls and of lists of calls on a store that have formulas among the others.
 
-use crate::calls::{counted, Work};
+use crate::calls::{answers_of, code_of, counted, StoreCall, StoreList, Work};
+use crate::compare::differences;
 use crate::fault::Fault;
 use crate::generate::{any_monoid, grid};
 use crate::generate_store::store_list;
 use crate::grid::{Grid, MAX_ENTRIES};
+use crate::library;
+use crate::model::SOUND;
 use crate::operators::{binary, is_binary, is_monoid};
 use crate::rng::Rng;
-use crate::store_grids::{StoreGrids, SLOTS};
+use crate::store_grids::{StoreGrids, StoreState, SLOTS};
+use std::collections::BTreeMap;
 
 /// "At most 64 bytes, no blanks, at most three brackets open at once."
 const MAX_BYTES: usize = 64;
@@ -151,10 +156,9 @@ impl Tree {
     }
 }
 
-/// One call.
+/// One call, on whatever store it is given.
 #[derive(Clone, Debug)]
 pub struct Formula {
-    pub store: Vec<u32>,
     pub target: usize,
     pub monoid: u32,
     pub op: u32,
@@ -172,8 +176,8 @@ pub struct After {
 
 impl Formula {
     /// 12, 2, 14, 13, 9, the first failing step's 8 or 10, 11; or the grids after the call and N.
-    fn outcome(&self, slip: Slip) -> Result<(StoreGrids, usize), u32> {
-        let grids = StoreGrids::read(&self.store, Fault::None).filter(|_| self.target < SLOTS).ok_or(12u32)?;
+    fn outcome(&self, grids: Option<&StoreGrids>, slip: Slip) -> Result<(StoreGrids, usize), u32> {
+        let grids = grids.filter(|_| self.target < SLOTS).ok_or(12u32)?;
         let known = is_monoid(self.monoid, Fault::None) && is_binary(self.op);
         let numbers = if known { Ok(()) } else { Err(2u32) };
         if slip != Slip::TextBeforeNumbers {
@@ -201,7 +205,7 @@ impl Formula {
         if slip != Slip::ShapesBeforeStack {
             stack?;
         }
-        let mut result = tree.worth(&grids, self.monoid, self.op, slip)?;
+        let mut result = tree.worth(grids, self.monoid, self.op, slip)?;
         // A12: "Sheets made by recipes .. start at 0".
         if slip != Slip::RevisionKept {
             result.revision = 0;
@@ -218,28 +222,31 @@ impl Formula {
         Ok((after, entries))
     }
 
-    /// The answer and the buffers by the rule.
-    pub fn expected(&self, slip: Slip) -> After {
-        let outcome = self.outcome(slip);
+    /// Carries out the call on the grids by the rule: the answer and the buffers.
+    fn expected(&self, state: &mut StoreState, slip: Slip) -> After {
+        let outcome = self.outcome(state.grids.as_ref(), slip);
         let kept = slip == Slip::StackKeptOnText && outcome == Err(14);
         let stack = if kept { self.stack.words() } else { vec![0; self.stack.length] };
-        match outcome {
-            Err(code) => After { answer: counted(code, 0), store: self.store.clone(), stack },
-            Ok((grids, entries)) => After { answer: counted(0, entries), store: grids.words(), stack },
-        }
+        let answer = match outcome {
+            Err(code) => counted(code, 0),
+            Ok((grids, entries)) => {
+                *state = StoreState { words: grids.words(), grids: Some(grids) };
+                counted(0, entries)
+            }
+        };
+        After { answer, store: state.words.clone(), stack }
     }
 
     /// The answer and the buffers by the library.
-    pub fn seen(&self) -> After {
-        let (mut store, mut stack) = (self.store.clone(), self.stack.words());
+    fn seen(&self, store: &[u32]) -> After {
+        let (mut store, mut stack) = (store.to_vec(), self.stack.words());
         let Formula { target, monoid, op, text, .. } = self;
         let answer = ostrubel::calls::store_formula(*target, *monoid, *op, text, &mut store, &mut stack);
         After { answer, store, stack }
     }
 
-    /// What goes wrong is the error.
-    pub fn judge(&self) -> Result<u64, String> {
-        let (expected, seen) = (self.expected(Slip::None), self.seen());
+    /// What differs is the error; else the answer.
+    fn judge(&self, expected: &After, seen: &After) -> Result<u64, String> {
         if expected == seen {
             return Ok(seen.answer);
         }
@@ -249,6 +256,70 @@ impl Formula {
             "\"{text}\" into {}, {}.{}: expected {}, seen {}; the store as expected: {words}, the stack: {cleared}",
             self.target, self.monoid, self.op, expected.answer, seen.answer
         ))
+    }
+}
+
+/// A call on a store, alone.
+#[derive(Clone, Debug)]
+pub struct Single {
+    pub store: Vec<u32>,
+    pub formula: Formula,
+}
+
+impl Single {
+    /// What goes wrong is the error.
+    pub fn judge(&self, slip: Slip) -> Result<u64, String> {
+        let mut state = StoreState::new(&self.store, Fault::None);
+        self.formula.judge(&self.formula.expected(&mut state, slip), &self.formula.seen(&self.store))
+    }
+}
+
+/// A call of a list.
+#[derive(Clone, Debug)]
+enum Step {
+    Formula(Formula),
+    Other(StoreCall),
+}
+
+/// A store as it is before the first call, and calls on it, formulas among them.
+#[derive(Clone, Debug)]
+pub struct List {
+    store: Vec<u32>,
+    steps: Vec<Step>,
+}
+
+/// How many calls of a list were no formulas, and how often a formula was answered by each code.
+#[derive(Default)]
+pub struct Counts {
+    pub others: u64,
+    pub codes: BTreeMap<u32, u64>,
+}
+
+impl List {
+    /// Each call gets the words as the one before left them, and the grids are given the same calls. What goes wrong is
+    /// the error.
+    pub fn judge(&self, counts: &mut Counts, slip: Slip) -> Result<(), String> {
+        let mut words = self.store.clone();
+        let mut state = StoreState::new(&self.store, Fault::None);
+        for (number, step) in self.steps.iter().enumerate() {
+            match step {
+                Step::Formula(formula) => {
+                    let (expected, seen) = (formula.expected(&mut state, slip), formula.seen(&words));
+                    let answer = formula.judge(&expected, &seen).map_err(|text| format!("call {number}, {text}"))?;
+                    *counts.codes.entry(code_of(answer)).or_default() += 1;
+                    words = seen.store;
+                }
+                Step::Other(call) => {
+                    let (expected, seen) = (SOUND.store(&mut state, call), library::store(&mut words, call));
+                    let lines = differences(&expected, &seen, answers_of(call.name()));
+                    if !lines.is_empty() {
+                        return Err(format!("call {number}, {}: {}", call.name(), lines.join("; ")));
+                    }
+                    counts.others += 1;
+                }
+            }
+        }
+        Ok(())
     }
 }
 
@@ -298,13 +369,44 @@ fn odd_text(rng: &mut Rng, slots: &[usize]) -> Vec<u8> {
     }
 }
 
-/// A call on the store of a random list, its slots mostly of one square shape; one in three is spoilt.
-pub fn formula(rng: &mut Rng) -> Formula {
-    let mut store = store_list(rng).store;
-    if !rng.once_in(4) {
-        store = matching_store(rng);
+/// A call on the store of a random list, its slots mostly of one square shape.
+pub fn single(rng: &mut Rng) -> Single {
+    let StoreList { store, .. } = first_list(rng);
+    let formula = formula(rng, StoreGrids::read(&store, Fault::None).as_ref());
+    Single { store, formula }
+}
+
+/// A list of calls with formulas before some of them and behind the last.
+pub fn list(rng: &mut Rng) -> List {
+    let StoreList { store, calls } = first_list(rng);
+    let mut state = StoreState::new(&store, Fault::None);
+    let mut steps = Vec::new();
+    for call in calls.into_iter().map(Some).chain([None]) {
+        if call.is_none() || rng.once_in(3) {
+            let formula = formula(rng, state.grids.as_ref());
+            formula.expected(&mut state, Slip::None);
+            steps.push(Step::Formula(formula));
+        }
+        if let Some(call) = call {
+            SOUND.store(&mut state, &call);
+            steps.push(Step::Other(call));
+        }
     }
-    let held: Vec<usize> = match StoreGrids::read(&store, Fault::None) {
+    List { store, steps }
+}
+
+/// A list of calls without formulas; its store mostly one whose sheets agree.
+fn first_list(rng: &mut Rng) -> StoreList {
+    let mut list = store_list(rng);
+    if !rng.once_in(4) {
+        list.store = matching_store(rng);
+    }
+    list
+}
+
+/// A formula for these grids; one in three is spoilt.
+fn formula(rng: &mut Rng, grids: Option<&StoreGrids>) -> Formula {
+    let held: Vec<usize> = match grids {
         Some(grids) => (0..SLOTS).filter(|&slot| grids.slots[slot].is_some()).collect(),
         None => Vec::new(),
     };
@@ -312,8 +414,7 @@ pub fn formula(rng: &mut Rng) -> Formula {
     let bytes = rng.pick(&[1, 3, 5, 7, 9, 15, 31, 63]);
     let text = if rng.once_in(12) { odd_text(rng, &slots) } else { text(rng, &slots, bytes, MAX_BRACKETS) };
     let stack = Work { length: STACK_WORDS + rng.pick(&[0, 0, 0, 1, 77]), seed: rng.next() };
-    let mut call =
-        Formula { store, target: rng.below(SLOTS), monoid: any_monoid(rng), op: rng.below(8) as u32, text, stack };
+    let mut call = Formula { target: rng.below(SLOTS), monoid: any_monoid(rng), op: rng.below(8) as u32, text, stack };
     while rng.once_in(4) {
         match rng.below(7) {
             0 => call.target = rng.pick(&[8, 9, 1 << 32, usize::MAX]),
@@ -399,8 +500,16 @@ mod tests {
     #[test]
     fn each_slip_is_noticed() {
         for slip in SLIPS {
-            let mut calls = (0..100_000).map(|number| formula(&mut Rng::of_case(1, 5, number)));
-            assert!(calls.any(|call| call.expected(slip) != call.seen()), "{slip:?}");
+            let mut calls = (0..100_000).map(|number| single(&mut Rng::of_case(1, 5, number)));
+            assert!(calls.any(|call| call.judge(slip).is_err()), "{slip:?}");
+        }
+    }
+
+    #[test]
+    fn slips_are_noticed_in_lists() {
+        for slip in [Slip::RightToLeft, Slip::TargetEmptyRefused, Slip::RoomBesideTarget, Slip::RevisionKept] {
+            let mut lists = (0..2_000).map(|number| list(&mut Rng::of_case(1, 6, number)));
+            assert!(lists.any(|list| list.judge(&mut Counts::default(), slip).is_err()), "{slip:?}");
         }
     }
 

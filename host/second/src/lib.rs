@@ -7,8 +7,8 @@
 //! `library` carry them out; `compare` finds differences; `shrink` and `describe` show a small failing case. `merges` merges
 //! sheets in several orders; `files` reads and writes files and texts, `program` runs the program that prints them;
 //! `doors` asks which doors open within an allowance of rounds; `days` rewrites, reads and folds a day sheet over a base
-//! sheet; `formulas` works out formulas over a store. `rng` and `arguments`, random numbers and a program's options, serve
-//! `bench` and `peer` too.
+//! sheet; `formulas` works out formulas over a store, alone and in lists of calls. `rng` and `arguments`, random numbers and
+//! a program's options, serve `bench` and `peer` too.
 
 pub mod arguments;
 pub mod calls;

@@ -16,8 +16,10 @@ use std::collections::{BTreeMap, BTreeSet};
 use std::process::ExitCode;
 use std::time::Instant;
 
-/// The grammar of formulas is enumerated to this length.
+/// The grammar of formulas is enumerated to this length; in a run of fewer lists than these, to the shorter one.
 const TEXT_BYTES: usize = 7;
+const SHORT_TEXT_BYTES: usize = 4;
+const FEW_LISTS: u64 = 1000;
 
 const USAGE: &str = "\
 second [--seed N] [--calls N] [--lists N] [--faults] [--fault N] [--program PATH]
@@ -289,12 +291,13 @@ fn compare_revisions(run: &Run) -> Result<(), Disagreement> {
     Ok(())
 }
 
-/// Formulas over a store, as many calls as lists of calls on one; and every text of at most seven bytes.
+/// Formulas over a store: as many single calls, and as many lists that have some, as lists of calls on one; and every text
+/// of at most seven bytes over eight byte values.
 fn compare_formulas(run: &Run) -> Result<(), Disagreement> {
     let &Run { seed, lists, .. } = run;
     let mut codes: BTreeMap<u32, u64> = BTreeMap::new();
     for number in 0..lists {
-        match formulas::formula(&mut Rng::of_case(seed, 9, number)).judge() {
+        match formulas::single(&mut Rng::of_case(seed, 9, number)).judge(formulas::Slip::None) {
             Ok(answer) => *codes.entry(code_of(answer)).or_default() += 1,
             Err(text) => {
                 println!("seed {seed}, formula {number}: {text}");
@@ -303,8 +306,24 @@ fn compare_formulas(run: &Run) -> Result<(), Disagreement> {
         }
     }
     println!("seed {seed}: {lists} formulas over a store, by codes {codes:?}: no disagreement");
-    match formulas::judge_texts(TEXT_BYTES) {
-        Ok((formulas, others)) => println!("texts of at most {TEXT_BYTES} bytes: {formulas} formulas, {others} others"),
+    let mut counts = formulas::Counts::default();
+    for number in 0..lists {
+        let rng = || Rng::of_case(seed, 10, number);
+        let mut judge = |list: &formulas::List| list.judge(&mut counts, formulas::Slip::None);
+        if judge(&formulas::list(&mut rng())).is_err() {
+            let judge = |list: &formulas::List| list.judge(&mut formulas::Counts::default(), formulas::Slip::None);
+            let small = shrink(rng(), formulas::list, |list| judge(list).is_err());
+            println!("seed {seed}, list with formulas {number}, made small: {}", judge(&small).unwrap_err());
+            return Err(Disagreement);
+        }
+    }
+    let formulas::Counts { others, codes } = counts;
+    println!(
+        "seed {seed}: {lists} lists of {others} calls on a store and formulas by codes {codes:?}: no disagreement"
+    );
+    let bytes = if lists < FEW_LISTS { SHORT_TEXT_BYTES } else { TEXT_BYTES };
+    match formulas::judge_texts(bytes) {
+        Ok((formulas, others)) => println!("texts of at most {bytes} bytes: {formulas} formulas, {others} others"),
         Err(text) => {
             println!("{text}");
             return Err(Disagreement);

@@ -42,8 +42,8 @@ use Rattle.formula_evaluation.proofs.Lending.{
   lent-inner,
   lent-on,
   ended-ahead,
-  ended-ground,
-  held-sheet,
+  ended-grid,
+  held-worth,
 }
 use Rattle.matrix.specs.Layout.{maxMatrixWords}
 use Prim.Native.Nat.{ℕ, _+_, _-_, _*_, _≤_, _<_}
@@ -414,7 +414,7 @@ factor-returns-8 t c =
     named (a .monoid) (a .op) (a .store .now) (a .text .now) (a .at) (a .allowance)
     (c .before .before .before .before .before .before .before .before .if1 .left)
     (c .before .before .before .before .before .before .if2 .left)
-    (c .before .before .before .before .before .if5 .left) _ _ (held-sheet (a .store .now) _ h)
+    (c .before .before .before .before .before .if5 .left) _ _ (held-worth (a .store .now) _ h)
     (c .before .before .load .ensures)
 
 formula-term-requires : (t : ℕ) → formula-lts.Need-term-requires (
@@ -467,7 +467,7 @@ formula-more-terms-requires t c κs =
     let z = c .before .before .first .given .1 in
     let l = ended-ahead (q .term .ensures) _ z in (
       omega (arith, p .0, l .0, l .1),
-      lent-on (p .1) _ _ (l .1) (q .term .kept .1 .1 .1 .1 .1 .1 .0) (ended-ground (q .term .ensures) _ z),
+      lent-on (p .1) _ _ (l .1) (q .term .kept .1 .1 .1 .1 .1 .1 .0) (ended-grid (q .term .ensures) _ z),
     )
 
 formula-same-length-2 : (t : ℕ) → formula-lts.Need-same-length-2 (
@@ -521,7 +521,7 @@ more-factors-returns t c =
     let p = c .before .before .before .before .before in
     let a = p .args in
     nothing-follows (factors (a .monoid) (a .op) (a .store .now)) (a .text .now) (a .at) (a .allowance) (a .stack .now)
-    (p .pre .1 .lent .place) (p .pre .1 .ground)
+    (p .pre .1 .lent .place) (p .pre .1 .some-grid)
     (stands-none (a .text .now) (a .at) 42 (c .before .stands .result) (c .before .stands .ensures) (c .if1 .taken))
 
 more-factors-add-factor : (t : ℕ) → more-factors-lts.Need-add-factor (
@@ -689,8 +689,8 @@ more-factors-step-requires t c κs =
     let i = stands-some (a .text .now) (a .at) 42 (u .stands .result) (u .stands .ensures) (v .if1 .left) in
     let k : maxMatrixWords ≤ length (a .stack .now) = omega arith in
     let z = c .before .before .next .given .1 in
-    let y = ended-ground (q .factor .ensures) _ z in
-    let x = p .pre .1 .ground in
+    let y = ended-grid (q .factor .ensures) _ z in
+    let x = p .pre .1 .some-grid in
     operands (multiplying (a .monoid) (a .op)) (a .stack .now) (q .factor .last .1 .1 .1 .1 .1 .1 .0) k (x .1) (y .1)
     (omega (
       arith,
@@ -774,8 +774,8 @@ more-factors-more-factors-requires t c κs =
     let z = e .before .before .before .next .given .1 in
     let h = e .step .ensures in
     let l = ended-ahead (q .factor .ensures) _ z in
-    let y = ended-ground (q .factor .ensures) _ z in
-    let x = p .pre .1 .ground in
+    let y = ended-grid (q .factor .ensures) _ z in
+    let x = p .pre .1 .some-grid in
     let g = stepped-standing (multiplying (a .monoid) (a .op)) (a .stack .now) (q .factor .last .1 .1 .1 .1 .1 .1 .0) k
     (x .1) (y .1) h (c .before .if2 .left) in (
       omega (arith, p .pre .0, i .0, l .0, l .1),
@@ -870,7 +870,7 @@ more-terms-returns t c =
     let p = c .before .before .before .before .before in
     let a = p .args in
     nothing-follows (terms (a .monoid) (a .op) (a .store .now)) (a .text .now) (a .at) (a .allowance) (a .stack .now)
-    (p .pre .1 .lent .place) (p .pre .1 .ground)
+    (p .pre .1 .lent .place) (p .pre .1 .some-grid)
     (stands-none (a .text .now) (a .at) 43 (c .before .stands .result) (c .before .stands .ensures) (c .if1 .taken))
 
 more-terms-add-term : (t : ℕ) → more-terms-lts.Need-add-term (
@@ -1070,8 +1070,8 @@ more-terms-step-requires t c κs =
     let i = stands-some (a .text .now) (a .at) 43 (u .stands .result) (u .stands .ensures) (v .if1 .left) in
     let k : maxMatrixWords ≤ length (a .stack .now) = omega arith in
     let z = c .before .before .before .next .given .1 in
-    let y = ended-ground (q .term .ensures) _ z in
-    let x = p .pre .1 .ground in
+    let y = ended-grid (q .term .ensures) _ z in
+    let x = p .pre .1 .some-grid in
     rw (c .before .monoid-op .ensures)
     (operands (adding (a .monoid)) (a .stack .now) (q .term .last .1 .1 .1 .1 .1 .1 .0) k (x .1) (y .1)
     (omega (
@@ -1161,8 +1161,8 @@ more-terms-more-terms-requires t c κs =
     let z = e .before .before .before .before .next .given .1 in
     let h = rw (e .before .before .monoid-op .ensures) at (e .step .ensures) in
     let l = ended-ahead (q .term .ensures) _ z in
-    let y = ended-ground (q .term .ensures) _ z in
-    let x = p .pre .1 .ground in
+    let y = ended-grid (q .term .ensures) _ z in
+    let x = p .pre .1 .some-grid in
     let g = stepped-standing (adding (a .monoid)) (a .stack .now) (q .term .last .1 .1 .1 .1 .1 .1 .0) k (x .1) (y .1)
     h (c .before .if2 .left) in (
       omega (arith, p .pre .0, i .0, l .0, l .1),
@@ -1281,7 +1281,7 @@ term-more-factors-requires t c κs =
     let z = c .before .before .first .given .1 in
     let l = ended-ahead (q .factor .ensures) _ z in (
       omega (arith, p .0, l .0, l .1),
-      lent-on (p .1) _ _ (l .1) (q .factor .kept .1 .1 .1 .1 .1 .1 .0) (ended-ground (q .factor .ensures) _ z),
+      lent-on (p .1) _ _ (l .1) (q .factor .kept .1 .1 .1 .1 .1 .1 .0) (ended-grid (q .factor .ensures) _ z),
     )
 
 term-same-length-2 : (t : ℕ) → term-lts.Need-same-length-2 (

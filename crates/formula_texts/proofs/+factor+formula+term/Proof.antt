@@ -46,7 +46,6 @@ term-at t = and 1 term-kinds.ps (is 1 term-kinds.ps μ-term t) term.Pre
 abbrev term-below : ℕ → In 1 term-kinds.ps
 term-below t = and 1 term-kinds.ps (falls 1 term-kinds.ps _<_ μ-term t) term.Pre
 
--- src/lib.rt:61:9
 factor-returns : (t : ℕ) → factor-lts.Need-returns (
   formula-below t,
   formula.Post,
@@ -57,7 +56,6 @@ factor-returns t c =
     let a = c .before .before .args in
     factor-past (a .text .now) (a .at) (a .allowance) (c .if1 .taken)
 
--- src/lib.rt:63:13
 factor-shared-slice-read-x : (t : ℕ) → factor-lts.Need-shared-slice-read-x (
   formula-below t,
   formula.Post,
@@ -66,7 +64,6 @@ factor-shared-slice-read-x : (t : ℕ) → factor-lts.Need-shared-slice-read-x (
 ) (factor-at t) factor.Post
 factor-shared-slice-read-x t c = search needs
 
--- src/lib.rt:66:13
 factor-returns-2 : (t : ℕ) → factor-lts.Need-returns-2 (
   formula-below t,
   formula.Post,
@@ -78,7 +75,6 @@ factor-returns-2 t c =
     too-deep (a .text .now) (a .at) (a .allowance) (c .before .before .before .if1 .left) (c .before .if2 .taken)
     (c .if3 .taken)
 
--- src/lib.rt:68:35
 factor-add-formula : (t : ℕ) → factor-lts.Need-add-formula (
   formula-below t,
   formula.Post,
@@ -87,7 +83,6 @@ factor-add-formula : (t : ℕ) → factor-lts.Need-add-formula (
 ) (factor-at t) factor.Post
 factor-add-formula t c = search needs
 
--- src/lib.rt:68:43
 factor-sub-formula : (t : ℕ) → factor-lts.Need-sub-formula (
   formula-below t,
   formula.Post,
@@ -96,7 +91,6 @@ factor-sub-formula : (t : ℕ) → factor-lts.Need-sub-formula (
 ) (factor-at t) factor.Post
 factor-sub-formula t c = search needs
 
--- src/lib.rt:68:13
 factor-formula-requires : (t : ℕ) → factor-lts.Need-formula-requires (
   formula-below t,
   formula.Post,
@@ -105,7 +99,6 @@ factor-formula-requires : (t : ℕ) → factor-lts.Need-formula-requires (
 ) (factor-at t) factor.Post
 factor-formula-requires t c κs = search needs
 
--- src/lib.rt:69:26
 factor-enum-known-inner : (t : ℕ) → factor-lts.Need-enum-known-inner (
   formula-below t,
   formula.Post,
@@ -114,7 +107,6 @@ factor-enum-known-inner : (t : ℕ) → factor-lts.Need-enum-known-inner (
 ) (factor-at t) factor.Post
 factor-enum-known-inner t c = search needs
 
--- src/lib.rt:70:13
 factor-enum-told : (t : ℕ) → factor-lts.Need-enum-told (
   formula-below t,
   formula.Post,
@@ -123,7 +115,6 @@ factor-enum-told : (t : ℕ) → factor-lts.Need-enum-told (
 ) (factor-at t) factor.Post
 factor-enum-told t c = search needs
 
--- src/lib.rt:70:13
 factor-returns-3 : (t : ℕ) → factor-lts.Need-returns-3 (
   formula-below t,
   formula.Post,
@@ -135,7 +126,6 @@ factor-returns-3 t c =
     no-inner (a .text .now) (a .at) (a .allowance) (c .before .before .before .before .before .before .if1 .left)
     (c .before .before .before .before .if2 .taken) _ (c .enum-told .given .1) (c .before .before .formula .ensures)
 
--- src/lib.rt:72:12
 factor-stands-requires : (t : ℕ) → factor-lts.Need-stands-requires (
   formula-below t,
   formula.Post,
@@ -144,7 +134,6 @@ factor-stands-requires : (t : ℕ) → factor-lts.Need-stands-requires (
 ) (factor-at t) factor.Post
 factor-stands-requires t c κs = search needs
 
--- src/lib.rt:73:33
 factor-add-t15 : (t : ℕ) → factor-lts.Need-add-t15 (
   formula-below t,
   formula.Post,
@@ -155,7 +144,6 @@ factor-add-t15 t c =
     let g = rw (c .if4 .taken) at (c .before .stands .ensures) in
     omega arith
 
--- src/lib.rt:73:13
 factor-returns-4 : (t : ℕ) → factor-lts.Need-returns-4 (
   formula-below t,
   formula.Post,
@@ -171,7 +159,6 @@ factor-returns-4 t c =
     (c .before .before .before .inner .given .1) (c .before .before .before .before .before .formula .ensures)
     (c .before .before .before .before .before .before .if3 .left) (g .0) (g .1)
 
--- src/lib.rt:75:9
 factor-returns-5 : (t : ℕ) → factor-lts.Need-returns-5 (
   formula-below t,
   formula.Post,
@@ -186,7 +173,6 @@ factor-returns-5 t c =
     (c .before .before .before .inner .given .1) (c .before .before .before .before .before .formula .ensures)
     (rw (c .if4 .left) at (c .before .stands .ensures))
 
--- src/lib.rt:78:9
 factor-returns-6 : (t : ℕ) → factor-lts.Need-returns-6 (
   formula-below t,
   formula.Post,
@@ -198,7 +184,6 @@ factor-returns-6 t c =
     no-digit (a .text .now) (a .at) (a .allowance) (c .before .before .before .if1 .left) (c .before .if2 .left)
     (λ l h. omega (arith, c .if5 .taken))
 
--- src/lib.rt:81:9
 factor-returns-7 : (t : ℕ) → factor-lts.Need-returns-7 (
   formula-below t,
   formula.Post,
@@ -210,7 +195,6 @@ factor-returns-7 t c =
     no-digit (a .text .now) (a .at) (a .allowance) (c .before .before .before .before .if1 .left)
     (c .before .before .if2 .left) (λ l h. omega (arith, c .if6 .taken))
 
--- src/lib.rt:83:18
 factor-add-t7 : (t : ℕ) → factor-lts.Need-add-t7 (
   formula-below t,
   formula.Post,
@@ -219,7 +203,6 @@ factor-add-t7 : (t : ℕ) → factor-lts.Need-add-t7 (
 ) (factor-at t) factor.Post
 factor-add-t7 t c = search needs
 
--- src/lib.rt:56:1
 factor-returns-8 : (t : ℕ) → factor-lts.Need-returns-8 (
   formula-below t,
   formula.Post,
@@ -231,7 +214,6 @@ factor-returns-8 t c =
     one-digit (a .text .now) (a .at) (a .allowance) (c .before .before .before .before .if1 .left)
     (c .before .before .if2 .left) (c .before .if5 .left) (c .if6 .left)
 
--- src/lib.rt:31:9
 formula-term-requires : (t : ℕ) → formula-lts.Need-term-requires (
   term-below t,
   term.Post,
@@ -242,7 +224,6 @@ formula-term-requires : (t : ℕ) → formula-lts.Need-term-requires (
 ) (formula-at t) formula.Post
 formula-term-requires t c κs = search needs
 
--- src/lib.rt:32:22
 formula-enum-known-first : (t : ℕ) → formula-lts.Need-enum-known-first (
   term-below t,
   term.Post,
@@ -253,7 +234,6 @@ formula-enum-known-first : (t : ℕ) → formula-lts.Need-enum-known-first (
 ) (formula-at t) formula.Post
 formula-enum-known-first t c = search needs
 
--- src/lib.rt:33:9
 formula-enum-told : (t : ℕ) → formula-lts.Need-enum-told (
   term-below t,
   term.Post,
@@ -264,7 +244,6 @@ formula-enum-told : (t : ℕ) → formula-lts.Need-enum-told (
 ) (formula-at t) formula.Post
 formula-enum-told t c = search needs
 
--- src/lib.rt:33:9
 formula-returns : (t : ℕ) → formula-lts.Need-returns (
   term-below t,
   term.Post,
@@ -277,7 +256,6 @@ formula-returns t c =
     let a = c .before .before .before .before .args in
     no-first terms (a .text .now) (a .at) (a .allowance) _ (c .enum-told .given .1) (c .before .before .term .ensures)
 
--- src/lib.rt:35:8
 formula-stands-requires : (t : ℕ) → formula-lts.Need-stands-requires (
   term-below t,
   term.Post,
@@ -288,7 +266,6 @@ formula-stands-requires : (t : ℕ) → formula-lts.Need-stands-requires (
 ) (formula-at t) formula.Post
 formula-stands-requires t c κs = search needs
 
--- src/lib.rt:36:30
 formula-add-formula : (t : ℕ) → formula-lts.Need-add-formula (
   term-below t,
   term.Post,
@@ -303,7 +280,6 @@ formula-add-formula t c =
     let g = rw (c .if1 .taken) at (c .before .stands .ensures) in
     omega arith
 
--- src/lib.rt:36:9
 formula-formula-requires : (t : ℕ) → formula-lts.Need-formula-requires (
   term-below t,
   term.Post,
@@ -318,7 +294,6 @@ formula-formula-requires t c κs =
     let g = rw (c .if1 .taken) at (c .before .stands .ensures) in
     (omega arith, omega arith)
 
--- src/lib.rt:36:9
 formula-returns-2 : (t : ℕ) → formula-lts.Need-returns-2 (
   term-below t,
   term.Post,
@@ -334,7 +309,6 @@ formula-returns-2 t c =
     (c .before .before .before .before .before .before .term .ensures) (c .formula .result) (g .0) (g .1)
     (c .formula .ensures)
 
--- src/lib.rt:27:1
 formula-returns-3 : (t : ℕ) → formula-lts.Need-returns-3 (
   term-below t,
   term.Post,
@@ -348,7 +322,6 @@ formula-returns-3 t c =
     first-alone terms (a .text .now) (a .at) (a .allowance) _ _ (c .before .before .before .first .given .1)
     (c .before .before .before .before .before .term .ensures) (rw (c .if1 .left) at (c .before .stands .ensures))
 
--- src/lib.rt:46:9
 term-factor-requires : (t : ℕ) → term-lts.Need-factor-requires (
   factor-below t,
   factor.Post,
@@ -359,7 +332,6 @@ term-factor-requires : (t : ℕ) → term-lts.Need-factor-requires (
 ) (term-at t) term.Post
 term-factor-requires t c κs = search needs
 
--- src/lib.rt:47:22
 term-enum-known-first : (t : ℕ) → term-lts.Need-enum-known-first (
   factor-below t,
   factor.Post,
@@ -370,7 +342,6 @@ term-enum-known-first : (t : ℕ) → term-lts.Need-enum-known-first (
 ) (term-at t) term.Post
 term-enum-known-first t c = search needs
 
--- src/lib.rt:48:9
 term-enum-told : (t : ℕ) → term-lts.Need-enum-told (
   factor-below t,
   factor.Post,
@@ -381,7 +352,6 @@ term-enum-told : (t : ℕ) → term-lts.Need-enum-told (
 ) (term-at t) term.Post
 term-enum-told t c = search needs
 
--- src/lib.rt:48:9
 term-returns : (t : ℕ) → term-lts.Need-returns (
   factor-below t,
   factor.Post,
@@ -395,7 +365,6 @@ term-returns t c =
     no-first factors (a .text .now) (a .at) (a .allowance) _ (c .enum-told .given .1)
     (c .before .before .factor .ensures)
 
--- src/lib.rt:50:8
 term-stands-requires : (t : ℕ) → term-lts.Need-stands-requires (
   factor-below t,
   factor.Post,
@@ -406,7 +375,6 @@ term-stands-requires : (t : ℕ) → term-lts.Need-stands-requires (
 ) (term-at t) term.Post
 term-stands-requires t c κs = search needs
 
--- src/lib.rt:51:27
 term-add-term : (t : ℕ) → term-lts.Need-add-term (
   factor-below t,
   factor.Post,
@@ -421,7 +389,6 @@ term-add-term t c =
     let g = rw (c .if1 .taken) at (c .before .stands .ensures) in
     omega arith
 
--- src/lib.rt:51:9
 term-term-requires : (t : ℕ) → term-lts.Need-term-requires (
   factor-below t,
   factor.Post,
@@ -436,7 +403,6 @@ term-term-requires t c κs =
     let g = rw (c .if1 .taken) at (c .before .stands .ensures) in
     (omega arith, omega arith)
 
--- src/lib.rt:51:9
 term-returns-2 : (t : ℕ) → term-lts.Need-returns-2 (
   factor-below t,
   factor.Post,
@@ -452,7 +418,6 @@ term-returns-2 t c =
     (c .before .before .before .before .before .before .factor .ensures) (c .term .result) (g .0) (g .1)
     (c .term .ensures)
 
--- src/lib.rt:42:1
 term-returns-3 : (t : ℕ) → term-lts.Need-returns-3 (
   factor-below t,
   factor.Post,

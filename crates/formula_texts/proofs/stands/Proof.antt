@@ -4,11 +4,9 @@ use Rattle.formula_texts.proofs.stands.Statement.{statement}
 use Rattle.formula_texts.proofs.stands.Tie as tie
 use Rattle.formula_texts.proofs.Joined.{past-end, other-byte}
 
--- src/lib.rt:18:9
 returns : tie.Need-returns
 returns c = past-end _ _ _ (c .if1 .taken)
 
--- src/lib.rt:20:5
 shared-slice-read-if2 : tie.Need-shared-slice-read-if2
 shared-slice-read-if2 c = search needs
 

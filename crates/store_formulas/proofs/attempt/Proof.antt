@@ -12,7 +12,7 @@ use Rattle.store_formulas.proofs.Formulas.{
   formula-no-store,
   formula-early,
   none,
-  legible,
+  evaluable,
   formula-failed,
   formula-done,
 }
@@ -78,7 +78,7 @@ evaluate-requires c κs =
     let p = k .before .before .before .before .before in
     let f = found i in
     let z = early (c .before .before) in
-    legible (now (p .args .store)) (call p) (f .valid) z (now (p .args .stack)) refl
+    evaluable (now (p .args .store)) (call p) (f .valid) z (now (p .args .stack)) refl
 
 enum-told : tie.Need-enum-told
 enum-told c = search needs
@@ -97,7 +97,7 @@ commit-requires c κs =
       store = f .store;
       slot = none (now (p .args .store)) (call p) (f .valid) z .slot;
       ends = f .ends;
-      ground = (d .0, d .2);
+      some-grid = (d .0, d .2);
     }
 
 enum-told-2 : tie.Need-enum-told-2

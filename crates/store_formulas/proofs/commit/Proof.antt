@@ -35,13 +35,13 @@ size-counted q =
 
 -- the words that are put are there
 there : (q : tie.After-row-count) → size q ≤ length (now (start q .args .stack))
-there q = omega (arith, size-counted q, size-there (start q .pre .ground .1))
+there q = omega (arith, size-counted q, size-there (start q .pre .some-grid .1))
 
 entry-count-requires : tie.Need-entry-count-requires
-entry-count-requires c κs = standing-header (c .before .before .pre .ground .1)
+entry-count-requires c κs = standing-header (c .before .before .pre .some-grid .1)
 
 row-count-requires : tie.Need-row-count-requires
-row-count-requires c κs = standing-header (c .before .before .before .pre .ground .1)
+row-count-requires c κs = standing-header (c .before .before .before .pre .some-grid .1)
 
 cast-rows : tie.Need-cast-rows
 cast-rows c = search needs
@@ -71,7 +71,7 @@ put-requires c κs =
     let r = c .before .before in
     let p = start r .pre in
     let t = length-take-le (size r) (now (start r .args .stack)) (there r) in
-    let m = size-small (p .ground .1) in
+    let m = size-small (p .some-grid .1) in
     (p .store .sections, (p .slot, (p .ends, (p .store .most, omega (arith, size-counted r)))))
 
 refused-requires : tie.Need-refused-requires

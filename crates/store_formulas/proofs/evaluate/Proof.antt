@@ -1,6 +1,6 @@
 -- `evaluate` works the text out by the semiring that its numbers name.
 use mathlib.Core.Path.{sym, _∙_}
-use Rattle.store_formulas.proofs.Formulas.{legible-lent, monoid-known, binary-known, evaluated}
+use Rattle.store_formulas.proofs.Formulas.{evaluable-lent, monoid-known, binary-known, evaluated}
 use borrow.Author.Needs.{needs}
 use Rattle.store_formulas.proofs.evaluate.Statement.{statement}
 use Rattle.store_formulas.proofs.evaluate.Tie as tie
@@ -32,7 +32,7 @@ returns-2 c = binary-known (c .before .before .before .before .before .before .b
     (sym (c .before .before .binary-code .ensures) ∙ c .enum-told2 .given .1)
 
 formula-requires : tie.Need-formula-requires
-formula-requires c κs = legible-lent
+formula-requires c κs = evaluable-lent
     (c .before .before .before .before .before .before .before .before .before .before .before .before .pre)
 
 same-length : tie.Need-same-length
