@@ -6,7 +6,7 @@ use crate::format::Format;
 use crate::names::Whole;
 use crate::output::Output;
 use crate::refusal::Refusal;
-use crate::sheet_file::{self, Target};
+use crate::sheet_file::{self, LockedSheet, Target};
 use ostrubel::{DayOver, Error, Matrix, Section};
 use std::ffi::{OsStr, OsString};
 
@@ -59,18 +59,16 @@ impl Day {
     pub fn carry_out(&self, output: &mut Output) -> Result<bool, Failure> {
         match self {
             Day::Rewrite { day, marks, row, new } => {
-                let (mut rows, mut marked, new) = (read(day)?, read(marks)?, read(new)?);
-                rows.rewrite_row(&mut marked, row.index(), &new).map_err(refused)?;
+                let [mut rows, mut marked] = LockedSheet::open_both(day, marks, None)?;
+                rows.matrix.rewrite_row(&mut marked.matrix, row.index(), &read(new)?).map_err(refused)?;
                 // Rows first: until it is marked, a row is not shown.
-                write(day, &rows, output)?;
-                write(marks, &marked, output)
+                save([rows, marked], output)
             }
             Day::Back { day, marks, row } => {
-                let (mut rows, mut marked) = (read(day)?, read(marks)?);
-                rows.take_row_back(&mut marked, row.index()).map_err(refused)?;
+                let [mut rows, mut marked] = LockedSheet::open_both(day, marks, None)?;
+                rows.matrix.take_row_back(&mut marked.matrix, row.index()).map_err(refused)?;
                 // Marks first: a row without a mark is not shown.
-                write(marks, &marked, output)?;
-                write(day, &rows, output)
+                save([marked, rows], output)
             }
             Day::Read { files, row, col } => {
                 let base = read(&files.base)?;
@@ -120,6 +118,16 @@ fn refused(error: Error) -> Failure {
 
 fn read(sheet: &OsStr) -> Result<Matrix, Failure> {
     Ok(sheet_file::read(sheet, Format::of_name(sheet), None)?.matrix)
+}
+
+/// Saves two sheets, in this order, when the bytes of both are on the disk.
+fn save(sheets: [LockedSheet; 2], output: &mut Output) -> Result<bool, Failure> {
+    let replacements = [sheets[0].replacement()?, sheets[1].replacement()?];
+    for (sheet, replacement) in sheets.iter().zip(replacements) {
+        replacement.finish()?;
+        output.print(&sheet.described());
+    }
+    Ok(true)
 }
 
 fn write(name: &OsStr, matrix: &Matrix, output: &mut Output) -> Result<bool, Failure> {

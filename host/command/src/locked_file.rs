@@ -3,8 +3,10 @@
 //! A command that can write holds an exclusive lock (`File::lock`) on the file itself from before it reads until it has
 //! renamed. A waiting command then holds the lock of a file that has been replaced: it compares the file that it locked
 //! with the one that the path names now, and begins anew where they differ. So no update is lost, and no lock file is
-//! left. A command that only reads needs no lock, since the file that it has opened is never written again.
+//! left. A command that only reads needs no lock, since the file that it has opened is never written again. Two files
+//! are locked in the order of their paths, so that no two commands wait for each other.
 
+use crate::failure::Failure;
 use crate::output::complain;
 use crate::text::shown_path;
 use std::fs::{self, File, Metadata, OpenOptions, TryLockError};
@@ -39,6 +41,26 @@ impl LockedFile {
             if names_file(&target, &file)? {
                 return Ok(LockedFile { file, target });
             }
+        }
+    }
+
+    /// Two files, whichever is named first. One file by two names is refused: its second lock would wait for its first.
+    pub fn open_both(first: &Path, second: &Path, patience: Patience) -> Result<[LockedFile; 2], Failure> {
+        let open = |path| LockedFile::open(path, patience).map_err(|error| Failure::io(path, error));
+        let found = |path| -> Result<_, Failure> {
+            let named = fs::canonicalize(path).and_then(|target| Ok((fs::metadata(path)?, target)));
+            let (about, target) = named.map_err(|error| Failure::io(path, error))?;
+            Ok(((about.dev(), about.ino()), target))
+        };
+        let ((one, front), (other, behind)) = (found(first)?, found(second)?);
+        if one == other {
+            return Err(Failure::io(second, format!("is the same file as {}", shown_path(first))));
+        }
+        if front < behind {
+            Ok([open(first)?, open(second)?])
+        } else {
+            let second = open(second)?;
+            Ok([open(first)?, second])
         }
     }
 }

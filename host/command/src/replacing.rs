@@ -75,16 +75,39 @@ fn take_name(new: NewFile, path: &Path) -> Result<(), Failure> {
     new.rename(path).map_err(left)
 }
 
+/// The new bytes of a locked file, on the disk beside it. Dropped, they go, and the file stays.
+pub struct Replacement<'a> {
+    path: &'a Path,
+    old: &'a LockedFile,
+    new: NewFile,
+}
+
+impl<'a> Replacement<'a> {
+    pub fn prepare(path: &'a Path, old: &'a LockedFile, bytes: &[u8]) -> Result<Replacement<'a>, Failure> {
+        let new = NewFile::with_bytes(folder(&old.target), 0o600, bytes).map_err(|error| not_saved(path, error))?;
+        let kept = keep_access(&new.file, &old.file).and_then(|()| new.file.sync_all());
+        kept.map_err(|error| not_saved(path, error))?;
+        Ok(Replacement { path, old, new })
+    }
+
+    /// Gives them the file's name.
+    pub fn finish(self) -> Result<(), Failure> {
+        let Replacement { path, old, new } = self;
+        if !names_file(&old.target, &old.file).map_err(|error| not_saved(path, error))? {
+            return Err(Failure::io(path, REPLACED));
+        }
+        new.rename(&old.target).map_err(|error| not_saved(path, error))?;
+        saved(path, &old.target)
+    }
+}
+
+fn not_saved(path: &Path, error: io::Error) -> Failure {
+    Failure::io(path, format!("not saved, and as it was before: {error}"))
+}
+
 /// Replaces the locked file. After a failure it is still there, and no new file is.
 pub fn replace(path: &Path, old: &LockedFile, bytes: &[u8]) -> Result<(), Failure> {
-    let not_saved = |error: io::Error| Failure::io(path, format!("not saved, and as it was before: {error}"));
-    let new = NewFile::with_bytes(folder(&old.target), 0o600, bytes).map_err(not_saved)?;
-    keep_access(&new.file, &old.file).and_then(|()| new.file.sync_all()).map_err(not_saved)?;
-    if !names_file(&old.target, &old.file).map_err(not_saved)? {
-        return Err(Failure::io(path, REPLACED));
-    }
-    new.rename(&old.target).map_err(not_saved)?;
-    saved(path, &old.target)
+    Replacement::prepare(path, old, bytes)?.finish()
 }
 
 /// Puts bytes into a file: it has the old bytes or the new ones. Of a file that is there, `may_go` is asked about its

@@ -4,10 +4,10 @@ use crate::carry_out::counted;
 use crate::failure::Failure;
 use crate::format::Format;
 use crate::labels::Labels;
-use crate::locked_file::Patience;
+use crate::locked_file::{LockedFile, Patience};
 use crate::merge::Sheet;
 use crate::output::Output;
-use crate::replacing::{read_at_most, write_over};
+use crate::replacing::{read_at_most, write_over, Replacement};
 use crate::text::shown_path;
 use ostrubel::Matrix;
 use std::ffi::OsStr;
@@ -32,6 +32,38 @@ pub fn read(source: &OsStr, format: Format, labels: Option<&Labels>) -> Result<S
     let (name, bytes) = bytes(source, format.longest())?;
     let matrix = format.read(&name, &bytes, labels)?;
     Ok(Sheet { name, matrix })
+}
+
+/// A sheet in a file that is locked from before it is read until it is replaced.
+pub struct LockedSheet<'a> {
+    path: &'a Path,
+    format: Format,
+    file: LockedFile,
+    pub matrix: Matrix,
+}
+
+impl<'a> LockedSheet<'a> {
+    /// The sheets of two files.
+    pub fn open_both(first: &'a OsStr, second: &'a OsStr, patience: Patience) -> Result<[Self; 2], Failure> {
+        let [one, other] = LockedFile::open_both(Path::new(first), Path::new(second), patience)?;
+        Ok([LockedSheet::read(first, one)?, LockedSheet::read(second, other)?])
+    }
+
+    fn read(name: &'a OsStr, file: LockedFile) -> Result<Self, Failure> {
+        let (path, format) = (Path::new(name), Format::of_name(name));
+        let bytes = read_at_most(&file.file, format.longest()).map_err(|error| Failure::io(path, error))?;
+        let matrix = format.read(&shown_path(path), &bytes, None)?;
+        Ok(LockedSheet { path, format, file, matrix })
+    }
+
+    /// The matrix as it is now, for the file.
+    pub fn replacement(&self) -> Result<Replacement<'_>, Failure> {
+        Replacement::prepare(self.path, &self.file, &self.format.write(&self.matrix, None))
+    }
+
+    pub fn described(&self) -> String {
+        format!("{}: {}", shown_path(self.path), described(&self.matrix))
+    }
 }
 
 /// Where a matrix goes, and how.
