@@ -6,6 +6,7 @@ use crate::failure::{Failure, Usage};
 use crate::labels::Labels;
 use crate::locked_file::Patience;
 use crate::look::Look;
+use std::cell::OnceCell;
 use std::ffi::OsString;
 use std::time::Duration;
 
@@ -18,6 +19,8 @@ pub struct Settings {
     pub patience: Patience,
     pub json: bool,
     names: Option<OsString>,
+    /// What the file of names has. It is read once: a pipe is empty then.
+    labels: OnceCell<Labels>,
 }
 
 impl Settings {
@@ -30,16 +33,31 @@ impl Settings {
             patience: if has("--wait") { arguments.parsed("--wait", parse_seconds)? } else { None },
             json: has("--json") && arguments.flag("--json"),
             names: if has("--names") { arguments.file_option("--names") } else { None },
+            labels: OnceCell::new(),
         })
     }
 
     /// The names, where a file of them is given.
-    pub fn labels(&self) -> Result<Option<Labels>, Failure> {
-        self.names.as_ref().map(|names| Labels::read(names)).transpose()
+    pub fn labels(&self) -> Result<Option<&Labels>, Failure> {
+        match (&self.names, self.labels.get()) {
+            (Some(names), None) => {
+                let read = Labels::read(names)?;
+                Ok(Some(self.labels.get_or_init(|| read)))
+            }
+            (_, labels) => Ok(labels),
+        }
     }
 
     pub fn look(&self) -> Result<Look, Failure> {
-        Ok(Look::new(self.labels()?.unwrap_or_default(), self.json))
+        Ok(Look::new(self.labels()?.cloned().unwrap_or_default(), self.json))
+    }
+
+    /// Standard input, which is `-`, is read once: for the names, or for one of these files.
+    pub fn check_input(&self, files: &[OsString]) -> Result<(), String> {
+        if self.names.iter().chain(files).filter(|file| *file == "-").count() > 1 {
+            return Err("standard input, which is -, can be read only once".to_string());
+        }
+        Ok(())
     }
 }
 

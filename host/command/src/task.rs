@@ -136,7 +136,7 @@ impl Job {
                 Ok(())
             }),
             Job::Draw { slot, svg, html } => {
-                let (labels, matrix) = (settings.labels()?.unwrap_or_default(), shelf.sheet(slot)?);
+                let (labels, matrix) = (settings.labels()?.cloned().unwrap_or_default(), shelf.sheet(slot)?);
                 let title = format!("{}, {}", shown_path(file), labels.place_head(slot.size()));
                 let svg = svg.as_ref().map(|out| (out, drawing::svg(&matrix, &title, &labels), drawing::SVG_FRONT));
                 let html = html.as_ref().map(|out| (out, drawing::html(&matrix, &title, &labels), drawing::HTML_FRONT));
@@ -154,7 +154,7 @@ impl Job {
                 let matrix = shelf.sheet(slot)?;
                 let format = format.unwrap_or_else(|| Format::of_name(sheet));
                 let Settings { patience, dry_run, .. } = *settings;
-                Target { name: sheet, format, patience, dry_run }.write(&matrix, settings.labels()?.as_ref(), output)
+                Target { name: sheet, format, patience, dry_run }.write(&matrix, settings.labels()?, output)
             }
             Job::Merge { slot, sheets, mask, format } => {
                 let sheets = sheets.iter().map(|sheet| read_sheet(sheet, *format, settings));
@@ -257,7 +257,7 @@ impl Shelf<'_> {
 }
 
 fn read_sheet(sheet: &OsStr, format: Option<Format>, settings: &Settings) -> Result<Sheet, Failure> {
-    sheet_file::read(sheet, format.unwrap_or_else(|| Format::of_name(sheet)), settings.labels()?.as_ref())
+    sheet_file::read(sheet, format.unwrap_or_else(|| Format::of_name(sheet)), settings.labels()?)
 }
 
 /// Writes a picture into a file, which is replaced only if it begins as such pictures do.
@@ -318,7 +318,9 @@ fn job(command: Command, arguments: &mut Arguments, settings: &Settings) -> Resu
         Command::Resize => Job::Resize { words: arguments.whole(0)? },
         Command::Import => {
             let format = arguments.parsed("--format", Format::parse)?;
-            Job::Import { slot: arguments.whole(0)?, sheet: arguments.word(1)?, format }
+            let (slot, sheet) = (arguments.whole(0)?, arguments.word(1)?);
+            settings.check_input(std::slice::from_ref(&sheet)).map_err(|message| arguments.wrong(message))?;
+            Job::Import { slot, sheet, format }
         }
         Command::Export => {
             let format = arguments.parsed("--format", Format::parse)?;
@@ -327,9 +329,7 @@ fn job(command: Command, arguments: &mut Arguments, settings: &Settings) -> Resu
         Command::Merge => {
             let format = arguments.parsed("--format", Format::parse)?;
             let (mask, sheets) = (arguments.whole_option("--mask")?, arguments.words_from(1));
-            if sheets.iter().filter(|sheet| *sheet == "-").count() > 1 {
-                return Err(arguments.wrong("standard input, which is -, can be read only once"));
-            }
+            settings.check_input(&sheets).map_err(|message| arguments.wrong(message))?;
             Job::Merge { slot: arguments.whole(0)?, sheets, mask, format }
         }
         Command::Copy => {
@@ -337,7 +337,11 @@ fn job(command: Command, arguments: &mut Arguments, settings: &Settings) -> Resu
         }
         Command::Convert => convert(arguments)?,
         Command::Print => Job::PrintSheet,
-        Command::Run => Job::Run { script: arguments.word(0)? },
+        Command::Run => {
+            let script = arguments.word(0)?;
+            settings.check_input(std::slice::from_ref(&script)).map_err(|message| arguments.wrong(message))?;
+            Job::Run { script }
+        }
         Command::Show => {
             let (svg, html) = (arguments.file_option("--svg"), arguments.file_option("--html"));
             match (svg.is_some() || html.is_some(), settings.json) {

@@ -124,3 +124,26 @@ fn names_for_a_treasurer() {
     folder.write("script", "show 0 --names names\n");
     assert!(error_text(&folder.run("run s script")).contains("--names is not for a line of a script"));
 }
+
+/// A pipe has its names only once. Without them the second sheet's row 2, by its name, would be no row, or another.
+#[test]
+fn names_from_a_pipe() {
+    let folder = house();
+    folder.write("a.csv", ",0,1\r\n0,1,\r\n2,,\r\n1,,\r\n");
+    folder.write("b.csv", ",0,1\r\n0,1,\r\n2,,9\r\n1,,\r\n");
+    folder.write("turned", "row 0 1\nrow 1 2\nrow 2 0\n");
+    folder.script("s", "lay 1 3 2\nlay 2 3 2\n");
+    folder.accept("merge s 1 a.csv b.csv --names turned");
+    for names in ["-", "/dev/stdin"] {
+        folder.accept("lay s 2 3 2");
+        let output = folder.shell(&format!("cat turned | ostrubel merge s 2 a.csv b.csv --names {names}"));
+        assert_eq!((output.status.code(), error_text(&output)), (Some(0), String::new()));
+        folder.prints("diff s 1 2", "no cell differs\n");
+    }
+    let shown = folder.shell("cat names | ostrubel set s 0 2 1 3 --dry-run --names -");
+    assert!(text(&shown).contains("medicine cupboard, Anna: 14053 -> 3"), "{}", text(&shown));
+    for line in ["import s 1 - --names - --format csv", "merge s 1 a.csv - --names -", "run s - --names -"] {
+        let message = folder.fails(line, 2);
+        assert!(message.contains("standard input, which is -, can be read only once"), "{message}");
+    }
+}
