@@ -2,10 +2,10 @@
 //!
 //! A file is never written in place. The new bytes go into a new file in the same folder, which is synced to the disk
 //! and then renamed over the old one, and the folder is synced: after a crash the file has the old bytes or the new
-//! ones. A failure before the renaming removes the new file. Permissions, access control lists and other extended
-//! attributes are kept, or nothing is saved; the owner is kept where the system allows it. A symbolic link is followed:
-//! the file that it leads to is replaced. A hard link's other names keep the old bytes. Programs that do not lock can
-//! replace the file too: just before the renaming it is looked up once more.
+//! ones. A failure before the renaming removes the new file. Owner, group, permissions, access control lists and other
+//! extended attributes are kept, or nothing is saved. A symbolic link is followed: the file that it leads to is
+//! replaced. A hard link's other names keep the old bytes. Programs that do not lock can replace the file too: just
+//! before the renaming it is looked up once more.
 
 use crate::failure::Failure;
 use crate::locked_file::{lock, names_file, LockedFile, Patience};
@@ -139,13 +139,16 @@ pub fn read_at_most(source: impl Read, most: usize) -> io::Result<Vec<u8>> {
     Ok(bytes)
 }
 
-/// Gives a new file the owner, the extended attributes and the permissions of the old one. The owner only where that is
-/// allowed. The permissions come last: with a list, those of the group say what the list may give at most.
+/// Gives a new file the owner, the group, the extended attributes and the permissions of the old one. The permissions
+/// come last: with a list, those of the group say what the list may give at most.
 fn keep_access(new: &File, old: &File) -> io::Result<()> {
     let (own, wanted) = (new.metadata()?, old.metadata()?);
     let (user, group) = (wanted.uid(), wanted.gid());
-    if (own.uid(), own.gid()) != (user, group) && fchown(new, Some(user), Some(group)).is_err() {
-        let _ = fchown(new, None, Some(group));
+    if (own.uid(), own.gid()) != (user, group) {
+        fchown(new, Some(user), Some(group)).map_err(|error| {
+            let owner = format!("the file's owner and group ({user}, {group})");
+            io::Error::new(error.kind(), format!("{owner} cannot be kept: {error}"))
+        })?;
     }
     keep_attributes(new, old)?;
     new.set_permissions(wanted.permissions())
