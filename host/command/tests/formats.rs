@@ -109,6 +109,23 @@ fn pictures_in_files() {
     assert!(folder.fails("show s 0 --svg x --json", 2).contains("one of them"));
 }
 
+/// A picture or a page of another program stays, though it begins as many do.
+#[test]
+fn pictures_of_others_stay() {
+    let folder = house();
+    let svg = "<svg xmlns=\"http://www.w3.org/2000/svg\" width=\"9\" height=\"9\"></svg>\n";
+    let html = "<!doctype html>\n<html lang=\"en\">\n<head>\n<title>a page</title>\n</head>\n</html>\n";
+    for (option, text) in [("--svg", svg), ("--html", html)] {
+        folder.write("other", text);
+        let message = folder.fails(&format!("show s 0 {option} other"), 3);
+        assert_eq!(message, "ostrubel: other: is there already and is no picture of a sheet, and stays as it is\n");
+        assert_eq!(folder.bytes("other"), text.as_bytes());
+        folder.accept(&format!("show s 0 {option} own"));
+        folder.accept(&format!("show s 0 {option} own"));
+        std::fs::remove_file(folder.path("own")).unwrap();
+    }
+}
+
 #[test]
 fn names_for_a_treasurer() {
     let folder = house();
