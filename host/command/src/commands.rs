@@ -187,8 +187,8 @@ impl Command {
 
     /// Whether it can write a file.
     pub fn writes(self) -> bool {
-        use Command::{Completions, Day, Diff, Doors, Help, List, Man, Print, Read, Reduce, Revision, Show};
-        !matches!(self, Revision | Read | Show | List | Reduce | Doors | Day | Diff | Print | Completions | Man | Help)
+        use Command::{Completions, Diff, Doors, Help, List, Man, Print, Read, Reduce, Revision};
+        !matches!(self, Revision | Read | List | Reduce | Doors | Diff | Print | Completions | Man | Help)
     }
 
     /// Whether it has rows, columns or places to call by their names.

@@ -8,7 +8,7 @@
 //! before the renaming it is looked up once more.
 
 use crate::failure::Failure;
-use crate::locked_file::{lock, names_file, LockedFile, Patience};
+use crate::locked_file::{lock, names_file, LockedFile, Saving};
 use crate::new_file::{remove_leftovers, NewFile};
 use crate::system;
 use crate::text::shown_path;
@@ -23,11 +23,12 @@ const REPLACED: &str = "was replaced meanwhile by another program, and stays as 
 /// Linux and macOS have this number for "operation not permitted", also where a file system has no hard links.
 const EPERM: i32 = 1;
 
-/// Whether anything has the name, be it a link that leads nowhere.
+/// Nothing has the name, be it a link that leads nowhere, and there is a folder for it.
 pub fn check_free(path: &Path) -> Result<(), Failure> {
-    match fs::symlink_metadata(path) {
-        Ok(_) => Err(Failure::io(path, THERE_ALREADY)),
-        Err(_) => Ok(()),
+    match (fs::symlink_metadata(path), fs::metadata(folder(path).join("."))) {
+        (Ok(_), _) => Err(Failure::io(path, THERE_ALREADY)),
+        (Err(_), Err(error)) => Err(not_made(path, &error)),
+        (Err(_), Ok(_)) => Ok(()),
     }
 }
 
@@ -110,26 +111,38 @@ pub fn replace(path: &Path, old: &LockedFile, bytes: &[u8]) -> Result<(), Failur
     Replacement::prepare(path, old, bytes)?.finish()
 }
 
-/// Puts bytes into a file: it has the old bytes or the new ones. Of a file that is there, `may_go` is asked about its
-/// bytes, of which at most `most` are read; where they may not go, `what` says what it is not.
+/// Puts the bytes that are made into a file: it has the old bytes or the new ones. A file that is there is locked
+/// before, and `may_go` is asked about its bytes, of which at most `most` are read; where they may not go, `what` says
+/// what it is not.
 pub fn write_over(
     path: &Path,
-    bytes: &[u8],
-    patience: Patience,
+    saving: Saving,
     (what, most): (&str, usize),
     may_go: impl FnOnce(&[u8]) -> bool,
+    make: impl FnOnce() -> Result<Vec<u8>, Failure>,
 ) -> Result<(), Failure> {
     if !path.is_symlink() && !path.exists() {
-        let new = NewFile::with_bytes(folder(path), 0o666, bytes).map_err(|error| not_made(path, &error))?;
-        new.file.sync_all().and_then(|()| new.rename(path)).map_err(|error| Failure::io(path, error))?;
-        return saved(path, path);
+        check_free(path)?;
+        let bytes = make()?;
+        return if saving.dry_run { Ok(()) } else { write_new(path, &bytes) };
     }
-    let old = LockedFile::open(path, patience).map_err(|error| Failure::io(path, error))?;
+    let old = LockedFile::open(path, saving).map_err(|error| Failure::io(path, error))?;
     let before = read_at_most(&old.file, most).map_err(|error| Failure::io(path, error))?;
     if !may_go(&before) {
         return Err(Failure::io(path, format!("is there already and is no {what}, and stays as it is")));
     }
-    replace(path, &old, bytes)
+    let bytes = make()?;
+    if saving.dry_run {
+        Ok(())
+    } else {
+        replace(path, &old, &bytes)
+    }
+}
+
+fn write_new(path: &Path, bytes: &[u8]) -> Result<(), Failure> {
+    let new = NewFile::with_bytes(folder(path), 0o666, bytes).map_err(|error| not_made(path, &error))?;
+    new.file.sync_all().and_then(|()| new.rename(path)).map_err(|error| Failure::io(path, error))?;
+    saved(path, path)
 }
 
 /// The bytes of a source to its end, but at most one more than `most`.
@@ -238,7 +251,7 @@ mod tests {
         fs::write(&path, "old").unwrap();
         system::set_attribute(&File::open(&path).unwrap(), &CString::new(name).unwrap(), value).ok()?;
         let mode = fs::metadata(&path).unwrap().permissions().mode();
-        let old = LockedFile::open(&path, None).unwrap();
+        let old = LockedFile::open(&path, Saving::default()).unwrap();
         let before = system::attributes(&old.file).unwrap();
         replace(&path, &old, b"new").unwrap();
         assert_eq!(fs::read(&path).unwrap(), b"new");
@@ -273,7 +286,7 @@ mod tests {
         let probe = folder.path("probe");
         fs::write(&probe, "").unwrap();
         assert_eq!(system::attributes(&File::open(&probe).unwrap()).unwrap().len(), 1);
-        replace(&path, &LockedFile::open(&path, None).unwrap(), b"new").unwrap();
+        replace(&path, &LockedFile::open(&path, Saving::default()).unwrap(), b"new").unwrap();
         assert_eq!(system::attributes(&File::open(&path).unwrap()).unwrap(), []);
     }
 }

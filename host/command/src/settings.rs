@@ -4,7 +4,7 @@ use crate::arguments::Arguments;
 use crate::commands::Command;
 use crate::failure::{Failure, Usage};
 use crate::labels::Labels;
-use crate::locked_file::Patience;
+use crate::locked_file::Saving;
 use crate::look::Look;
 use std::cell::OnceCell;
 use std::ffi::OsString;
@@ -14,9 +14,7 @@ use std::time::Duration;
 pub const NOT_FOR_LINES: [&str; 6] = ["--dry-run", "--wait", "--names", "--json", "--svg", "--html"];
 
 pub struct Settings {
-    /// Nothing is saved.
-    pub dry_run: bool,
-    pub patience: Patience,
+    pub saving: Saving,
     pub json: bool,
     names: Option<OsString>,
     /// What the file of names has. It is read once: a pipe is empty then.
@@ -28,9 +26,12 @@ impl Settings {
     pub fn take(command: Command, arguments: &mut Arguments) -> Result<Settings, Usage> {
         let options = command.options();
         let has = |name| options.contains(&name);
-        Ok(Settings {
+        let saving = Saving {
             dry_run: has("--dry-run") && arguments.flag("--dry-run"),
             patience: if has("--wait") { arguments.parsed("--wait", parse_seconds)? } else { None },
+        };
+        Ok(Settings {
+            saving,
             json: has("--json") && arguments.flag("--json"),
             names: if has("--names") { arguments.file_option("--names") } else { None },
             labels: OnceCell::new(),
@@ -50,6 +51,14 @@ impl Settings {
 
     pub fn look(&self) -> Result<Look, Failure> {
         Ok(Look::new(self.labels()?.cloned().unwrap_or_default(), self.json))
+    }
+
+    /// Nothing is written, so there are no options about it: they go with something else.
+    pub fn check_only_read(&self, with: &str) -> Result<(), String> {
+        if self.saving != Saving::default() {
+            return Err(format!("--dry-run and --wait go with {with}"));
+        }
+        Ok(())
     }
 
     /// Standard input, which is `-`, is read once: for the names, or for one of these files.

@@ -4,7 +4,7 @@ use crate::carry_out::counted;
 use crate::failure::Failure;
 use crate::format::Format;
 use crate::labels::Labels;
-use crate::locked_file::{LockedFile, Patience};
+use crate::locked_file::{LockedFile, Saving};
 use crate::merge::Sheet;
 use crate::output::Output;
 use crate::replacing::{read_at_most, write_over, Replacement};
@@ -44,8 +44,8 @@ pub struct LockedSheet<'a> {
 
 impl<'a> LockedSheet<'a> {
     /// The sheets of two files.
-    pub fn open_both(first: &'a OsStr, second: &'a OsStr, patience: Patience) -> Result<[Self; 2], Failure> {
-        let [one, other] = LockedFile::open_both(Path::new(first), Path::new(second), patience)?;
+    pub fn open_both(first: &'a OsStr, second: &'a OsStr, saving: Saving) -> Result<[Self; 2], Failure> {
+        let [one, other] = LockedFile::open_both(Path::new(first), Path::new(second), saving)?;
         Ok([LockedSheet::read(first, one)?, LockedSheet::read(second, other)?])
     }
 
@@ -61,8 +61,8 @@ impl<'a> LockedSheet<'a> {
         Replacement::prepare(self.path, &self.file, &self.format.write(&self.matrix, None))
     }
 
-    pub fn described(&self) -> String {
-        format!("{}: {}", shown_path(self.path), described(&self.matrix))
+    pub fn name(&self) -> String {
+        shown_path(self.path)
     }
 }
 
@@ -71,15 +71,20 @@ pub struct Target<'a> {
     /// A file, or standard output where the name is `-`.
     pub name: &'a OsStr,
     pub format: Format,
-    pub patience: Patience,
-    pub dry_run: bool,
+    pub saving: Saving,
 }
 
 impl Target<'_> {
-    /// Writes the matrix. Only a file of the same format is replaced. Whether a file was written.
-    pub fn write(&self, matrix: &Matrix, labels: Option<&Labels>, output: &mut Output) -> Result<bool, Failure> {
-        let bytes = self.format.write(matrix, labels);
+    /// Writes the matrix that is made, while a file that is there is locked. Only one of the same format is replaced.
+    /// Whether a file was written.
+    pub fn write(
+        &self,
+        labels: Option<&Labels>,
+        output: &mut Output,
+        make: impl FnOnce() -> Result<Matrix, Failure>,
+    ) -> Result<bool, Failure> {
         if self.name == "-" {
+            let bytes = self.format.write(&make()?, labels);
             if self.format == Format::Sheet && io::stdout().is_terminal() {
                 return Err(Failure::Io(
                     "a sheet file is not for a terminal; name a file, or --format csv".to_string(),
@@ -88,16 +93,14 @@ impl Target<'_> {
             output.add(&bytes);
             return Ok(false);
         }
-        let path = Path::new(self.name);
-        let described = format!("{}: {}", shown_path(path), described(matrix));
-        if self.dry_run {
-            output.print(&format!("{described}\na dry run: nothing was saved"));
-            return Ok(false);
-        }
-        let kind = (self.format.title(), self.format.longest());
-        write_over(path, &bytes, self.patience, kind, |before| self.format.read("", before, labels).is_ok())?;
-        output.print(&described);
-        Ok(true)
+        let (path, kind) = (Path::new(self.name), (self.format.title(), self.format.longest()));
+        let is_one = |before: &[u8]| self.format.read("", before, labels).is_ok();
+        write_over(path, self.saving, kind, is_one, || {
+            let matrix = make()?;
+            output.print(&format!("{}: {}", shown_path(path), described(&matrix)));
+            Ok(self.format.write(&matrix, labels))
+        })?;
+        Ok(self.saving.saves(output))
     }
 }
 

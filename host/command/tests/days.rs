@@ -46,6 +46,7 @@ fn refusals_change_no_file() {
     folder.fails("day", 2);
     folder.fails("day fold base day marks", 2);
     folder.fails("day mend base", 2);
+    assert!(folder.fails("day fold base - - out", 2).contains("can be read only once"));
     assert_eq!((folder.state("day"), folder.state("marks")), before);
 }
 
@@ -104,6 +105,36 @@ fn one_file_is_not_two() {
         assert_eq!(folder.fails(line, 3), format!("ostrubel: {name}: is the same file as day\n"));
     }
     assert_eq!(folder.state("day"), before);
+}
+
+#[test]
+fn dry_runs_and_waiting() {
+    let folder = site();
+    folder.accept("day rewrite day marks 2 new");
+    let before = (folder.state("day"), folder.state("marks"), folder.names());
+    folder.prints(
+        "day rewrite day marks 1 new --dry-run",
+        "day: 1 cell would change\n  row 1, column 1: empty -> 21\nmarks: 1 cell would change\n  \
+         row 0, column 1: empty -> 1\na dry run: nothing was saved\n",
+    );
+    folder.prints(
+        "day back day marks 2 --dry-run",
+        "marks: 1 cell would change\n  row 0, column 2: 1 -> empty\nday: 1 cell would change\n  \
+         row 2, column 1: 21 -> empty\na dry run: nothing was saved\n",
+    );
+    folder.prints("day fold base day marks out --dry-run", "out: 3 by 2, 3 entries\na dry run: nothing was saved\n");
+    assert!(folder.fails("day rewrite day marks 3 new --dry-run", 1).starts_with("refused (7)"));
+    assert!(folder.fails("day fold base day marks s --dry-run", 3).contains("is no sheet file"));
+    assert_eq!((folder.state("day"), folder.state("marks"), folder.names()), before);
+    let held = fs::File::open(folder.path("marks")).unwrap();
+    held.lock().unwrap();
+    for line in ["day rewrite day marks 1 new", "day back day marks 2", "day fold base day marks marks"] {
+        let message = folder.fails(&format!("{line} --wait 0"), 3);
+        assert!(message.starts_with("ostrubel: marks: another command has it, and 0 s of waiting"), "{message}");
+    }
+    for line in ["day read base day marks 0 0 --dry-run", "day show base day marks 0 --wait 1"] {
+        assert!(folder.fails(line, 2).contains("--dry-run and --wait go with rewrite, back and fold"));
+    }
 }
 
 /// Where the second file cannot be saved, the first is not either.
