@@ -58,7 +58,7 @@ impl<'a> LockedSheet<'a> {
 
     /// The matrix as it is now, for the file.
     pub fn replacement(&self) -> Result<Replacement<'_>, Failure> {
-        Replacement::prepare(self.path, &self.file, &self.format.write(&self.matrix, None))
+        Replacement::prepare(self.path, &self.file, &self.format.write(&self.matrix, None)?)
     }
 
     pub fn name(&self) -> String {
@@ -84,7 +84,7 @@ impl Target<'_> {
         make: impl FnOnce() -> Result<Matrix, Failure>,
     ) -> Result<bool, Failure> {
         if self.name == "-" {
-            let bytes = self.format.write(&make()?, labels);
+            let bytes = self.format.write(&make()?, labels)?;
             if self.format == Format::Sheet && io::stdout().is_terminal() {
                 return Err(Failure::Io(
                     "a sheet file is not for a terminal; name a file, or --format csv".to_string(),
@@ -94,12 +94,17 @@ impl Target<'_> {
             return Ok(false);
         }
         let (path, kind) = (Path::new(self.name), (self.format.title(), self.format.longest()));
-        let is_one = |before: &[u8]| self.format.read("", before, labels).is_ok();
-        write_over(path, self.saving, kind, is_one, || {
-            let matrix = make()?;
-            output.print(&format!("{}: {}", shown_path(path), described(&matrix)));
-            Ok(self.format.write(&matrix, labels))
-        })?;
+        write_over(
+            path,
+            self.saving,
+            kind,
+            |before| self.format.is_of(before),
+            || {
+                let matrix = make()?;
+                output.print(&format!("{}: {}", shown_path(path), described(&matrix)));
+                self.format.write(&matrix, labels)
+            },
+        )?;
         Ok(self.saving.saves(output))
     }
 }

@@ -35,6 +35,55 @@ fn csv_and_matrix_market_out_and_in_again() {
     assert_eq!((text(&output).as_str(), error_text(&output).as_str()), ("place 4: 3 by 2, 2 entries\n", ""));
 }
 
+/// What is written with names is read with them as the same sheet, or is not written.
+#[test]
+fn names_that_are_no_heads() {
+    let folder = house();
+    for (names, head, what) in
+        [("row 0 1\n", "1", "row"), ("row 0 a\nrow 1 a\n", "a", "row"), ("column 9 0\n", "0", "column")]
+    {
+        folder.write("other", names);
+        let message = folder.fails("export s 0 a.csv --names other", 3);
+        let reason = format!("{head:?} would stand for more than one {what}; nothing was written");
+        assert_eq!(message, format!("ostrubel: a CSV file cannot have these names: {reason}\n"));
+        assert_eq!(folder.fails("export s 0 a.csv --names other --dry-run", 3), message);
+        assert!(!folder.names().contains(&"a.csv".to_string()));
+        folder.accept("export s 0 - --format mtx --names other");
+    }
+    folder.write("other", "row 0 one\nrow 1 +1\nrow 2 0.5\ncolumn 1 1\n");
+    folder.accept("export s 0 a.csv --names other");
+    folder.accept("import s 1 a.csv --names other");
+    folder.prints("diff s 0 1", "no cell differs\n");
+}
+
+/// One's own table is replaced, whether it has names or not, and whichever they are.
+#[test]
+fn tables_with_and_without_names() {
+    let folder = house();
+    folder.write("other", "row 0 kitchen\ncolumn 0 Bert\n");
+    for options in ["", " --names names", " --names other", "", " --names names"] {
+        folder.accept(&format!("export s 0 a.csv{options}"));
+        folder.accept(&format!("import s 1 a.csv{options}"));
+        folder.prints("diff s 0 1", "no cell differs\n");
+    }
+    for text in ["a,b\n1,2\n", ",Anna\nhall,red\n", ""] {
+        folder.write("b.csv", text);
+        assert!(folder.fails("export s 0 b.csv", 3).contains("is no CSV file"), "{text}");
+    }
+}
+
+/// Lines and commas without end are not kept.
+#[test]
+fn a_table_past_the_limits() {
+    let folder = house();
+    for sign in ["\n", ","] {
+        folder.write("long.csv", sign.repeat(1 << 24));
+        let output = folder.shell("ulimit -v 400000; ostrubel import s 1 long.csv");
+        let message = "ostrubel: long.csv is no CSV file: a sheet has 1 to 1000 rows and 1 to 1000 columns\n";
+        assert_eq!((output.status.code(), error_text(&output).as_str()), (Some(3), message));
+    }
+}
+
 /// A file of another kind is neither read nor replaced.
 #[test]
 fn files_of_other_formats() {
