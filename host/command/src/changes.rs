@@ -6,6 +6,9 @@ use crate::sheet_file::described;
 use ostrubel::{Matrix, Store, SLOTS};
 use std::collections::{BTreeMap, BTreeSet};
 
+/// What a dry run ends with.
+pub const DRY_RUN: &str = "a dry run: nothing was saved";
+
 /// A cell with its value before and after, where it has one.
 #[derive(Clone, Copy, Debug, PartialEq, Eq)]
 pub struct Change {
@@ -45,10 +48,7 @@ pub fn of_store(before: &Store, after: &Store, look: &Look) -> String {
         if old == new {
             continue;
         }
-        let changes = between(old.as_ref(), new.as_ref());
-        let count = counted(changes.len(), "cell", "cells");
-        text.push(format!("{}: {}{count} would change", look.labels.place_head(slot), reshaped(&old, &new)));
-        text.extend(lines(&changes, look));
+        text.extend(of_sheet(&look.labels.place_head(slot), old.as_ref(), new.as_ref(), look));
     }
     if before.words().len() != after.words().len() {
         text.push(format!("the shelf: {} words -> {} words", before.words().len(), after.words().len()));
@@ -56,14 +56,23 @@ pub fn of_store(before: &Store, after: &Store, look: &Look) -> String {
     if text.is_empty() {
         text.push("no cell would change".to_string());
     }
-    text.push("a dry run: nothing was saved".to_string());
+    text.push(DRY_RUN.to_string());
     text.join("\n")
 }
 
+/// How many cells of a sheet would change, and a line for each.
+pub fn of_sheet(name: &str, old: Option<&Matrix>, new: Option<&Matrix>, look: &Look) -> Vec<String> {
+    let changes = between(old, new);
+    let count = counted(changes.len(), "cell", "cells");
+    let mut text = vec![format!("{name}: {}{count} would change", reshaped(old, new))];
+    text.extend(lines(&changes, look));
+    text
+}
+
 /// The sheets before and after, where the shape is another.
-fn reshaped(old: &Option<Matrix>, new: &Option<Matrix>) -> String {
-    let shape = |matrix: &Option<Matrix>| matrix.as_ref().map(|matrix| (matrix.rows(), matrix.cols()));
-    let text = |matrix: &Option<Matrix>| matrix.as_ref().map_or_else(|| "empty".to_string(), described);
+fn reshaped(old: Option<&Matrix>, new: Option<&Matrix>) -> String {
+    let shape = |matrix: Option<&Matrix>| matrix.map(|matrix| (matrix.rows(), matrix.cols()));
+    let text = |matrix: Option<&Matrix>| matrix.map_or_else(|| "empty".to_string(), described);
     if shape(old) == shape(new) {
         String::new()
     } else {

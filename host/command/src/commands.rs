@@ -174,7 +174,7 @@ impl Command {
             _ => Vec::new(),
         };
         if self.is_operation() {
-            options.extend(WRITE_BACK);
+            options.extend(WRITE_BACK.into_iter().filter(|option| self.has_input_for(option)));
         }
         if self.writes() {
             options.extend(["--dry-run", "--wait"]);
@@ -185,10 +185,20 @@ impl Command {
         options
     }
 
+    /// Whether an option of all operations has an input to act on.
+    fn has_input_for(self, option: &str) -> bool {
+        use Command::{Apply, Assign, Extract, ReduceRows, Select, Vxm};
+        match option {
+            "--transpose-a" => self != Vxm,
+            "--transpose-b" => !matches!(self, Apply | Extract | Select | ReduceRows | Assign),
+            _ => true,
+        }
+    }
+
     /// Whether it can write a file.
     pub fn writes(self) -> bool {
-        use Command::{Completions, Day, Diff, Doors, Help, List, Man, Print, Read, Reduce, Revision, Show};
-        !matches!(self, Revision | Read | Show | List | Reduce | Doors | Day | Diff | Print | Completions | Man | Help)
+        use Command::{Completions, Diff, Doors, Help, List, Man, Print, Read, Reduce, Revision};
+        !matches!(self, Revision | Read | List | Reduce | Doors | Diff | Print | Completions | Man | Help)
     }
 
     /// Whether it has rows, columns or places to call by their names.

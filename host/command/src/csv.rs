@@ -5,8 +5,13 @@ use crate::labels::Labels;
 use ostrubel::{Error, Matrix, MAX_COLS, MAX_ROWS};
 use std::collections::BTreeMap;
 
-/// The text of a sheet. Heads are written where `labels` are given.
-pub fn write(matrix: &Matrix, labels: Option<&Labels>) -> String {
+/// The text of a sheet. Heads are written where `labels` are given; where they would be read as other rows or columns,
+/// there is no text.
+pub fn write(matrix: &Matrix, labels: Option<&Labels>) -> Result<String, String> {
+    if let Some(labels) = labels {
+        check_heads(matrix.rows(), "row", MAX_ROWS, |row| labels.row(row))?;
+        check_heads(matrix.cols(), "column", MAX_COLS, |col| labels.col(col))?;
+    }
     let mut values: BTreeMap<(u32, u32), i32> = matrix.iter().map(|(row, col, value)| ((row, col), value)).collect();
     let mut text = String::new();
     if let Some(labels) = labels {
@@ -19,7 +24,30 @@ pub fn write(matrix: &Matrix, labels: Option<&Labels>) -> String {
             (0..matrix.cols()).map(|col| values.remove(&(row, col)).map_or_else(String::new, |v| v.to_string()));
         push_line(&mut text, head.into_iter().chain(cells));
     }
-    text
+    Ok(text)
+}
+
+/// Each head says the row or column that it is written for.
+fn check_heads<'a>(count: u32, what: &str, limit: u32, name: impl Fn(u32) -> Option<&'a str>) -> Result<(), String> {
+    for number in 0..count {
+        let head = name(number).map_or_else(|| number.to_string(), String::from);
+        if places([&head].into_iter(), what, limit, &name) != Ok(vec![number]) {
+            return Err(format!("{head:?} would stand for more than one {what}"));
+        }
+    }
+    Ok(())
+}
+
+/// Whether a text is a table as they are written, with whatever heads or without.
+pub fn is_table(text: &str) -> bool {
+    let Ok(lines) = split(text.strip_prefix('\u{feff}').unwrap_or(text)) else {
+        return false;
+    };
+    let is_value = |field: &String| field.trim().is_empty() || field.trim().parse::<i32>().is_ok();
+    let are_values = |front| lines.iter().skip(front).all(|line| line.iter().skip(front).all(is_value));
+    let has_heads = lines.len() > 1 && lines[0].len() > 1 && lines[0][0].is_empty();
+    let is_even = lines.iter().all(|line| line.len() == lines[0].len());
+    !lines.is_empty() && is_even && (are_values(0) || has_heads && are_values(1))
 }
 
 fn push_line(text: &mut String, fields: impl Iterator<Item = String>) {
@@ -57,9 +85,13 @@ pub fn read(text: &str, labels: Option<&Labels>) -> Result<Matrix, String> {
     }
     let count = |numbers: &[u32]| numbers.iter().max().map_or(0, |last| last + 1);
     Matrix::from_triples(count(&rows), count(&cols), entries).map_err(|error| match error {
-        Error::InvalidShape => format!("a sheet has 1 to {MAX_ROWS} rows and 1 to {MAX_COLS} columns"),
+        Error::InvalidShape => limits(),
         _ => error.to_string(),
     })
+}
+
+fn limits() -> String {
+    format!("a sheet has 1 to {MAX_ROWS} rows and 1 to {MAX_COLS} columns")
 }
 
 fn numbers(count: usize) -> Vec<u32> {
@@ -107,7 +139,8 @@ fn places<'a, 'b>(
     Ok(places)
 }
 
-/// The fields of each line. A field may be quoted, and then have commas, line breaks and doubled quotes in it.
+/// The fields of each line, with one for heads. A field may be quoted, and then have commas, line breaks and doubled
+/// quotes in it.
 fn split(text: &str) -> Result<Vec<Vec<String>>, String> {
     let (mut lines, mut line, mut field) = (Vec::new(), Vec::new(), String::new());
     let (mut is_quoted, mut was_quoted) = (false, false);
@@ -121,12 +154,18 @@ fn split(text: &str) -> Result<Vec<Vec<String>>, String> {
             ',' => {
                 line.push(std::mem::take(&mut field));
                 was_quoted = false;
+                if line.len() > MAX_COLS as usize {
+                    return Err(limits());
+                }
             }
             '\r' if chars.peek() == Some(&'\n') => {}
             '\n' => {
                 line.push(std::mem::take(&mut field));
                 lines.push(std::mem::take(&mut line));
                 was_quoted = false;
+                if lines.len() > MAX_ROWS as usize + 1 {
+                    return Err(limits());
+                }
             }
             _ if was_quoted => return Err(format!("line {}: a quoted field goes on after its end", lines.len() + 1)),
             _ => field.push(c),
@@ -156,14 +195,42 @@ mod tests {
 
     #[test]
     fn out_and_in_again() {
-        assert_eq!(write(&sheet(), None), "-5,\r\n,\r\n,0\r\n");
-        assert_eq!(read(&write(&sheet(), None), None), Ok(sheet()));
+        assert_eq!(write(&sheet(), None).unwrap(), "-5,\r\n,\r\n,0\r\n");
+        assert_eq!(read(&write(&sheet(), None).unwrap(), None), Ok(sheet()));
         let named = ",Anna,1\r\n0,-5,\r\n1,,\r\n\"hall, \"\"north\"\"\",,0\r\n";
-        assert_eq!(write(&sheet(), Some(&labels())), named);
+        assert_eq!(write(&sheet(), Some(&labels())).unwrap(), named);
         assert_eq!(read(named, Some(&labels())), Ok(sheet()));
         let turned = "\u{feff},1,Anna\n\"hall, \"\"north\"\"\",0,\n1, ,\n0,,-5";
         assert_eq!(read(turned, Some(&labels())), Ok(sheet()));
         assert_eq!(read("\n", None), Matrix::new(1, 1).map_err(|_| String::new()));
+    }
+
+    /// Whatever the names are, what is written is read as the same sheet.
+    #[test]
+    fn heads_that_say_their_row_and_column() {
+        let names = ["0", "1", "2", "3", "a", "b", "+1", "01", "\"", ",", " x ", "-5"];
+        for one in names {
+            for other in names {
+                let labels = format!("row 0 {one}\nrow 2 {other}\nrow 3 1\ncolumn 1 {one}\ncolumn 7 {other}");
+                let labels = Labels::parse(&labels).unwrap();
+                match write(&sheet(), Some(&labels)) {
+                    Ok(text) => assert_eq!(read(&text, Some(&labels)), Ok(sheet()), "{text}"),
+                    Err(reason) => assert!(reason.contains("would stand for more than one"), "{reason}"),
+                }
+            }
+        }
+        let twice = Labels::parse("row 0 a\nrow 1 a").unwrap();
+        assert_eq!(write(&sheet(), Some(&twice)).unwrap_err(), "\"a\" would stand for more than one row");
+    }
+
+    #[test]
+    fn tables() {
+        for text in ["1,2\r\n,\r\n", "\n", ",Anna,Bert\r\n0,1,2\r\nhall,,-3\r\n", ",0\n0,\n"] {
+            assert!(is_table(text), "{text}");
+        }
+        for text in ["", "a\n", "a,b\n1,2\n", ",a\n", "1,2\n3\n", ",a\nb,c\n", "\"1", &"\n".repeat(1002)] {
+            assert!(!is_table(text), "{text}");
+        }
     }
 
     #[test]
@@ -176,6 +243,8 @@ mod tests {
             ("1.5\n", "line 1: \"1.5\" is no whole number of 32 bits"),
             ("1,\"2\n", "line 1: a quoted field has no end"),
             ("\"1\"2\n", "line 1: a quoted field goes on after its end"),
+            (&"\n".repeat(1 << 24), "a sheet has 1 to 1000 rows and 1 to 1000 columns"),
+            (&",".repeat(1 << 24), "a sheet has 1 to 1000 rows and 1 to 1000 columns"),
         ] {
             assert_eq!(read(text, None).unwrap_err(), reason, "{text}");
         }

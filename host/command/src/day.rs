@@ -1,12 +1,14 @@
 //! Rows of a sheet that are rewritten for a day, in sheet files.
 
 use crate::carry_out::counted;
+use crate::changes;
 use crate::failure::{Failure, Usage};
 use crate::format::Format;
 use crate::names::Whole;
 use crate::output::Output;
 use crate::refusal::Refusal;
-use crate::sheet_file::{self, Target};
+use crate::settings::Settings;
+use crate::sheet_file::{self, LockedSheet, Target};
 use ostrubel::{DayOver, Error, Matrix, Section};
 use std::ffi::{OsStr, OsString};
 
@@ -31,10 +33,11 @@ impl Day {
     /// By the words after `day`.
     pub fn parse(words: &[OsString]) -> Result<Day, Usage> {
         let (action, words) = words.split_first().ok_or_else(|| wrong("day: rewrite, back, read, show or fold"))?;
-        let files = |base: &OsString, day: &OsString, marks: &OsString| Files {
-            base: base.clone(),
-            day: day.clone(),
-            marks: marks.clone(),
+        let files = |base: &OsString, day: &OsString, marks: &OsString| {
+            if [base, day, marks].iter().filter(|sheet| **sheet == "-").count() > 1 {
+                return Err(wrong("day: standard input, which is -, can be read only once"));
+            }
+            Ok(Files { base: base.clone(), day: day.clone(), marks: marks.clone() })
         };
         match (action.to_str().unwrap_or_default(), words) {
             ("rewrite", [day, marks, row, new]) => {
@@ -42,10 +45,10 @@ impl Day {
             }
             ("back", [day, marks, row]) => Ok(Day::Back { day: day.clone(), marks: marks.clone(), row: whole(row)? }),
             ("read", [base, day, marks, row, col]) => {
-                Ok(Day::Read { files: files(base, day, marks), row: whole(row)?, col: whole(col)? })
+                Ok(Day::Read { files: files(base, day, marks)?, row: whole(row)?, col: whole(col)? })
             }
-            ("show", [base, day, marks, row]) => Ok(Day::Show { files: files(base, day, marks), row: whole(row)? }),
-            ("fold", [base, day, marks, out]) => Ok(Day::Fold { files: files(base, day, marks), out: out.clone() }),
+            ("show", [base, day, marks, row]) => Ok(Day::Show { files: files(base, day, marks)?, row: whole(row)? }),
+            ("fold", [base, day, marks, out]) => Ok(Day::Fold { files: files(base, day, marks)?, out: out.clone() }),
             ("rewrite", _) => Err(wrong("day rewrite DAY MARKS ROW NEW")),
             ("back", _) => Err(wrong("day back DAY MARKS ROW")),
             ("read", _) => Err(wrong("day read BASE DAY MARKS ROW COL")),
@@ -55,22 +58,24 @@ impl Day {
         }
     }
 
+    /// Whether it can write a file.
+    pub fn writes(&self) -> bool {
+        !matches!(self, Day::Read { .. } | Day::Show { .. })
+    }
+
     /// Whether a file was written.
-    pub fn carry_out(&self, output: &mut Output) -> Result<bool, Failure> {
+    pub fn carry_out(&self, settings: &Settings, output: &mut Output) -> Result<bool, Failure> {
         match self {
             Day::Rewrite { day, marks, row, new } => {
-                let (mut rows, mut marked, new) = (read(day)?, read(marks)?, read(new)?);
-                rows.rewrite_row(&mut marked, row.index(), &new).map_err(refused)?;
+                let new = read(new)?;
                 // Rows first: until it is marked, a row is not shown.
-                write(day, &rows, output)?;
-                write(marks, &marked, output)
+                change([day, marks], false, settings, output, |rows, marked| {
+                    rows.rewrite_row(marked, row.index(), &new)
+                })
             }
             Day::Back { day, marks, row } => {
-                let (mut rows, mut marked) = (read(day)?, read(marks)?);
-                rows.take_row_back(&mut marked, row.index()).map_err(refused)?;
                 // Marks first: a row without a mark is not shown.
-                write(marks, &marked, output)?;
-                write(day, &rows, output)
+                change([day, marks], true, settings, output, |rows, marked| rows.take_row_back(marked, row.index()))
             }
             Day::Read { files, row, col } => {
                 let base = read(&files.base)?;
@@ -91,9 +96,8 @@ impl Day {
                 Ok(false)
             }
             Day::Fold { files, out } => {
-                let base = read(&files.base)?;
-                let folded = files.over(&base)?.fold().map_err(refused)?;
-                write(out, &folded, output)
+                let target = Target { name: out, format: Format::of_name(out), saving: settings.saving };
+                target.write(None, output, || files.over(&read(&files.base)?)?.fold().map_err(refused))
             }
         }
     }
@@ -122,6 +126,34 @@ fn read(sheet: &OsStr) -> Result<Matrix, Failure> {
     Ok(sheet_file::read(sheet, Format::of_name(sheet), None)?.matrix)
 }
 
-fn write(name: &OsStr, matrix: &Matrix, output: &mut Output) -> Result<bool, Failure> {
-    Target { name, format: Format::of_name(name), patience: None, dry_run: false }.write(matrix, None, output)
+/// Changes the rows and their marks, and saves both when the bytes of both are on the disk.
+fn change<T>(
+    [day, marks]: [&OsStr; 2],
+    marks_first: bool,
+    settings: &Settings,
+    output: &mut Output,
+    work: impl FnOnce(&mut Matrix, &mut Matrix) -> Result<T, Error>,
+) -> Result<bool, Failure> {
+    let mut sheets = LockedSheet::open_both(day, marks, settings.saving)?;
+    let mut before = sheets.each_ref().map(|sheet| sheet.matrix.clone());
+    let [rows, marked] = &mut sheets;
+    work(&mut rows.matrix, &mut marked.matrix).map_err(refused)?;
+    if marks_first {
+        sheets.reverse();
+        before.reverse();
+    }
+    if settings.saving.dry_run {
+        let look = settings.look()?;
+        for (before, sheet) in before.iter().zip(&sheets) {
+            let lines = changes::of_sheet(&sheet.name(), Some(before), Some(&sheet.matrix), &look);
+            output.show(&lines.join("\n"));
+        }
+    } else {
+        let replacements = [sheets[0].replacement()?, sheets[1].replacement()?];
+        for (sheet, replacement) in sheets.iter().zip(replacements) {
+            replacement.finish()?;
+            output.print(&format!("{}: {}", sheet.name(), sheet_file::described(&sheet.matrix)));
+        }
+    }
+    Ok(settings.saving.saves(output))
 }

@@ -13,8 +13,10 @@ const LINE: usize = 24;
 /// A page of HTML has a table of the cells up to so many of them, and else a list of the entries.
 const MAX_TABLE: usize = 20_000;
 
-pub const SVG_FRONT: &str = "<svg xmlns=\"http://www.w3.org/2000/svg\"";
-pub const HTML_FRONT: &str = "<!doctype html>\n<html lang=\"en\">\n";
+/// What a picture begins with, its maker's name included: only such a file is replaced by another.
+pub const SVG_FRONT: &str = "<svg xmlns=\"http://www.w3.org/2000/svg\" data-generator=\"ostrubel\"";
+pub const HTML_FRONT: &str =
+    "<!doctype html>\n<html lang=\"en\">\n<head>\n<meta name=\"generator\" content=\"ostrubel\">\n";
 
 /// Text for XML and HTML. A control character, which they have no place for, is shown as a replacement character.
 fn escaped(text: &str) -> String {
@@ -101,7 +103,7 @@ pub fn html(matrix: &Matrix, title: &str, labels: &Labels) -> String {
         entries(matrix, labels)
     };
     format!(
-        "{HTML_FRONT}<head>\n<meta charset=\"utf-8\">\n<meta name=\"viewport\" content=\"width=device-width\">\n\
+        "{HTML_FRONT}<meta charset=\"utf-8\">\n<meta name=\"viewport\" content=\"width=device-width\">\n\
          <title>{title}</title>\n<style>\nbody {{ font-family: sans-serif; }}\n\
          table {{ border-collapse: collapse; }}\ncaption {{ text-align: left; padding: 0.5em 0; }}\n\
          th, td {{ border: 1px solid #bbb; padding: 0.2em 0.6em; text-align: right; }}\nth {{ background: #eee; }}\n\

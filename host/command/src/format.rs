@@ -59,11 +59,21 @@ impl Format {
         }
     }
 
-    pub fn write(self, matrix: &Matrix, labels: Option<&Labels>) -> Vec<u8> {
-        match self {
+    pub fn write(self, matrix: &Matrix, labels: Option<&Labels>) -> Result<Vec<u8>, Failure> {
+        let not_named =
+            |reason| Failure::Io(format!("a CSV file cannot have these names: {reason}; nothing was written"));
+        Ok(match self {
             Format::Sheet => matrix.to_bytes(),
-            Format::Csv => csv::write(matrix, labels).into_bytes(),
+            Format::Csv => csv::write(matrix, labels).map_err(not_named)?.into_bytes(),
             Format::MatrixMarket => matrix_market::write(matrix).into_bytes(),
+        })
+    }
+
+    /// Whether the bytes are a file of it, with whatever names.
+    pub fn is_of(self, bytes: &[u8]) -> bool {
+        match (self, std::str::from_utf8(bytes)) {
+            (Format::Csv, Ok(text)) => bytes.len() <= MAX_TEXT && csv::is_table(text),
+            _ => self.read("", bytes, None).is_ok(),
         }
     }
 

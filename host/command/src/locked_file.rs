@@ -3,9 +3,12 @@
 //! A command that can write holds an exclusive lock (`File::lock`) on the file itself from before it reads until it has
 //! renamed. A waiting command then holds the lock of a file that has been replaced: it compares the file that it locked
 //! with the one that the path names now, and begins anew where they differ. So no update is lost, and no lock file is
-//! left. A command that only reads needs no lock, since the file that it has opened is never written again.
+//! left. A command that only reads needs no lock, since the file that it has opened is never written again. Two files
+//! are locked in the order of their paths, so that no two commands wait for each other.
 
-use crate::output::complain;
+use crate::changes::DRY_RUN;
+use crate::failure::Failure;
+use crate::output::{complain, Output};
 use crate::text::shown_path;
 use std::fs::{self, File, Metadata, OpenOptions, TryLockError};
 use std::io::{self, ErrorKind};
@@ -18,11 +21,29 @@ use std::time::{Duration, Instant};
 /// How long a command waits for the lock; without a limit for ever.
 pub type Patience = Option<Duration>;
 
+/// How a file is saved.
+#[derive(Clone, Copy, Debug, Default, PartialEq, Eq)]
+pub struct Saving {
+    pub patience: Patience,
+    /// Nothing is saved, and nothing is locked.
+    pub dry_run: bool,
+}
+
 /// Waiting that takes longer is told.
 const SHORT: Duration = Duration::from_secs(1);
 
+impl Saving {
+    /// Whether something is saved; of a dry run it is told that nothing is.
+    pub fn saves(self, output: &mut Output) -> bool {
+        if self.dry_run {
+            output.print(DRY_RUN);
+        }
+        !self.dry_run
+    }
+}
+
 pub struct LockedFile {
-    /// Open, and locked until it is closed.
+    /// Open, and locked until it is closed; in a dry run only open.
     pub file: File,
     /// Where it is, with no symbolic link in it.
     pub target: PathBuf,
@@ -30,15 +51,38 @@ pub struct LockedFile {
 
 impl LockedFile {
     /// Waits for the lock. Opening the file for writing, though it is not written, has a read-only file refused.
-    pub fn open(path: &Path, patience: Patience) -> io::Result<LockedFile> {
-        let mut waiting = Waiting { path, begin: Instant::now(), patience, told: false };
+    pub fn open(path: &Path, saving: Saving) -> io::Result<LockedFile> {
+        let mut waiting = Waiting { path, begin: Instant::now(), patience: saving.patience, told: false };
         loop {
             let target = fs::canonicalize(path)?;
             let file = open_regular(&target, OpenOptions::new().read(true).write(true))?;
+            if saving.dry_run {
+                return Ok(LockedFile { file, target });
+            }
             waiting.lock(&file)?;
             if names_file(&target, &file)? {
                 return Ok(LockedFile { file, target });
             }
+        }
+    }
+
+    /// Two files, whichever is named first. One file by two names is refused: its second lock would wait for its first.
+    pub fn open_both(first: &Path, second: &Path, saving: Saving) -> Result<[LockedFile; 2], Failure> {
+        let open = |path| LockedFile::open(path, saving).map_err(|error| Failure::io(path, error));
+        let found = |path| -> Result<_, Failure> {
+            let named = fs::canonicalize(path).and_then(|target| Ok((fs::metadata(path)?, target)));
+            let (about, target) = named.map_err(|error| Failure::io(path, error))?;
+            Ok(((about.dev(), about.ino()), target))
+        };
+        let ((one, front), (other, behind)) = (found(first)?, found(second)?);
+        if one == other {
+            return Err(Failure::io(second, format!("is the same file as {}", shown_path(first))));
+        }
+        if front < behind {
+            Ok([open(first)?, open(second)?])
+        } else {
+            let second = open(second)?;
+            Ok([open(first)?, second])
         }
     }
 }

@@ -2,13 +2,13 @@
 //!
 //! A file is never written in place. The new bytes go into a new file in the same folder, which is synced to the disk
 //! and then renamed over the old one, and the folder is synced: after a crash the file has the old bytes or the new
-//! ones. A failure before the renaming removes the new file. Permissions, access control lists and other extended
-//! attributes are kept, or nothing is saved; the owner is kept where the system allows it. A symbolic link is followed:
-//! the file that it leads to is replaced. A hard link's other names keep the old bytes. Programs that do not lock can
-//! replace the file too: just before the renaming it is looked up once more.
+//! ones. A failure before the renaming removes the new file. Owner, group, permissions, access control lists and other
+//! extended attributes are kept, or nothing is saved. A symbolic link is followed: the file that it leads to is
+//! replaced. A hard link's other names keep the old bytes. Programs that do not lock can replace the file too: just
+//! before the renaming it is looked up once more.
 
 use crate::failure::Failure;
-use crate::locked_file::{lock, names_file, LockedFile, Patience};
+use crate::locked_file::{lock, names_file, LockedFile, Saving};
 use crate::new_file::{remove_leftovers, NewFile};
 use crate::system;
 use crate::text::shown_path;
@@ -23,11 +23,12 @@ const REPLACED: &str = "was replaced meanwhile by another program, and stays as 
 /// Linux and macOS have this number for "operation not permitted", also where a file system has no hard links.
 const EPERM: i32 = 1;
 
-/// Whether anything has the name, be it a link that leads nowhere.
+/// Nothing has the name, be it a link that leads nowhere, and there is a folder for it.
 pub fn check_free(path: &Path) -> Result<(), Failure> {
-    match fs::symlink_metadata(path) {
-        Ok(_) => Err(Failure::io(path, THERE_ALREADY)),
-        Err(_) => Ok(()),
+    match (fs::symlink_metadata(path), fs::metadata(folder(path).join("."))) {
+        (Ok(_), _) => Err(Failure::io(path, THERE_ALREADY)),
+        (Err(_), Err(error)) => Err(not_made(path, &error)),
+        (Err(_), Ok(_)) => Ok(()),
     }
 }
 
@@ -75,38 +76,73 @@ fn take_name(new: NewFile, path: &Path) -> Result<(), Failure> {
     new.rename(path).map_err(left)
 }
 
-/// Replaces the locked file. After a failure it is still there, and no new file is.
-pub fn replace(path: &Path, old: &LockedFile, bytes: &[u8]) -> Result<(), Failure> {
-    let not_saved = |error: io::Error| Failure::io(path, format!("not saved, and as it was before: {error}"));
-    let new = NewFile::with_bytes(folder(&old.target), 0o600, bytes).map_err(not_saved)?;
-    keep_access(&new.file, &old.file).and_then(|()| new.file.sync_all()).map_err(not_saved)?;
-    if !names_file(&old.target, &old.file).map_err(not_saved)? {
-        return Err(Failure::io(path, REPLACED));
-    }
-    new.rename(&old.target).map_err(not_saved)?;
-    saved(path, &old.target)
+/// The new bytes of a locked file, on the disk beside it. Dropped, they go, and the file stays.
+pub struct Replacement<'a> {
+    path: &'a Path,
+    old: &'a LockedFile,
+    new: NewFile,
 }
 
-/// Puts bytes into a file: it has the old bytes or the new ones. Of a file that is there, `may_go` is asked about its
-/// bytes, of which at most `most` are read; where they may not go, `what` says what it is not.
+impl<'a> Replacement<'a> {
+    pub fn prepare(path: &'a Path, old: &'a LockedFile, bytes: &[u8]) -> Result<Replacement<'a>, Failure> {
+        let new = NewFile::with_bytes(folder(&old.target), 0o600, bytes).map_err(|error| not_saved(path, error))?;
+        let kept = keep_access(&new.file, &old.file).and_then(|()| new.file.sync_all());
+        kept.map_err(|error| not_saved(path, error))?;
+        Ok(Replacement { path, old, new })
+    }
+
+    /// Gives them the file's name.
+    pub fn finish(self) -> Result<(), Failure> {
+        let Replacement { path, old, new } = self;
+        if !names_file(&old.target, &old.file).map_err(|error| not_saved(path, error))? {
+            return Err(Failure::io(path, REPLACED));
+        }
+        new.rename(&old.target).map_err(|error| not_saved(path, error))?;
+        saved(path, &old.target)
+    }
+}
+
+fn not_saved(path: &Path, error: io::Error) -> Failure {
+    Failure::io(path, format!("not saved, and as it was before: {error}"))
+}
+
+/// Replaces the locked file. After a failure it is still there, and no new file is.
+pub fn replace(path: &Path, old: &LockedFile, bytes: &[u8]) -> Result<(), Failure> {
+    Replacement::prepare(path, old, bytes)?.finish()
+}
+
+/// Puts the bytes that are made into a file: it has the old bytes or the new ones. A file that is there is locked
+/// before, and `may_go` is asked about its bytes, of which at most `most` are read; where they may not go, `what` says
+/// what it is not.
 pub fn write_over(
     path: &Path,
-    bytes: &[u8],
-    patience: Patience,
+    saving: Saving,
     (what, most): (&str, usize),
     may_go: impl FnOnce(&[u8]) -> bool,
+    make: impl FnOnce() -> Result<Vec<u8>, Failure>,
 ) -> Result<(), Failure> {
     if !path.is_symlink() && !path.exists() {
-        let new = NewFile::with_bytes(folder(path), 0o666, bytes).map_err(|error| not_made(path, &error))?;
-        new.file.sync_all().and_then(|()| new.rename(path)).map_err(|error| Failure::io(path, error))?;
-        return saved(path, path);
+        check_free(path)?;
+        let bytes = make()?;
+        return if saving.dry_run { Ok(()) } else { write_new(path, &bytes) };
     }
-    let old = LockedFile::open(path, patience).map_err(|error| Failure::io(path, error))?;
+    let old = LockedFile::open(path, saving).map_err(|error| Failure::io(path, error))?;
     let before = read_at_most(&old.file, most).map_err(|error| Failure::io(path, error))?;
     if !may_go(&before) {
         return Err(Failure::io(path, format!("is there already and is no {what}, and stays as it is")));
     }
-    replace(path, &old, bytes)
+    let bytes = make()?;
+    if saving.dry_run {
+        Ok(())
+    } else {
+        replace(path, &old, &bytes)
+    }
+}
+
+fn write_new(path: &Path, bytes: &[u8]) -> Result<(), Failure> {
+    let new = NewFile::with_bytes(folder(path), 0o666, bytes).map_err(|error| not_made(path, &error))?;
+    new.file.sync_all().and_then(|()| new.rename(path)).map_err(|error| Failure::io(path, error))?;
+    saved(path, path)
 }
 
 /// The bytes of a source to its end, but at most one more than `most`.
@@ -116,13 +152,16 @@ pub fn read_at_most(source: impl Read, most: usize) -> io::Result<Vec<u8>> {
     Ok(bytes)
 }
 
-/// Gives a new file the owner, the extended attributes and the permissions of the old one. The owner only where that is
-/// allowed. The permissions come last: with a list, those of the group say what the list may give at most.
+/// Gives a new file the owner, the group, the extended attributes and the permissions of the old one. The permissions
+/// come last: with a list, those of the group say what the list may give at most.
 fn keep_access(new: &File, old: &File) -> io::Result<()> {
     let (own, wanted) = (new.metadata()?, old.metadata()?);
     let (user, group) = (wanted.uid(), wanted.gid());
-    if (own.uid(), own.gid()) != (user, group) && fchown(new, Some(user), Some(group)).is_err() {
-        let _ = fchown(new, None, Some(group));
+    if (own.uid(), own.gid()) != (user, group) {
+        fchown(new, Some(user), Some(group)).map_err(|error| {
+            let owner = format!("the file's owner and group ({user}, {group})");
+            io::Error::new(error.kind(), format!("{owner} cannot be kept: {error}"))
+        })?;
     }
     keep_attributes(new, old)?;
     new.set_permissions(wanted.permissions())
@@ -212,7 +251,7 @@ mod tests {
         fs::write(&path, "old").unwrap();
         system::set_attribute(&File::open(&path).unwrap(), &CString::new(name).unwrap(), value).ok()?;
         let mode = fs::metadata(&path).unwrap().permissions().mode();
-        let old = LockedFile::open(&path, None).unwrap();
+        let old = LockedFile::open(&path, Saving::default()).unwrap();
         let before = system::attributes(&old.file).unwrap();
         replace(&path, &old, b"new").unwrap();
         assert_eq!(fs::read(&path).unwrap(), b"new");
@@ -247,7 +286,7 @@ mod tests {
         let probe = folder.path("probe");
         fs::write(&probe, "").unwrap();
         assert_eq!(system::attributes(&File::open(&probe).unwrap()).unwrap().len(), 1);
-        replace(&path, &LockedFile::open(&path, None).unwrap(), b"new").unwrap();
+        replace(&path, &LockedFile::open(&path, Saving::default()).unwrap(), b"new").unwrap();
         assert_eq!(system::attributes(&File::open(&path).unwrap()).unwrap(), []);
     }
 }

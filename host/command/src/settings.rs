@@ -4,8 +4,9 @@ use crate::arguments::Arguments;
 use crate::commands::Command;
 use crate::failure::{Failure, Usage};
 use crate::labels::Labels;
-use crate::locked_file::Patience;
+use crate::locked_file::Saving;
 use crate::look::Look;
+use std::cell::OnceCell;
 use std::ffi::OsString;
 use std::time::Duration;
 
@@ -13,11 +14,11 @@ use std::time::Duration;
 pub const NOT_FOR_LINES: [&str; 6] = ["--dry-run", "--wait", "--names", "--json", "--svg", "--html"];
 
 pub struct Settings {
-    /// Nothing is saved.
-    pub dry_run: bool,
-    pub patience: Patience,
+    pub saving: Saving,
     pub json: bool,
     names: Option<OsString>,
+    /// What the file of names has. It is read once: a pipe is empty then.
+    labels: OnceCell<Labels>,
 }
 
 impl Settings {
@@ -25,21 +26,47 @@ impl Settings {
     pub fn take(command: Command, arguments: &mut Arguments) -> Result<Settings, Usage> {
         let options = command.options();
         let has = |name| options.contains(&name);
-        Ok(Settings {
+        let saving = Saving {
             dry_run: has("--dry-run") && arguments.flag("--dry-run"),
             patience: if has("--wait") { arguments.parsed("--wait", parse_seconds)? } else { None },
+        };
+        Ok(Settings {
+            saving,
             json: has("--json") && arguments.flag("--json"),
             names: if has("--names") { arguments.file_option("--names") } else { None },
+            labels: OnceCell::new(),
         })
     }
 
     /// The names, where a file of them is given.
-    pub fn labels(&self) -> Result<Option<Labels>, Failure> {
-        self.names.as_ref().map(|names| Labels::read(names)).transpose()
+    pub fn labels(&self) -> Result<Option<&Labels>, Failure> {
+        match (&self.names, self.labels.get()) {
+            (Some(names), None) => {
+                let read = Labels::read(names)?;
+                Ok(Some(self.labels.get_or_init(|| read)))
+            }
+            (_, labels) => Ok(labels),
+        }
     }
 
     pub fn look(&self) -> Result<Look, Failure> {
-        Ok(Look::new(self.labels()?.unwrap_or_default(), self.json))
+        Ok(Look::new(self.labels()?.cloned().unwrap_or_default(), self.json))
+    }
+
+    /// Nothing is written, so there are no options about it: they go with something else.
+    pub fn check_only_read(&self, with: &str) -> Result<(), String> {
+        if self.saving != Saving::default() {
+            return Err(format!("--dry-run and --wait go with {with}"));
+        }
+        Ok(())
+    }
+
+    /// Standard input, which is `-`, is read once: for the names, or for one of these files.
+    pub fn check_input(&self, files: &[OsString]) -> Result<(), String> {
+        if self.names.iter().chain(files).filter(|file| *file == "-").count() > 1 {
+            return Err("standard input, which is -, can be read only once".to_string());
+        }
+        Ok(())
     }
 }
 

@@ -4,10 +4,10 @@ use crate::carry_out::counted;
 use crate::failure::Failure;
 use crate::format::Format;
 use crate::labels::Labels;
-use crate::locked_file::Patience;
+use crate::locked_file::{LockedFile, Saving};
 use crate::merge::Sheet;
 use crate::output::Output;
-use crate::replacing::{read_at_most, write_over};
+use crate::replacing::{read_at_most, write_over, Replacement};
 use crate::text::shown_path;
 use ostrubel::Matrix;
 use std::ffi::OsStr;
@@ -34,20 +34,57 @@ pub fn read(source: &OsStr, format: Format, labels: Option<&Labels>) -> Result<S
     Ok(Sheet { name, matrix })
 }
 
+/// A sheet in a file that is locked from before it is read until it is replaced.
+pub struct LockedSheet<'a> {
+    path: &'a Path,
+    format: Format,
+    file: LockedFile,
+    pub matrix: Matrix,
+}
+
+impl<'a> LockedSheet<'a> {
+    /// The sheets of two files.
+    pub fn open_both(first: &'a OsStr, second: &'a OsStr, saving: Saving) -> Result<[Self; 2], Failure> {
+        let [one, other] = LockedFile::open_both(Path::new(first), Path::new(second), saving)?;
+        Ok([LockedSheet::read(first, one)?, LockedSheet::read(second, other)?])
+    }
+
+    fn read(name: &'a OsStr, file: LockedFile) -> Result<Self, Failure> {
+        let (path, format) = (Path::new(name), Format::of_name(name));
+        let bytes = read_at_most(&file.file, format.longest()).map_err(|error| Failure::io(path, error))?;
+        let matrix = format.read(&shown_path(path), &bytes, None)?;
+        Ok(LockedSheet { path, format, file, matrix })
+    }
+
+    /// The matrix as it is now, for the file.
+    pub fn replacement(&self) -> Result<Replacement<'_>, Failure> {
+        Replacement::prepare(self.path, &self.file, &self.format.write(&self.matrix, None)?)
+    }
+
+    pub fn name(&self) -> String {
+        shown_path(self.path)
+    }
+}
+
 /// Where a matrix goes, and how.
 pub struct Target<'a> {
     /// A file, or standard output where the name is `-`.
     pub name: &'a OsStr,
     pub format: Format,
-    pub patience: Patience,
-    pub dry_run: bool,
+    pub saving: Saving,
 }
 
 impl Target<'_> {
-    /// Writes the matrix. Only a file of the same format is replaced. Whether a file was written.
-    pub fn write(&self, matrix: &Matrix, labels: Option<&Labels>, output: &mut Output) -> Result<bool, Failure> {
-        let bytes = self.format.write(matrix, labels);
+    /// Writes the matrix that is made, while a file that is there is locked. Only one of the same format is replaced.
+    /// Whether a file was written.
+    pub fn write(
+        &self,
+        labels: Option<&Labels>,
+        output: &mut Output,
+        make: impl FnOnce() -> Result<Matrix, Failure>,
+    ) -> Result<bool, Failure> {
         if self.name == "-" {
+            let bytes = self.format.write(&make()?, labels)?;
             if self.format == Format::Sheet && io::stdout().is_terminal() {
                 return Err(Failure::Io(
                     "a sheet file is not for a terminal; name a file, or --format csv".to_string(),
@@ -56,16 +93,19 @@ impl Target<'_> {
             output.add(&bytes);
             return Ok(false);
         }
-        let path = Path::new(self.name);
-        let described = format!("{}: {}", shown_path(path), described(matrix));
-        if self.dry_run {
-            output.print(&format!("{described}\na dry run: nothing was saved"));
-            return Ok(false);
-        }
-        let kind = (self.format.title(), self.format.longest());
-        write_over(path, &bytes, self.patience, kind, |before| self.format.read("", before, labels).is_ok())?;
-        output.print(&described);
-        Ok(true)
+        let (path, kind) = (Path::new(self.name), (self.format.title(), self.format.longest()));
+        write_over(
+            path,
+            self.saving,
+            kind,
+            |before| self.format.is_of(before),
+            || {
+                let matrix = make()?;
+                output.print(&format!("{}: {}", shown_path(path), described(&matrix)));
+                self.format.write(&matrix, labels)
+            },
+        )?;
+        Ok(self.saving.saves(output))
     }
 }
 

@@ -7,7 +7,7 @@
 use crate::failure::Failure;
 use crate::form::{self, Sheets};
 use crate::guard::{self, Damage, Guarded};
-use crate::locked_file::{open_regular, LockedFile, Patience};
+use crate::locked_file::{open_regular, LockedFile, Saving};
 use crate::names::{IndexList, Whole};
 use crate::refusal::Refusal;
 use crate::replacing::{self, folder, no_folder, read_at_most};
@@ -55,19 +55,7 @@ fn not_opened(path: &Path, error: &io::Error) -> Failure {
 
 /// The store in a file, in whatever form.
 pub fn read(path: &Path) -> Result<Store, Failure> {
-    Ok(read_form(path)?.1)
-}
-
-/// The store in a file that could be written.
-pub fn read_current(path: &Path) -> Result<Store, Failure> {
-    let (form, store) = read_form(path)?;
-    check_current(path, form)?;
-    Ok(store)
-}
-
-fn read_form(path: &Path) -> Result<(Form, Store), Failure> {
-    let contents = read_contents(path)?;
-    Ok((contents.form, contents.store(path)?))
+    read_contents(path)?.store(path)
 }
 
 fn read_contents(path: &Path) -> Result<Contents, Failure> {
@@ -79,28 +67,28 @@ fn read_contents(path: &Path) -> Result<Contents, Failure> {
 /// Lends the store in a file to some work, and saves it where the work succeeds and has changed a word. Whether it did.
 pub fn update(
     path: &Path,
-    patience: Patience,
+    saving: Saving,
     work: impl FnOnce(&mut Store) -> Result<(), Failure>,
 ) -> Result<bool, Failure> {
-    rewrite(path, patience, |form, store| {
+    rewrite(path, saving, |form, store| {
         check_current(path, form)?;
         work(store)
     })
 }
 
 /// Gives a file its guard. The form that it had.
-pub fn convert(path: &Path, patience: Patience) -> Result<Form, Failure> {
+pub fn convert(path: &Path, saving: Saving) -> Result<Form, Failure> {
     let mut before = Form::Current;
-    rewrite(path, patience, |form, _| {
+    rewrite(path, saving, |form, _| {
         before = form;
         Ok(())
     })?;
     Ok(before)
 }
 
-/// Puts the sheets of a file, or those of some places, into a new file, with its guard; without one it only looks. The
-/// form that the file has, which stays as it is.
-pub fn convert_to(path: &Path, places: Option<&IndexList>, to: Option<&Path>) -> Result<Form, Failure> {
+/// Puts the sheets of a file, or those of some places, into a new file, with its guard. The form that the file has,
+/// which stays as it is.
+pub fn convert_to(path: &Path, places: Option<&IndexList>, to: &Path, dry_run: bool) -> Result<Form, Failure> {
     let contents = read_contents(path)?;
     let is_chosen = |slot: usize| match places {
         Some(IndexList::Listed(places)) => places.iter().any(|place| place.size() == slot),
@@ -109,7 +97,9 @@ pub fn convert_to(path: &Path, places: Option<&IndexList>, to: Option<&Path>) ->
     let sheets: Sheets = std::array::from_fn(|slot| contents.sheets[slot].clone().filter(|_| is_chosen(slot)));
     let chosen = Contents { sheets, ..contents };
     let store = chosen.store(path)?;
-    if let Some(to) = to {
+    if dry_run {
+        replacing::check_free(to)?;
+    } else {
         replacing::create(to, &bytes_of(&store))?;
     }
     Ok(chosen.form)
@@ -131,15 +121,15 @@ pub fn resized(store: &Store, words: &Whole) -> Result<Store, Refusal> {
 
 fn rewrite(
     path: &Path,
-    patience: Patience,
+    saving: Saving,
     work: impl FnOnce(Form, &mut Store) -> Result<(), Failure>,
 ) -> Result<bool, Failure> {
-    let locked = LockedFile::open(path, patience).map_err(|error| not_opened(path, &error))?;
+    let locked = LockedFile::open(path, saving).map_err(|error| not_opened(path, &error))?;
     let before = read_at_most(&locked.file, MAX_BYTES).map_err(|error| Failure::io(path, error))?;
     let (form, mut store) = store_of(path, &before)?;
     work(form, &mut store)?;
     let after = bytes_of(&store);
-    if after == before {
+    if after == before || saving.dry_run {
         return Ok(false);
     }
     replacing::replace(path, &locked, &after)?;
@@ -216,7 +206,7 @@ mod tests {
         create(&path, &Whole::parse("100").unwrap(), false).unwrap();
         let sound = fs::read(&path).unwrap();
         for replaced in [true, false] {
-            let failure = update(&path, None, |store| {
+            let failure = update(&path, Saving::default(), |store| {
                 if replaced {
                     fs::write(&other, "another file").unwrap();
                     fs::rename(&other, &path).unwrap();

@@ -31,7 +31,7 @@ pub enum Task {
     /// Prints a text.
     Print(String),
     /// Works on the sheet files of a day.
-    Day(Day),
+    Day { day: Day, settings: Settings },
     /// Works on the shelf in a file; of `print` it is a sheet's file.
     File { file: PathBuf, job: Job, settings: Settings },
 }
@@ -97,7 +97,7 @@ impl Task {
             (None, None, _) => Err(Usage::new("", format!("no command {name:?}"))),
             (None, Some(command), _) if asks_for_help(&texts[1..]) => help_task(&[command.name().to_string()]),
             (None, Some(Command::Help), _) => help_task(&texts[1..]),
-            (None, Some(Command::Day), _) => Ok(Task::Day(Day::parse(&words[1..])?)),
+            (None, Some(Command::Day), _) => day_task(&words[1..]),
             (None, Some(command), _) if command.file().is_none() => text_task(command, &words[1..]),
             (None, Some(command), _) => file_task(command, &words[1..]),
         }
@@ -110,7 +110,7 @@ impl Task {
                 output.print(text);
                 Ok(false)
             }
-            Task::Day(day) => day.carry_out(output),
+            Task::Day { day, settings } => day.carry_out(settings, output),
             Task::File { file, job, settings } => job.carry_out(&Shelf { file, settings }, output),
         }
     }
@@ -126,35 +126,33 @@ impl Job {
         let Shelf { file, settings } = *shelf;
         match self {
             Job::New { words } => {
-                shelf_file::create(file, words, settings.dry_run)?;
-                let dry = if settings.dry_run { "\na dry run: nothing was saved" } else { "" };
-                output.print(&format!("{}: {words} words, all places empty{dry}", shown_path(file)));
-                Ok(!settings.dry_run)
+                shelf_file::create(file, words, settings.saving.dry_run)?;
+                output.print(&format!("{}: {words} words, all places empty", shown_path(file)));
+                Ok(settings.saving.saves(output))
             }
             Job::Call(call) => shelf.work(call.writes(), output, |store, look, output| {
                 output.show(&carry_out(call, store, look)?);
                 Ok(())
             }),
             Job::Draw { slot, svg, html } => {
-                let (labels, matrix) = (settings.labels()?.unwrap_or_default(), shelf.sheet(slot)?);
+                let (labels, matrix) = (settings.labels()?.cloned().unwrap_or_default(), shelf.sheet(slot)?);
                 let title = format!("{}, {}", shown_path(file), labels.place_head(slot.size()));
                 let svg = svg.as_ref().map(|out| (out, drawing::svg(&matrix, &title, &labels), drawing::SVG_FRONT));
                 let html = html.as_ref().map(|out| (out, drawing::html(&matrix, &title, &labels), drawing::HTML_FRONT));
-                let mut saved = false;
+                let mut to_file = false;
                 for (out, text, front) in svg.into_iter().chain(html) {
-                    saved |= write_picture(out, &text, front, settings, output)?;
+                    to_file |= write_picture(out, text, front, settings, output)?;
                 }
-                Ok(saved)
+                Ok(to_file && settings.saving.saves(output))
             }
             Job::Import { slot, sheet, format } => {
                 let Sheet { matrix, .. } = read_sheet(sheet, *format, settings)?;
                 shelf.put(slot, output, |_| Ok(matrix))
             }
             Job::Export { slot, sheet, format } => {
-                let matrix = shelf.sheet(slot)?;
                 let format = format.unwrap_or_else(|| Format::of_name(sheet));
-                let Settings { patience, dry_run, .. } = *settings;
-                Target { name: sheet, format, patience, dry_run }.write(&matrix, settings.labels()?.as_ref(), output)
+                let target = Target { name: sheet, format, saving: settings.saving };
+                target.write(settings.labels()?, output, || shelf.sheet(slot))
             }
             Job::Merge { slot, sheets, mask, format } => {
                 let sheets = sheets.iter().map(|sheet| read_sheet(sheet, *format, settings));
@@ -207,14 +205,14 @@ impl Shelf<'_> {
         if !writes {
             work(&mut shelf_file::read(self.file)?, &look, output)?;
             Ok(false)
-        } else if self.settings.dry_run {
-            let mut store = shelf_file::read_current(self.file)?;
-            let before = store.clone();
-            work(&mut store, &look, output)?;
-            output.show(&changes::of_store(&before, &store, &look));
-            Ok(false)
         } else {
-            shelf_file::update(self.file, self.settings.patience, |store| work(store, &look, output))
+            let saving = self.settings.saving;
+            shelf_file::update(self.file, saving, |store| {
+                let before = saving.dry_run.then(|| store.clone());
+                work(store, &look, output)?;
+                before.iter().for_each(|before| output.show(&changes::of_store(before, store, &look)));
+                Ok(())
+            })
         }
     }
 
@@ -240,41 +238,41 @@ impl Shelf<'_> {
     }
 
     fn convert(&self, places: Option<&IndexList>, to: Option<&Path>, output: &mut Output) -> Result<bool, Failure> {
-        let name = shown_path(self.file);
-        let form = if self.settings.dry_run || to.is_some() {
-            shelf_file::convert_to(self.file, places, to.filter(|_| !self.settings.dry_run))?
-        } else {
-            shelf_file::convert(self.file, self.settings.patience)?
+        let (name, saving) = (shown_path(self.file), self.settings.saving);
+        let form = match to {
+            Some(to) => shelf_file::convert_to(self.file, places, to, saving.dry_run)?,
+            None => shelf_file::convert(self.file, saving)?,
         };
-        let dry = if self.settings.dry_run { "\na dry run: nothing was saved" } else { "" };
         output.print(&match (form, to) {
             (Form::Current, None) => format!("{name}: has the form of today, and stays as it is"),
-            (_, Some(to)) => format!("{name}: stays as it is; {} has its sheets{dry}", shown_path(to)),
-            (_, None) => format!("{name}: converted, all sheets kept{dry}"),
+            (_, Some(to)) => format!("{name}: stays as it is; {} has its sheets", shown_path(to)),
+            (_, None) => format!("{name}: converted, all sheets kept"),
         });
-        Ok(form != Form::Current && !self.settings.dry_run || to.is_some())
+        Ok((form != Form::Current || to.is_some()) && self.settings.saving.saves(output))
     }
 }
 
 fn read_sheet(sheet: &OsStr, format: Option<Format>, settings: &Settings) -> Result<Sheet, Failure> {
-    sheet_file::read(sheet, format.unwrap_or_else(|| Format::of_name(sheet)), settings.labels()?.as_ref())
+    sheet_file::read(sheet, format.unwrap_or_else(|| Format::of_name(sheet)), settings.labels()?)
 }
 
-/// Writes a picture into a file, which is replaced only if it begins as such pictures do.
+/// Writes a picture into a file, which is replaced only if it begins as such pictures do. Whether there is a file.
 fn write_picture(
     out: &OsStr,
-    text: &str,
+    text: String,
     front: &str,
     settings: &Settings,
     output: &mut Output,
 ) -> Result<bool, Failure> {
     if out == "-" {
-        output.print(text);
+        output.print(&text);
         return Ok(false);
     }
     let kind = ("picture of a sheet", front.len());
-    write_over(Path::new(out), text.as_bytes(), settings.patience, kind, |old| old.starts_with(front.as_bytes()))?;
-    output.print(&format!("{}: written", shown_path(Path::new(out))));
+    let is_one = |old: &[u8]| old.starts_with(front.as_bytes());
+    write_over(Path::new(out), settings.saving, kind, is_one, || Ok(text.into_bytes()))?;
+    let written = if settings.saving.dry_run { "would be written" } else { "written" };
+    output.print(&format!("{}: {written}", shown_path(Path::new(out))));
     Ok(true)
 }
 
@@ -287,6 +285,17 @@ fn help_task(topics: &[String]) -> Result<Task, Usage> {
         },
         _ => Err(Usage::new("", "help: one command at a time")),
     }
+}
+
+fn day_task(words: &[OsString]) -> Result<Task, Usage> {
+    let mut arguments = Arguments::split(Command::Day, words)?;
+    let settings = Settings::take(Command::Day, &mut arguments)?;
+    let day = Day::parse(&arguments.words_from(0))?;
+    if !day.writes() {
+        settings.check_only_read("rewrite, back and fold").map_err(|message| arguments.wrong(message))?;
+    }
+    arguments.finish()?;
+    Ok(Task::Day { day, settings })
 }
 
 /// A task of a command that prints a text, and has no file.
@@ -318,7 +327,9 @@ fn job(command: Command, arguments: &mut Arguments, settings: &Settings) -> Resu
         Command::Resize => Job::Resize { words: arguments.whole(0)? },
         Command::Import => {
             let format = arguments.parsed("--format", Format::parse)?;
-            Job::Import { slot: arguments.whole(0)?, sheet: arguments.word(1)?, format }
+            let (slot, sheet) = (arguments.whole(0)?, arguments.word(1)?);
+            settings.check_input(std::slice::from_ref(&sheet)).map_err(|message| arguments.wrong(message))?;
+            Job::Import { slot, sheet, format }
         }
         Command::Export => {
             let format = arguments.parsed("--format", Format::parse)?;
@@ -327,9 +338,7 @@ fn job(command: Command, arguments: &mut Arguments, settings: &Settings) -> Resu
         Command::Merge => {
             let format = arguments.parsed("--format", Format::parse)?;
             let (mask, sheets) = (arguments.whole_option("--mask")?, arguments.words_from(1));
-            if sheets.iter().filter(|sheet| *sheet == "-").count() > 1 {
-                return Err(arguments.wrong("standard input, which is -, can be read only once"));
-            }
+            settings.check_input(&sheets).map_err(|message| arguments.wrong(message))?;
             Job::Merge { slot: arguments.whole(0)?, sheets, mask, format }
         }
         Command::Copy => {
@@ -337,7 +346,11 @@ fn job(command: Command, arguments: &mut Arguments, settings: &Settings) -> Resu
         }
         Command::Convert => convert(arguments)?,
         Command::Print => Job::PrintSheet,
-        Command::Run => Job::Run { script: arguments.word(0)? },
+        Command::Run => {
+            let script = arguments.word(0)?;
+            settings.check_input(std::slice::from_ref(&script)).map_err(|message| arguments.wrong(message))?;
+            Job::Run { script }
+        }
         Command::Show => {
             let (svg, html) = (arguments.file_option("--svg"), arguments.file_option("--html"));
             match (svg.is_some() || html.is_some(), settings.json) {
@@ -345,7 +358,10 @@ fn job(command: Command, arguments: &mut Arguments, settings: &Settings) -> Resu
                     return Err(arguments.wrong("--json is printed, and --svg and --html are files: one of them"))
                 }
                 (true, false) => Job::Draw { slot: arguments.whole(0)?, svg, html },
-                (false, _) => Job::Call(Call::take(command, arguments)?),
+                (false, _) => {
+                    settings.check_only_read("--svg and --html").map_err(|message| arguments.wrong(message))?;
+                    Job::Call(Call::take(command, arguments)?)
+                }
             }
         }
         _ => Job::Call(Call::take(command, arguments)?),

@@ -35,6 +35,55 @@ fn csv_and_matrix_market_out_and_in_again() {
     assert_eq!((text(&output).as_str(), error_text(&output).as_str()), ("place 4: 3 by 2, 2 entries\n", ""));
 }
 
+/// What is written with names is read with them as the same sheet, or is not written.
+#[test]
+fn names_that_are_no_heads() {
+    let folder = house();
+    for (names, head, what) in
+        [("row 0 1\n", "1", "row"), ("row 0 a\nrow 1 a\n", "a", "row"), ("column 9 0\n", "0", "column")]
+    {
+        folder.write("other", names);
+        let message = folder.fails("export s 0 a.csv --names other", 3);
+        let reason = format!("{head:?} would stand for more than one {what}; nothing was written");
+        assert_eq!(message, format!("ostrubel: a CSV file cannot have these names: {reason}\n"));
+        assert_eq!(folder.fails("export s 0 a.csv --names other --dry-run", 3), message);
+        assert!(!folder.names().contains(&"a.csv".to_string()));
+        folder.accept("export s 0 - --format mtx --names other");
+    }
+    folder.write("other", "row 0 one\nrow 1 +1\nrow 2 0.5\ncolumn 1 1\n");
+    folder.accept("export s 0 a.csv --names other");
+    folder.accept("import s 1 a.csv --names other");
+    folder.prints("diff s 0 1", "no cell differs\n");
+}
+
+/// One's own table is replaced, whether it has names or not, and whichever they are.
+#[test]
+fn tables_with_and_without_names() {
+    let folder = house();
+    folder.write("other", "row 0 kitchen\ncolumn 0 Bert\n");
+    for options in ["", " --names names", " --names other", "", " --names names"] {
+        folder.accept(&format!("export s 0 a.csv{options}"));
+        folder.accept(&format!("import s 1 a.csv{options}"));
+        folder.prints("diff s 0 1", "no cell differs\n");
+    }
+    for text in ["a,b\n1,2\n", ",Anna\nhall,red\n", ""] {
+        folder.write("b.csv", text);
+        assert!(folder.fails("export s 0 b.csv", 3).contains("is no CSV file"), "{text}");
+    }
+}
+
+/// Lines and commas without end are not kept.
+#[test]
+fn a_table_past_the_limits() {
+    let folder = house();
+    for sign in ["\n", ","] {
+        folder.write("long.csv", sign.repeat(1 << 24));
+        let output = folder.shell("ulimit -v 400000; ostrubel import s 1 long.csv");
+        let message = "ostrubel: long.csv is no CSV file: a sheet has 1 to 1000 rows and 1 to 1000 columns\n";
+        assert_eq!((output.status.code(), error_text(&output).as_str()), (Some(3), message));
+    }
+}
+
 /// A file of another kind is neither read nor replaced.
 #[test]
 fn files_of_other_formats() {
@@ -109,6 +158,23 @@ fn pictures_in_files() {
     assert!(folder.fails("show s 0 --svg x --json", 2).contains("one of them"));
 }
 
+/// A picture or a page of another program stays, though it begins as many do.
+#[test]
+fn pictures_of_others_stay() {
+    let folder = house();
+    let svg = "<svg xmlns=\"http://www.w3.org/2000/svg\" width=\"9\" height=\"9\"></svg>\n";
+    let html = "<!doctype html>\n<html lang=\"en\">\n<head>\n<title>a page</title>\n</head>\n</html>\n";
+    for (option, text) in [("--svg", svg), ("--html", html)] {
+        folder.write("other", text);
+        let message = folder.fails(&format!("show s 0 {option} other"), 3);
+        assert_eq!(message, "ostrubel: other: is there already and is no picture of a sheet, and stays as it is\n");
+        assert_eq!(folder.bytes("other"), text.as_bytes());
+        folder.accept(&format!("show s 0 {option} own"));
+        folder.accept(&format!("show s 0 {option} own"));
+        std::fs::remove_file(folder.path("own")).unwrap();
+    }
+}
+
 #[test]
 fn names_for_a_treasurer() {
     let folder = house();
@@ -123,4 +189,27 @@ fn names_for_a_treasurer() {
     assert!(folder.fails("show s 0 --names nowhere", 3).starts_with("ostrubel: nowhere: "));
     folder.write("script", "show 0 --names names\n");
     assert!(error_text(&folder.run("run s script")).contains("--names is not for a line of a script"));
+}
+
+/// A pipe has its names only once. Without them the second sheet's row 2, by its name, would be no row, or another.
+#[test]
+fn names_from_a_pipe() {
+    let folder = house();
+    folder.write("a.csv", ",0,1\r\n0,1,\r\n2,,\r\n1,,\r\n");
+    folder.write("b.csv", ",0,1\r\n0,1,\r\n2,,9\r\n1,,\r\n");
+    folder.write("turned", "row 0 1\nrow 1 2\nrow 2 0\n");
+    folder.script("s", "lay 1 3 2\nlay 2 3 2\n");
+    folder.accept("merge s 1 a.csv b.csv --names turned");
+    for names in ["-", "/dev/stdin"] {
+        folder.accept("lay s 2 3 2");
+        let output = folder.shell(&format!("cat turned | ostrubel merge s 2 a.csv b.csv --names {names}"));
+        assert_eq!((output.status.code(), error_text(&output)), (Some(0), String::new()));
+        folder.prints("diff s 1 2", "no cell differs\n");
+    }
+    let shown = folder.shell("cat names | ostrubel set s 0 2 1 3 --dry-run --names -");
+    assert!(text(&shown).contains("medicine cupboard, Anna: 14053 -> 3"), "{}", text(&shown));
+    for line in ["import s 1 - --names - --format csv", "merge s 1 a.csv - --names -", "run s - --names -"] {
+        let message = folder.fails(line, 2);
+        assert!(message.contains("standard input, which is -, can be read only once"), "{message}");
+    }
 }

@@ -2,7 +2,8 @@
 
 mod common;
 
-use common::{Folder, OSTRUBEL};
+use common::{error_text, Folder, OSTRUBEL};
+use std::fs;
 
 /// The office's shelf, and the sheets of three late phones in files.
 fn office() -> Folder {
@@ -108,7 +109,39 @@ fn dry_runs_of_writing_calls() {
     folder.refuses("set s 0 3 0 1 --dry-run", 7, "row 3, column 0, place 0 is 3 by 2");
     folder.prints("new t 100 --dry-run", "t: 100 words, all places empty\na dry run: nothing was saved\n");
     folder.prints("export s 0 t --dry-run", "t: 3 by 2, 2 entries\na dry run: nothing was saved\n");
-    assert!(!folder.names().contains(&"t".to_string()));
+    let drawn = "t: would be written\nt.html: would be written\na dry run: nothing was saved\n";
+    folder.prints("show s 0 --svg t --html t.html --dry-run", drawn);
+    assert!(folder.fails("show s 0 --dry-run", 2).contains("--dry-run and --wait go with --svg and --html"));
+    assert!(!folder.names().iter().any(|name| name.starts_with('t')));
+}
+
+/// Whatever the call would be turned away for, the dry run is too, with the same words.
+#[test]
+fn dry_runs_are_turned_away_as_the_calls_are() {
+    let folder = office();
+    folder.write("note", "a note");
+    fs::create_dir(folder.path("folder")).unwrap();
+    let names = folder.names();
+    for line in [
+        "export s 0 note --format csv",
+        "export s 0 nowhere/x",
+        "export s 0 folder",
+        "convert s --to note",
+        "convert s --to nowhere/x",
+        "new s 100",
+        "new nowhere/x 100",
+        "new note/x 100",
+        "show s 0 --svg note",
+        "show s 0 --html nowhere/x",
+    ] {
+        assert_eq!(folder.fails(line, 3), folder.fails(&format!("{line} --dry-run"), 3), "{line}");
+    }
+    assert_eq!((folder.names(), folder.bytes("note")), (names, b"a note".to_vec()));
+    for line in ["convert s --to t --dry-run", "export s 0 t --dry-run", "show s 0 --svg t --dry-run"] {
+        let output = folder.shell(&format!("ostrubel {line} >&-"));
+        let message = "ostrubel: standard output cannot be written: it is closed\n";
+        assert_eq!((output.status.code(), error_text(&output).as_str()), (Some(3), message), "{line}");
+    }
 }
 
 #[test]

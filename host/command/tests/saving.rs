@@ -5,7 +5,7 @@ mod common;
 use common::{error_text, text, Folder, OSTRUBEL};
 use std::fs::{self, Permissions};
 use std::os::unix::fs::{chown, symlink, MetadataExt, PermissionsExt};
-use std::os::unix::process::ExitStatusExt;
+use std::os::unix::process::{CommandExt, ExitStatusExt};
 use std::process::Stdio;
 use std::sync::atomic::{AtomicBool, Ordering};
 use std::thread;
@@ -113,6 +113,29 @@ fn permissions_and_owner_are_kept() {
         folder.accept("set s 0 1 1 7");
         let about = fs::metadata(folder.path("s")).unwrap();
         assert_eq!((about.uid(), about.gid(), about.mode() & 0o7777), (12_345, 12_346, 0o664));
+    }
+}
+
+/// Who may write a file, but not give a new one to its owner or its group, saves nothing.
+#[test]
+fn an_owner_that_cannot_be_kept() {
+    let folder = shelf();
+    fs::set_permissions(folder.path("."), Permissions::from_mode(0o777)).unwrap();
+    fs::set_permissions(folder.path("s"), Permissions::from_mode(0o666)).unwrap();
+    for (user, group) in [(12_345, 12_346), (12_347, 12_346), (12_345, 12_348)] {
+        if chown(folder.path("s"), Some(user), Some(group)).is_err() {
+            eprintln!("not tested: only root may give a file away");
+            return;
+        }
+        let before = folder.state("s");
+        let mut command = folder.command(OSTRUBEL);
+        let output = command.args(["set", "s", "0", "1", "1", "5"]).uid(12_347).gid(12_348).output().unwrap();
+        let message = format!(
+            "ostrubel: s: not saved, and as it was before: the file's owner and group ({user}, {group}) cannot be \
+             kept: Operation not permitted (os error 1)\n"
+        );
+        assert_eq!((output.status.code(), error_text(&output)), (Some(3), message));
+        assert_eq!((folder.state("s"), folder.names()), (before, vec!["s".to_string()]));
     }
 }
 
