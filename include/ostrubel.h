@@ -47,7 +47,7 @@ typedef uint64_t ostrubel_size;
 #define OSTRUBEL_MAX_STORE_WORDS 16384
 #define OSTRUBEL_MIN_FORMULA_WORDS 65000 /* the stack of ostrubel_store_formula */
 
-/* Bytes of stack that are enough for any call on any target; the most that is worked out for one is some 34,000. */
+/* Bytes of stack that are enough for any call on any target; the most that is worked out for one is some 36,000. */
 #define OSTRUBEL_STACK_BYTES 49152
 
 /* Sizes, in bytes: the largest file, four for each word of the largest matrix, and the largest text. */

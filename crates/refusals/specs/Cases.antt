@@ -33,7 +33,7 @@ abbrev pub given : ℕ → Bool → Case
 given number applies = record { number = number; applies = applies }
 
 -- the number of the first case of a list that applies, or 0. On lent matrices the cases stand in the order of their
--- numbers, so it is the lowest; on a store 12 stands first, and 13 between 2 and 7
+-- numbers, so it is the lowest; on a store 12 stands first, and 13 between 2 and 7; a formula has an order of its own
 abbrev pub firstApplying : List Case → ℕ
 firstApplying [] = 0
 firstApplying (x ∷ xs) = cond (x .applies) (x .number) (firstApplying xs)
