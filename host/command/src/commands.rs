@@ -174,7 +174,7 @@ impl Command {
             _ => Vec::new(),
         };
         if self.is_operation() {
-            options.extend(WRITE_BACK);
+            options.extend(WRITE_BACK.into_iter().filter(|option| self.has_input_for(option)));
         }
         if self.writes() {
             options.extend(["--dry-run", "--wait"]);
@@ -183,6 +183,16 @@ impl Command {
             options.push("--names");
         }
         options
+    }
+
+    /// Whether an option of all operations has an input to act on.
+    fn has_input_for(self, option: &str) -> bool {
+        use Command::{Apply, Assign, Extract, ReduceRows, Select, Vxm};
+        match option {
+            "--transpose-a" => self != Vxm,
+            "--transpose-b" => !matches!(self, Apply | Extract | Select | ReduceRows | Assign),
+            _ => true,
+        }
     }
 
     /// Whether it can write a file.

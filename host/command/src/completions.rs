@@ -99,7 +99,7 @@ fn bash() -> String {
     for command in Command::ALL {
         for option in command.options().into_iter().filter(|option| has_value(option)) {
             let reply = match option_values(command, option) {
-                Values::Files => "COMPREPLY=($(compgen -f -- \"$word\"))".to_string(),
+                Values::Files => "mapfile -t COMPREPLY < <(compgen -f -- \"$word\")".to_string(),
                 Values::Words(words) => format!("COMPREPLY=($(compgen -W \"{}\" -- \"$word\"))", words.join(" ")),
                 Values::Any => "COMPREPLY=()".to_string(),
             };
@@ -110,9 +110,14 @@ fn bash() -> String {
     script.replace("@VALUES@", &behind).replace("@OPTIONS@", &cases)
 }
 
-/// Text within single quotes, for zsh and fish.
+/// Text within single quotes, where zsh takes a backslash as it is.
 fn single(text: &str) -> String {
-    format!("'{}'", text.replace('\\', "\\\\").replace('\'', "'\\''"))
+    format!("'{}'", text.replace('\'', "'\\''"))
+}
+
+/// The same for fish, which has it doubled.
+fn fish_single(text: &str) -> String {
+    single(&text.replace('\\', "\\\\"))
 }
 
 fn zsh() -> String {
@@ -139,7 +144,7 @@ fn zsh() -> String {
             Command::Completions => "*:shell:(bash zsh fish)".to_string(),
             _ => "*:file:_files".to_string(),
         };
-        cases.push_str(&format!(" '--help[the command'\\''s page]' {} ;;\n", single(&rest)));
+        cases.push_str(&format!(" '--help[the page about a command]' {} ;;\n", single(&rest)));
     }
     include_str!("completions/zsh.txt").replace("@NAMES@", &commands).replace("@OPTIONS@", &cases)
 }
@@ -147,14 +152,14 @@ fn zsh() -> String {
 fn fish() -> String {
     let mut text = "# fish completion of ostrubel; put it into ~/.config/fish/completions/ostrubel.fish\n".to_string();
     for command in Command::ALL {
-        let (name, about) = (command.name(), single(&help::summary(command)));
+        let (name, about) = (command.name(), fish_single(&help::summary(command)));
         text.push_str(&format!("complete -c ostrubel -n __fish_use_subcommand -f -a {name} -d {about}\n"));
         for option in command.options() {
-            let about = single(&help::option_summary(command, option));
+            let about = fish_single(&help::option_summary(command, option));
             let value = match (has_value(option), option_values(command, option)) {
                 (false, _) => String::new(),
                 (true, Values::Files) => " -r -F".to_string(),
-                (true, Values::Words(words)) => format!(" -x -a {}", single(&words.join(" "))),
+                (true, Values::Words(words)) => format!(" -x -a {}", fish_single(&words.join(" "))),
                 (true, Values::Any) => " -x".to_string(),
             };
             let option = option.trim_start_matches('-');
@@ -164,8 +169,10 @@ fn fish() -> String {
         }
     }
     let line = |name: &str, words: &str| {
-        format!("complete -c ostrubel -n '__fish_seen_subcommand_from {name}' -f -a {}\n", single(words))
+        format!("complete -c ostrubel -n '__fish_seen_subcommand_from {name}' -f -a {}\n", fish_single(words))
     };
+    text.push_str("complete -c ostrubel -s h -l help -d 'the page about a command'\n");
+    text.push_str("complete -c ostrubel -n __fish_use_subcommand -s V -l version -d 'the version'\n");
     text + &line("help", &topics()) + &line("completions", "bash zsh fish")
 }
 

@@ -92,22 +92,23 @@ fn command_page(command: Command) -> String {
 
 /// What the first page says about a command.
 pub fn summary(command: Command) -> String {
-    let lines = command_text(Command::Help).lines();
-    let mut lines =
-        lines.filter(|line| line.strip_prefix("  ").is_some_and(|line| line.split(' ').next() == Some(command.name())));
-    lines.next().map(|line| part_behind(line.trim_start())).unwrap_or_default()
+    let page = overview();
+    let mut lines = page.lines().filter_map(|line| line.strip_prefix("  "));
+    let line = lines.find(|line| line.split(' ').next() == Some(command.name()));
+    line.and_then(|line| part_behind(line, command.name())).unwrap_or_default()
 }
 
 /// What a command's page says about an option, in its first line there.
 pub fn option_summary(command: Command, option: &str) -> String {
     let page = command_page(command);
-    let mut lines = page.lines().filter(|line| line.split_whitespace().next() == Some(option));
-    lines.next().map(|line| part_behind(line.trim_start())).unwrap_or_default()
+    page.lines().find_map(|line| part_behind(line, option)).unwrap_or_default()
 }
 
-/// The second of the parts that are two blanks or more apart.
-fn part_behind(line: &str) -> String {
-    line.split("  ").filter(|part| !part.is_empty()).nth(1).unwrap_or_default().trim().to_string()
+/// The part behind the one that has a word, where parts are two blanks or more apart.
+fn part_behind(line: &str, word: &str) -> Option<String> {
+    let mut parts = line.split("  ").filter(|part| !part.is_empty());
+    parts.find(|part| part.split(' ').any(|other| other == word))?;
+    parts.next().map(|part| part.trim().to_string())
 }
 
 fn command_text(command: Command) -> &'static str {
@@ -248,6 +249,7 @@ mod tests {
             let (page, options) = (command_page(command), command.options());
             for option in &options {
                 assert!(page.contains(option), "{command:?} {option}");
+                assert!(!option_summary(command, option).is_empty(), "{command:?} {option}");
             }
             for word in form(command).split([' ', '[', ']']).filter(|word| word.starts_with("--")) {
                 assert!(options.contains(&word), "{command:?} {word}");

@@ -65,6 +65,30 @@ fn what_bash_completes() {
     assert_eq!(offered(&folder, &["ostrubel", "select", "s", "0", "1", "--op", "tri"]), ["tril", "triu"]);
     assert_eq!(offered(&folder, &["ostrubel", "help", "op"]), ["options", "operators"]);
     assert_eq!(offered(&folder, &["ostrubel", "list", "s"]), ["s"]);
+    folder.write("my keys", "");
+    assert_eq!(offered(&folder, &["ostrubel", "list", "my"]), ["my keys"]);
+    assert_eq!(offered(&folder, &["ostrubel", "show", "s", "0", "--svg", "my"]), ["my keys"]);
+    assert_eq!(offered(&folder, &["ostrubel", "vxm", "s", "0", "1", "2", "--tr"]), ["--transpose-b"]);
+    assert_eq!(offered(&folder, &["ostrubel", "apply", "s", "0", "1", "--tr"]), ["--transpose-a"]);
+}
+
+/// Each word has a description, with its limits filled in, and in each shell's quotes.
+#[test]
+fn descriptions_in_completions() {
+    let folder = Folder::with_shelf();
+    let (zsh, fish) = (folder.accept("completions zsh"), folder.accept("completions fish"));
+    for script in [&zsh, &fish] {
+        assert!(script.contains("a new shelf of WORDS words (8 to 16384; 1000 will often do)"), "{script}");
+        assert!(!script.contains("{M"), "{script}");
+    }
+    assert!(!zsh.contains("[]") && !zsh.contains("\\\\"), "{zsh}");
+    assert!(zsh.contains("more about a command; also\\: help options"), "{zsh}");
+    assert!(!fish.contains("-d ''\n") && fish.contains(" -l help "), "{fish}");
+    for option in
+        ["--rows[the chosen rows]", "--op[the operator; these are there\\:]", "--first[OP of N and the value]"]
+    {
+        assert!(zsh.contains(option), "{option}");
+    }
 }
 
 #[test]
