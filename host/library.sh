@@ -51,7 +51,7 @@ stamp=$(mktemp)
 trap 'rm -f "$stamp"' EXIT
 begin=$(date +%s)
 proved=0
-echo "Proving the library: $count crates, about seven minutes on two free cores the first time."
+echo "Proving the library: $count crates, about ten minutes on two free cores the first time."
 {
     status=0
     rt staticlib exports 2>&1 || status=$?

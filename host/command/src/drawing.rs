@@ -2,7 +2,7 @@
 
 use crate::labels::Labels;
 use crate::sheet_file::described;
-use crate::text::is_control;
+use crate::text::{is_control, width};
 use ostrubel::Matrix;
 use std::fmt::Write;
 
@@ -41,12 +41,11 @@ fn about(matrix: &Matrix) -> String {
 
 /// The widths of the rows' heads and of each column, in characters.
 fn widths(matrix: &Matrix, labels: &Labels) -> (usize, Vec<usize>) {
-    let count = |text: String| text.chars().count();
-    let margin = (0..matrix.rows()).map(|row| count(labels.row_head(row))).max().unwrap_or(0);
-    let mut widths: Vec<usize> = (0..matrix.cols()).map(|col| count(labels.col_head(col))).collect();
+    let margin = (0..matrix.rows()).map(|row| width(&labels.row_head(row))).max().unwrap_or(0);
+    let mut widths: Vec<usize> = (0..matrix.cols()).map(|col| width(&labels.col_head(col))).collect();
     for (_, col, value) in matrix {
-        let width = &mut widths[col as usize];
-        *width = (*width).max(count(value.to_string()));
+        let widest = &mut widths[col as usize];
+        *widest = (*widest).max(width(&value.to_string()));
     }
     (margin, widths)
 }

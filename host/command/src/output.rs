@@ -40,8 +40,8 @@ impl Output {
 
     /// Writes all to standard output.
     pub fn write(&self) -> io::Result<()> {
-        if system::output_is_closed() && !self.bytes.is_empty() {
-            return Err(io::Error::new(ErrorKind::NotConnected, "it is closed"));
+        if let Some(fault) = system::output_fault().filter(|_| !self.bytes.is_empty()) {
+            return Err(io::Error::new(ErrorKind::NotConnected, fault));
         }
         let mut out = io::stdout().lock();
         out.write_all(&self.bytes).and_then(|()| out.flush())

@@ -4,6 +4,7 @@
 use crate::changes::Change;
 use crate::look::Look;
 use crate::sheet_file::described;
+use crate::text::{char_width, width};
 use ostrubel::Matrix;
 use std::collections::BTreeMap;
 
@@ -13,7 +14,7 @@ const MAX_ROWS: u32 = 60;
 /// What is between two columns.
 const GAP: usize = 2;
 
-/// Names are shortened to so many characters where the whole ones do not fit.
+/// Names are shortened to so many columns of the terminal where the whole ones do not fit.
 const SHORT_NAME: usize = 12;
 
 /// The picture of a sheet in which these cells have changed.
@@ -53,7 +54,7 @@ struct Cell {
 
 impl Cell {
     fn width(&self) -> usize {
-        self.text.chars().count()
+        width(&self.text)
     }
 }
 
@@ -104,11 +105,15 @@ impl Table {
 }
 
 fn shortened(text: String, longest: usize) -> String {
-    if text.chars().count() <= longest {
-        text
-    } else {
-        text.chars().take(longest - 1).chain(['…']).collect()
+    if width(&text) <= longest {
+        return text;
     }
+    let mut columns = 0;
+    let fits = |c: &char| {
+        columns += char_width(*c);
+        columns < longest
+    };
+    text.chars().take_while(fits).chain(['…']).collect()
 }
 
 #[cfg(test)]
@@ -146,6 +151,18 @@ mod tests {
         let short = "              0   Anna\n           0  .      .\n           1  .      .\nmedicine cu…  .  14053";
         assert_eq!(draw(&matrix, &[], &look(26)), short);
         assert_eq!(draw(&matrix, &[], &look(20)), "3 by 2, 1 entry\nmedicine cupboard, Anna: 14053");
+    }
+
+    /// Characters of East Asia take two columns each, and are shortened so.
+    #[test]
+    fn wide_names() {
+        let matrix = Matrix::from_triples(2, 2, [(1, 1, 14053)]).unwrap();
+        let labels = Labels::parse("row 1 薬箱\ncolumn 0 山田\ncolumn 1 鍵").unwrap();
+        let look = crate::look::Look { labels, ..plain(80) };
+        let picture = "      山田     鍵\n   0     .      .\n薬箱     .  14053";
+        assert_eq!(draw(&matrix, &[], &look), picture);
+        assert_eq!(shortened("とても長い名前".to_string(), 12), "とても長い…");
+        assert_eq!(shortened("とても長い名".to_string(), 12), "とても長い名");
     }
 
     #[test]

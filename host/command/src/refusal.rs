@@ -85,6 +85,11 @@ impl Refusal {
         )
     }
 
+    /// Of a place that no shelf has.
+    pub fn of_place(place: &Whole) -> Refusal {
+        Refusal::of(Error::InvalidStore, format!("There is no place {place}: places are 0 to {}.", SLOTS - 1))
+    }
+
     /// With a sentence that says all.
     pub fn of(error: Error, sentence: String) -> Refusal {
         Refusal { error, sentence, about: Vec::new() }

@@ -3,7 +3,8 @@
 //! A file is never written in place. The new bytes go into a new file in the same folder, which is synced to the disk
 //! and then renamed over the old one, and the folder is synced: after a crash the file has the old bytes or the new
 //! ones. A failure before the renaming removes the new file. Owner, group, permissions, access control lists and other
-//! extended attributes are kept, or nothing is saved. A symbolic link is followed: the file that it leads to is
+//! extended attributes are kept, or nothing is saved; only a file that its group shares may pass to the owner who writes
+//! it. A symbolic link is followed: the file that it leads to is
 //! replaced. A hard link's other names keep the old bytes. Programs that do not lock can replace the file too: just
 //! before the renaming it is looked up once more.
 
@@ -157,14 +158,29 @@ pub fn read_at_most(source: impl Read, most: usize) -> io::Result<Vec<u8>> {
 fn keep_access(new: &File, old: &File) -> io::Result<()> {
     let (own, wanted) = (new.metadata()?, old.metadata()?);
     let (user, group) = (wanted.uid(), wanted.gid());
-    if (own.uid(), own.gid()) != (user, group) {
-        fchown(new, Some(user), Some(group)).map_err(|error| {
-            let owner = format!("the file's owner and group ({user}, {group})");
-            io::Error::new(error.kind(), format!("{owner} cannot be kept: {error}"))
-        })?;
+    let not_kept = |error: io::Error| {
+        let owner = format!("the file's owner and group ({user}, {group})");
+        io::Error::new(error.kind(), format!("{owner} cannot be kept: {error}"))
+    };
+    if own.gid() != group {
+        fchown(new, None, Some(group)).map_err(not_kept)?;
+    }
+    if own.uid() != user && !may_pass(old, wanted.mode())? {
+        fchown(new, Some(user), None).map_err(not_kept)?;
+    } else if own.uid() != user {
+        // Where it cannot be given away, it is the writer's from now on.
+        let _ = fchown(new, Some(user), None);
     }
     keep_attributes(new, old)?;
     new.set_permissions(wanted.permissions())
+}
+
+/// Whether a file may pass to another owner with its group: the group may do all that the owner may, and no access
+/// control list says otherwise.
+fn may_pass(old: &File, mode: u32) -> io::Result<bool> {
+    let (owner, group) = (mode >> 6 & 7, mode >> 3 & 7);
+    let listed = system::attributes(old)?.iter().any(|(name, _)| name.to_bytes() == b"system.posix_acl_access");
+    Ok(owner & group == owner && !listed)
 }
 
 /// Those that the folder gave to the new file go, if the old file has not got them.

@@ -12,7 +12,7 @@ use crate::names::{IndexList, Whole};
 use crate::refusal::Refusal;
 use crate::replacing::{self, folder, no_folder, read_at_most};
 use crate::text::quoted;
-use ostrubel::{Error, Store, MAX_STORE_WORDS};
+use ostrubel::{Error, Store, MAX_STORE_WORDS, SLOTS};
 use std::fs::OpenOptions;
 use std::io::{self, ErrorKind};
 use std::path::Path;
@@ -90,10 +90,14 @@ pub fn convert(path: &Path, saving: Saving) -> Result<Form, Failure> {
 /// which stays as it is.
 pub fn convert_to(path: &Path, places: Option<&IndexList>, to: &Path, dry_run: bool) -> Result<Form, Failure> {
     let contents = read_contents(path)?;
-    let is_chosen = |slot: usize| match places {
-        Some(IndexList::Listed(places)) => places.iter().any(|place| place.size() == slot),
-        Some(IndexList::All) | None => true,
+    let listed = match places {
+        Some(IndexList::Listed(places)) => Some(places),
+        Some(IndexList::All) | None => None,
     };
+    if let Some(place) = listed.into_iter().flatten().find(|place| place.size() >= SLOTS) {
+        return Err(Refusal::of_place(place).into());
+    }
+    let is_chosen = |slot| listed.is_none_or(|places| places.iter().any(|place| place.size() == slot));
     let sheets: Sheets = std::array::from_fn(|slot| contents.sheets[slot].clone().filter(|_| is_chosen(slot)));
     let chosen = Contents { sheets, ..contents };
     let store = chosen.store(path)?;

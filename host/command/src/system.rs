@@ -1,11 +1,11 @@
 //! What the standard library has no call for: a file's extended attributes, among them its access control list, and
-//! whether standard output was closed before the program began. The only unsafe code of the command.
+//! whether standard output could be written when the program began. The only unsafe code of the command.
 
 use std::ffi::{c_char, c_int, c_void, CStr, CString};
 use std::fs::File;
 use std::io;
 use std::os::fd::AsRawFd;
-use std::sync::atomic::{AtomicBool, Ordering};
+use std::sync::atomic::{AtomicI32, Ordering};
 
 /// The extended attributes of an open file, by name. Where the file system has none, the list is empty.
 pub fn attributes(file: &File) -> io::Result<Vec<(CString, Vec<u8>)>> {
@@ -42,9 +42,14 @@ pub fn remove_attribute(file: &File, name: &CStr) -> io::Result<()> {
     accepted(answer as isize).map(drop)
 }
 
-/// Whether standard output was closed when the program began. The standard library opens it anew, to nowhere.
-pub fn output_is_closed() -> bool {
-    OUTPUT_IS_CLOSED.load(Ordering::Relaxed)
+/// Why nothing can be written to standard output as it was when the program began. The standard library opens a closed
+/// one anew, to nowhere, and takes no notice of one that is only to be read.
+pub fn output_fault() -> Option<&'static str> {
+    match OUTPUT_FLAGS.load(Ordering::Relaxed) {
+        -1 => Some("it is closed"),
+        flags if flags & ACCESS == 0 => Some("it is open for reading only"),
+        _ => None,
+    }
 }
 
 /// No list and no value is longer on Linux.
@@ -62,7 +67,7 @@ fn accepted(answer: isize) -> io::Result<usize> {
     usize::try_from(answer).map_err(|_| io::Error::last_os_error())
 }
 
-static OUTPUT_IS_CLOSED: AtomicBool = AtomicBool::new(false);
+static OUTPUT_FLAGS: AtomicI32 = AtomicI32::new(-1);
 
 /// Called before the standard library opens what is closed.
 #[used]
@@ -71,12 +76,12 @@ static LOOK_AT_OUTPUT: extern "C" fn() = look_at_output;
 
 extern "C" fn look_at_output() {
     // SAFETY: the call only asks about the descriptor's number.
-    let is_closed = unsafe { fcntl(1, ASK_FLAGS) } == -1;
-    OUTPUT_IS_CLOSED.store(is_closed, Ordering::Relaxed);
+    OUTPUT_FLAGS.store(unsafe { fcntl(1, ASK_FLAGS) }, Ordering::Relaxed);
 }
 
-/// `F_GETFD` and `ENOTSUP` of Linux.
-const ASK_FLAGS: c_int = 1;
+/// `F_GETFL`, `O_ACCMODE`, where `O_RDONLY` is 0, and `ENOTSUP` of Linux.
+const ASK_FLAGS: c_int = 3;
+const ACCESS: c_int = 3;
 const NOT_SUPPORTED: i32 = 95;
 
 unsafe extern "C" {

@@ -16,6 +16,6 @@ pub fn remove_attribute(_: &File, _: &CStr) -> io::Result<()> {
     Err(io::ErrorKind::Unsupported.into())
 }
 
-pub fn output_is_closed() -> bool {
-    false
+pub fn output_fault() -> Option<&'static str> {
+    None
 }

@@ -7,8 +7,44 @@ use std::path::Path;
 
 /// Whether a terminal could obey the character, or show what stands beside it in another order.
 pub fn is_control(c: char) -> bool {
-    matches!(c, '\u{200e}' | '\u{200f}' | '\u{2028}'..='\u{202e}' | '\u{2066}'..='\u{2069}' | '\u{feff}')
+    matches!(c, '\u{61c}' | '\u{200e}' | '\u{200f}' | '\u{2028}'..='\u{202e}' | '\u{2066}'..='\u{206f}' | '\u{feff}')
         || c.is_control()
+}
+
+/// Characters that take two columns of a terminal: those of East Asia, and pictures.
+const WIDE: [(u32, u32); 14] = [
+    (0x1100, 0x115f),
+    (0x2e80, 0x303e),
+    (0x3041, 0xa4cf),
+    (0xa960, 0xa97f),
+    (0xac00, 0xd7a3),
+    (0xf900, 0xfaff),
+    (0xfe10, 0xfe19),
+    (0xfe30, 0xfe6f),
+    (0xff01, 0xff60),
+    (0xffe0, 0xffe6),
+    (0x1f300, 0x1f64f),
+    (0x1f680, 0x1f6ff),
+    (0x1f900, 0x1f9ff),
+    (0x20000, 0x3fffd),
+];
+
+/// Characters that take none: they join the one before.
+const JOINED: [(u32, u32); 3] = [(0x300, 0x36f), (0x200b, 0x200d), (0xfe00, 0xfe0f)];
+
+/// The columns of a terminal that a character takes.
+pub fn char_width(c: char) -> usize {
+    let is_in = |ranges: &[(u32, u32)]| ranges.iter().any(|(first, last)| (*first..=*last).contains(&u32::from(c)));
+    match (is_in(&JOINED), is_in(&WIDE)) {
+        (true, _) => 0,
+        (_, true) => 2,
+        _ => 1,
+    }
+}
+
+/// The columns that a text takes.
+pub fn width(text: &str) -> usize {
+    text.chars().map(char_width).sum()
 }
 
 /// Lines with their control characters written out, as `\u{1b}`. A tab stays.
@@ -78,6 +114,15 @@ mod tests {
         assert_eq!(shown_lines("\u{9b}2J \u{202e}x\u{2069}"), r"\u{9b}2J \u{202e}x\u{2069}");
         assert_eq!(shown_lines("one\n\rtwo\n"), "one\n\\rtwo\n");
         assert_eq!(shown_path(Path::new("a\tb\nc")), r"a\tb\nc");
+    }
+
+    #[test]
+    fn widths() {
+        for (text, columns) in [("", 0), ("Anna", 4), ("é", 1), ("e\u{301}", 1), ("薬箱", 4), ("ﾊ한…", 4), ("🔑", 2)]
+        {
+            assert_eq!(width(text), columns, "{text}");
+        }
+        assert!(['\u{61c}', '\u{200f}', '\u{202a}', '\u{2067}', '\u{206f}'].into_iter().all(is_control));
     }
 
     /// The shell gives back each name as it is.

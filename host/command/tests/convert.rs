@@ -71,6 +71,13 @@ fn some_places_into_another_file() {
     assert_eq!(folder.bytes("s"), words);
     folder.prints("read t 5 0 0", "-1\n");
     folder.refuses("show t 0", 13, "place 0");
+    for line in
+        ["convert s --places 9 --to u", "convert s --places 0,8 --to u", "convert s --places 8 --to u --dry-run"]
+    {
+        let place = if line.contains('9') { 9 } else { 8 };
+        folder.refuses_12(line, &format!("There is no place {place}: places are 0 to 7."));
+    }
+    assert!(!folder.names().contains(&"u".to_string()));
     let message = folder.fails("convert s --places 4..7", 2);
     assert!(message.contains("--places goes with --to: what is not chosen would be lost"), "{message}");
     let message = folder.fails("convert s --to t", 3);

@@ -187,6 +187,10 @@ fn names_for_a_treasurer() {
     folder.write("bad", "row 1 a\nrow x b\n");
     assert_eq!(folder.fails("show s 0 --names bad", 3), "ostrubel: bad: line 2: the number of a row is 0 to 999\n");
     assert!(folder.fails("show s 0 --names nowhere", 3).starts_with("ostrubel: nowhere: "));
+    folder.write("bad", "row 1 a\u{61c}b\n");
+    assert!(folder.fails("show s 0 --names bad", 3).ends_with("line 1: a name has no control characters\n"));
+    folder.write("wide", "row 2 薬箱\ncolumn 1 鍵\n");
+    folder.prints("show s 0 --names wide", "       0     鍵\n   0  -5      .\n   1   .      .\n薬箱   .  14053\n");
     folder.write("script", "show 0 --names names\n");
     assert!(error_text(&folder.run("run s script")).contains("--names is not for a line of a script"));
 }

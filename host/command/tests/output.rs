@@ -50,9 +50,12 @@ fn a_closed_pipe() {
 fn a_closed_output() {
     let folder = long_output();
     let closed = "standard output cannot be written: it is closed\n";
+    let read_only = "standard output cannot be written: it is open for reading only\n";
     for (line, status, message) in [
         ("ostrubel list s >&-", 3, format!("ostrubel: {closed}")),
         ("ostrubel set s 1 0 0 4 >&-", 3, format!("ostrubel: the call was carried out, but {closed}")),
+        ("ostrubel list s 1< /dev/null", 3, format!("ostrubel: {read_only}")),
+        ("ostrubel set s 1 0 0 4 1< s", 3, format!("ostrubel: the call was carried out, but {read_only}")),
         ("ostrubel list s > /dev/null", 0, String::new()),
         ("ostrubel list s 1<> /dev/null", 0, String::new()),
         ("ostrubel show s 7 >&- 2> /dev/null", 1, String::new()),

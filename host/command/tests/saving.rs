@@ -121,8 +121,8 @@ fn permissions_and_owner_are_kept() {
 fn an_owner_that_cannot_be_kept() {
     let folder = shelf();
     fs::set_permissions(folder.path("."), Permissions::from_mode(0o777)).unwrap();
-    fs::set_permissions(folder.path("s"), Permissions::from_mode(0o666)).unwrap();
-    for (user, group) in [(12_345, 12_346), (12_347, 12_346), (12_345, 12_348)] {
+    for (user, group, mode) in [(12_345, 12_346, 0o666), (12_347, 12_346, 0o666), (12_345, 12_348, 0o766)] {
+        fs::set_permissions(folder.path("s"), Permissions::from_mode(mode)).unwrap();
         if chown(folder.path("s"), Some(user), Some(group)).is_err() {
             eprintln!("not tested: only root may give a file away");
             return;
@@ -137,6 +137,23 @@ fn an_owner_that_cannot_be_kept() {
         assert_eq!((output.status.code(), error_text(&output)), (Some(3), message));
         assert_eq!((folder.state("s"), folder.names()), (before, vec!["s".to_string()]));
     }
+}
+
+/// A file that its group shares passes to the member who saves it.
+#[test]
+fn a_group_s_file() {
+    let folder = shelf();
+    fs::set_permissions(folder.path("."), Permissions::from_mode(0o777)).unwrap();
+    fs::set_permissions(folder.path("s"), Permissions::from_mode(0o660)).unwrap();
+    if chown(folder.path("s"), Some(12_345), Some(12_348)).is_err() {
+        eprintln!("not tested: only root may give a file away");
+        return;
+    }
+    let mut command = folder.command(OSTRUBEL);
+    let output = command.args(["set", "s", "0", "1", "1", "5"]).uid(12_347).gid(12_348).output().unwrap();
+    assert_eq!((output.status.code(), error_text(&output).as_str()), (Some(0), ""));
+    let about = fs::metadata(folder.path("s")).unwrap();
+    assert_eq!((about.uid(), about.gid(), about.mode() & 0o7777), (12_347, 12_348, 0o660));
 }
 
 #[test]

@@ -140,6 +140,22 @@ fn a_script_from_standard_input() {
     folder.prints("read s 0 0 0", "5\n");
 }
 
+/// What the help says to give to run, run takes.
+#[test]
+fn options_of_a_script() {
+    let folder = Folder::with_shelf();
+    let page = folder.accept("help run").replace('\n', " ");
+    assert!(page.contains("nor --dry-run, --wait and --names: give these three to run."), "{page}");
+    folder.write("script", "lay 0 1 1\n");
+    folder.write("names", "place 0 today\n");
+    for option in ["--dry-run", "--wait 1", "--names names"] {
+        folder.accept(&format!("run s script {option}"));
+    }
+    for option in ["--json", "--svg x", "--html x"] {
+        assert!(folder.fails(&format!("run s script {option}"), 2).contains("is no option of run"));
+    }
+}
+
 #[test]
 fn scripts_that_are_too_long_or_no_text() {
     let folder = Folder::with_shelf();

@@ -84,7 +84,9 @@ fn descriptions_in_completions() {
     assert!(!zsh.contains("[]") && !zsh.contains("\\\\"), "{zsh}");
     assert!(zsh.contains("more about a command; also\\: help options"), "{zsh}");
     assert!(!fish.contains("-d ''\n") && fish.contains(" -l help "), "{fish}");
-    for option in ["--rows[the chosen rows]", "--op[the operator; these are there\\:]", "--first[OP of N and the value]"] {
+    for option in
+        ["--rows[the chosen rows]", "--op[the operator; these are there\\:]", "--first[OP of N and the value]"]
+    {
         assert!(zsh.contains(option), "{option}");
     }
 }
