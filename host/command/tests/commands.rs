@@ -329,7 +329,7 @@ fn what_the_help_says() {
             &[
                 "within a guard of 20 bytes",
                 "For more words: ostrubel resize.",
-                "Owner, group, permissions, access lists and other extended attributes are kept, or nothing is saved:",
+                "Owner, group, permissions, access lists and other extended attributes are kept, or nothing is saved;",
                 "write permission in the folder",
                 ".ostrubel-NUMBER-NUMBER.new",
                 "A second hard link to the file keeps the old words.",
