@@ -206,7 +206,7 @@ fn folded() {
     fold(day, day, &mut out);
 }
 
-fn fold(base: &[u32], day: &[u32], out: &mut [u32]) {
+fn fold<'a>(base: &'a [u32], day: &'a [u32], out: &mut [u32]) {
     let r = day_calls::fold(base, day, day, out);
     report(r.code, r.entries, &out[..]);
 }
