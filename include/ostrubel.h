@@ -219,7 +219,7 @@ uint64_t ostrubel_row_view(uint32_t i, uint32_t values, const uint32_t *first, o
  *   c                a valid matrix in a buffer that may be longer; at most 5,105 words are needed
  *   work             at least 15,315 words, any words; all zeros after the call
  * The answer's entries are those of the final C. Refused by 1 to 11: 4 only with a second input, 5 only with a mask, 7
- * only by extract.
+ * only by extract and assign.
  */
 
 /* C gets A times B: op multiplies, the monoid adds up. */
