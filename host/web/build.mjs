@@ -20,7 +20,12 @@ export function limitsOf(header) {
  * the operators' names there, and left out: no call of the page has an operator that a person chose.
  */
 export function sentencesOf(source, limits) {
-  const constants = { ...limits, WORKSPACE_WORDS: limits.MIN_WORKSPACE_WORDS, last: limits.SLOTS - 1 };
+  const constants = {
+    ...limits,
+    WORKSPACE_WORDS: limits.MIN_WORKSPACE_WORDS,
+    FORMULA_WORDS: limits.MIN_FORMULA_WORDS,
+    last: limits.SLOTS - 1,
+  };
   const numbers = new Map([...source.matchAll(/^ {4}(\w+) = (\d+),$/gmu)].map(([, name, number]) => [name, number]));
   const body = source.slice(source.indexOf('fn sentence('));
   const found = [...body.matchAll(/Error::(\w+) => [^"]*"((?:[^"\\]|\\[^])*)"/gu)];
