@@ -78,7 +78,8 @@ test('the guard is the one of the command', () => {
 
 test('the version is the one that the command writes', () => {
   const source = readFileSync(new URL('../../command/src/form.rs', import.meta.url), 'utf8');
-  const versions = [...source.matchAll(/^pub const (?:WITHOUT_REVISIONS|VERSION): u32 = (\d+);$/gmu)].map(([, number]) => Number(number));
+  const lines = source.matchAll(/^pub const (?:WITHOUT_REVISIONS|VERSION): u32 = (\d+);$/gmu);
+  const versions = [...lines].map(([, number]) => Number(number));
   assert.deepEqual(versions, [VERSION - 1, VERSION]);
 });
 
