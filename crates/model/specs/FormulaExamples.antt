@@ -56,7 +56,8 @@ held v = found (foundAnswer (entry.Present v 0))
 abbrev into5 : List ℕ → StoreCall
 into5 text = formulaInto 5 3 5 text minStackWords
 
--- 12 before 2 before 14 ("8"), 14 before 13 ("0+7", where the target is empty too), 13 before 9, 9 before 8 ("0+2")
+-- 12 before 2 before 14 ("8"), 14 before 13 ("0+7+"), 13 before 9 ("0+7", where the target is empty too), 9 before 8
+-- ("0+2")
 refusals-answered : replies 4428 laid
     (formulaInto 8 4 5 (56 ∷ []) 0
     ∷ formulaInto 5 4 5 (56 ∷ []) 0
