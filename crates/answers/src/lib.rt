@@ -1,6 +1,8 @@
 // What a call answers: the refusal codes of document 01's table ("When the clerk turns a call away"), each under
 // one name, and the answers of a call that writes or checks, of a read and of a reduction to a number.
 
+#![tactic(auto)]
+
 pub const FLAGS_OUT_OF_RANGE: u32 = 1;
 
 pub const UNKNOWN_OPERATOR: u32 = 2;
@@ -32,7 +34,7 @@ pub const INVALID_FORMULA: u32 = 14;
 pub const INVALID_FILE: u32 = 15;
 
 // 0 and the number of entries of the matrix written or checked, or a refusal code and 0.
-#[derive(Drop)]
+#[derive(Clone, Copy)]
 pub struct Answer {
     pub code: u32,
     pub entries: u32,
@@ -40,7 +42,7 @@ pub struct Answer {
 
 // 0 and whether the cell is present, with its value and the position of its entry; or a refusal code. The value is 0
 // where there is none. The position of an absent cell is where its entry would be put, and that of a refusal is 0.
-#[derive(Drop)]
+#[derive(Clone, Copy)]
 pub struct CellAnswer {
     pub code: u32,
     pub present: bool,
@@ -49,7 +51,7 @@ pub struct CellAnswer {
 }
 
 // 0 and the number that a matrix is reduced to; or a refusal code and 0.
-#[derive(Drop)]
+#[derive(Clone, Copy)]
 pub struct NumberAnswer {
     pub code: u32,
     pub value: u32,

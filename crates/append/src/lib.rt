@@ -1,5 +1,8 @@
 // Bytes written one after the other into a lent buffer. `at` is how far the buffer is filled; each function answers how
 // far it is filled then.
+
+#![tactic(auto)]
+
 ghost use Rattle.std.specs.Prelude.{◌<◌, [], ◌∷◌, length};
 ghost use Rattle.append.specs.Appended.{Appended};
 

@@ -1,4 +1,7 @@
 // Apply on one row of the input as its transpose flag asks, and on the values of a whole matrix.
+
+#![tactic(auto)]
+
 ghost use Rattle.std.specs.Prelude.{◌≡◌, map, ◌+◌, ◌≤◌, length};
 ghost use Rattle.words.specs.Words.{overwrite};
 ghost use Rattle.operations.specs.CellOperations.{apply_cell};

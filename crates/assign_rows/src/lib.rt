@@ -1,5 +1,8 @@
 // Assign on one row, by entries: those of A's row are put at the columns that the list names, those of the old row are
 // kept at the others, and what is there is collected.
+
+#![tactic(auto)]
+
 ghost use Rattle.std.specs.Prelude.{◌≡◌, ◌≤◌, length};
 ghost use Rattle.limits.specs.Limits.{max_cols};
 ghost use Rattle.grid.specs.declared.Cell.TheVariants.{Absent};

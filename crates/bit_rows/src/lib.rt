@@ -1,5 +1,8 @@
 // A row's marked columns as bits: a map with a bit for every place, and a top word with a bit for every word of the map
 // that is in use. The values stand in a buffer beside it, each at the place of its column, and are collected there.
+
+#![tactic(auto)]
+
 ghost use Rattle.std.specs.Prelude.{◌≡◌, ◌+◌, ◌≤◌, ◌<◌, length};
 ghost use Rattle.limits.specs.Limits.{max_cols};
 ghost use Rattle.rows.specs.Row.{Holds};

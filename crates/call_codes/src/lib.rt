@@ -1,5 +1,8 @@
 // The numbers of a call, decoded: flags, operators, monoid and accumulator come as numbers. An unknown number only sets
 // `known` to false; the operator that stands for it is never used.
+
+#![tactic(auto)]
+
 ghost use Rattle.std.specs.Prelude.{◌≡◌};
 ghost use Rattle.conditions.specs.Tests.{◌and◌};
 ghost use Rattle.operator_codes.specs.Codes.{binary_numbered, monoid_numbered, apply_numbered, select_numbered};
@@ -15,7 +18,7 @@ use operators::{ApplyOp, BinaryOp, Monoid, UnaryOp};
 use select_ops::SelectOp;
 
 // What a call says beside its inputs: the flags, whether there is a mask, whether there is an accumulator and its number.
-#[derive(Drop)]
+#[derive(Clone, Copy)]
 pub struct Options {
     pub flags: u32,
     pub has_mask: bool,
@@ -26,7 +29,7 @@ pub struct Options {
 // What a call computes, by its numbers as they come: for a product a monoid and an operator, for apply a kind, an operator
 // of that kind and a scalar, for select a condition and a scalar, for the reduction of rows a monoid, for the Kronecker
 // product an operator.
-#[derive(Drop)]
+#[derive(Clone, Copy)]
 pub enum Verb {
     Mxm(u32, u32),
     Vxm(u32, u32),

@@ -1,4 +1,7 @@
 // Reading one cell of a matrix (document 01: "read one cell").
+
+#![tactic(auto)]
+
 ghost use Rattle.std.specs.Prelude.{◌≡◌, ◌≤◌, ◌<◌};
 ghost use Rattle.answers.specs.Reads.{found_answer, refused_read};
 ghost use Rattle.grid.specs.Position.{entry_at};

@@ -1,5 +1,8 @@
 // The order of column numbers, tested without a look at the rows: whether all are below a bound, and how often a number is
 // not above the one before it. Neither loop stops early, so that both go over several words at a time.
+
+#![tactic(auto)]
+
 ghost use Rattle.std.specs.Prelude.{◌≡◌, ◌+◌, ◌≤◌, length};
 ghost use Rattle.limits.specs.Limits.{max_entries};
 ghost use Rattle.column_order.specs.Falls.{all_below, falls};

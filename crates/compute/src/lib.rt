@@ -1,5 +1,8 @@
 // Working out the final C of a call whose inputs are valid and agree. Inputs, mask and old C are only read; the result
 // is left at the front of the workspace, whose other regions hold the inputs that are transposed.
+
+#![tactic(auto)]
+
 ghost use Rattle.std.specs.Prelude.{◌≡◌, true, cond, [], ◌≤◌, ◌<◌, length};
 ghost use Rattle.rows.specs.Row.{Row, Holds, lookup};
 ghost use Rattle.matrix.specs.Facts.{Header, RowSpan};
@@ -25,7 +28,7 @@ use products::Engine;
 use sources::{FIRST_AT, REGIONS_END, SECOND_AT};
 
 // Done with the number of entries, or more entries than a matrix may have.
-#[derive(Drop)]
+#[derive(Clone, Copy)]
 pub enum Outcome {
     Done(usize),
     Full,

@@ -1,5 +1,8 @@
 // Making a matrix without entries in a lent buffer (document 01: "lay an empty sheet over whatever words the buffer
 // held").
+
+#![tactic(auto)]
+
 ghost use Rattle.std.specs.Prelude.{◌≡◌, ◌+◌, ◌≤◌, length, drop, ◌++◌};
 ghost use Rattle.limits.specs.Limits.{max_rows};
 ghost use Rattle.grid.specs.Grid.{empty_grid};

@@ -2,6 +2,9 @@
 // with an entry, whatever its value, for each rewritten row. Any words and any numbers may be lent: a call answers 0
 // and a number of entries or a cell, or the lowest refusal that applies and 0. A refused call changes no word; both
 // matrices that a call writes are looked at before either is written. There is no workspace.
+
+#![tactic(auto)]
+
 ghost use Rattle.std.specs.Prelude.{◌≡◌, ◌+◌, ◌≤◌, ◌<◌};
 ghost use Rattle.limits.specs.Limits.{max_entries};
 ghost use Rattle.answers.specs.Refusals as answers;

@@ -1,4 +1,7 @@
 // A day matrix over a base matrix folded into one new matrix (document 02, A7), for matrices that fit together.
+
+#![tactic(auto)]
+
 ghost use Rattle.std.specs.Prelude.{◌≡◌, ◌+◌, ◌≤◌, ◌<◌, length};
 ghost use Rattle.limits.specs.Limits.{max_cols, max_entries};
 ghost use Rattle.grid.specs.Entries.{entry_count};

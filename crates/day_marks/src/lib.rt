@@ -1,5 +1,8 @@
 // The marks of rewritten rows (document 02, A7): a vector with an entry, whatever its value, for each of them. A mark is
 // searched once; looking, setting and taking it go by what the search found.
+
+#![tactic(auto)]
+
 ghost use Rattle.std.specs.Prelude.{◌≡◌, ◌+◌, ◌≤◌, length};
 ghost use Rattle.grid.specs.declared.Cell.TheVariants.{Absent, Present};
 ghost use Rattle.grid.specs.Position.{entry_at};

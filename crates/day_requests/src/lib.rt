@@ -1,5 +1,8 @@
 // The refusals of a day matrix over a base matrix (document 02, A7) that are looked at before anything is worked out: 3
 // base, 4 day, 5 marks, 6 new row, then 7 and 8, in this order.
+
+#![tactic(auto)]
+
 ghost use Rattle.std.specs.Prelude.{◌≡◌};
 ghost use Rattle.matrix.specs.Layout.{grid_of};
 ghost use Rattle.matrix.specs.Facts.{Header};

@@ -1,5 +1,8 @@
 // Whole numbers written in decimals into a lent buffer of bytes, from `at` on; each function answers where the next
 // byte goes.
+
+#![tactic(auto)]
+
 ghost use Rattle.std.specs.Prelude.{◌+◌, ◌≤◌, length};
 ghost use Rattle.append.specs.Appended.{Appended};
 ghost use Rattle.decimals.specs.Decimal.{decimal, signed_decimal};

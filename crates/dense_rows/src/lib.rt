@@ -1,4 +1,7 @@
 // Dense rows: a mark and a value for every place, in two arrays of a row's size.
+
+#![tactic(auto)]
+
 ghost use Rattle.std.specs.Prelude.{◌≤◌, length};
 ghost use Rattle.limits.specs.Limits.{max_cols};
 ghost use Rattle.rows.specs.Row.{Holds};

@@ -1,5 +1,8 @@
 // The vector of the doors that open within an allowance of rounds, each with its first round: its words are left at the
 // front of the workspace.
+
+#![tactic(auto)]
+
 ghost use Rattle.std.specs.Prelude.{◌+◌, ◌≤◌, ◌≡◌, length};
 ghost use Rattle.limits.specs.Limits.{max_cols, max_allowance};
 ghost use Rattle.rows.specs.Row.{Holds};

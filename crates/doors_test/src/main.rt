@@ -2,6 +2,8 @@
 // (`questions`): for each the answer, whether the workspace is clear, and the words of the answer's buffer, which has
 // 0, 1, 2 and so on before the call. Of a long buffer only the last word is printed.
 
+#![tactic(auto)]
+
 // What a call needs.
 type Workspace = [u32; 15315];
 

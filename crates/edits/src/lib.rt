@@ -1,4 +1,7 @@
 // One entry of a valid matrix, changed in place, and the revision with it.
+
+#![tactic(auto)]
+
 ghost use Rattle.std.specs.Prelude.{◌≡◌};
 ghost use Rattle.limits.specs.Limits.{max_entries};
 ghost use Rattle.grid.specs.declared.Cell.TheVariants.{Absent, Present};

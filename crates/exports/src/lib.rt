@@ -4,6 +4,9 @@
 // yes. Any numbers and any buffers may be passed. Each call answers in one number: the code in the lower word, the
 // entries of what was written or checked, the value of the cell that was read, the number that a matrix was reduced to,
 // or its revision, in the upper; the position of a cell that was read is in the lower word too.
+
+#![tactic(auto)]
+
 ghost use Rattle.std.specs.Prelude.{◌≡◌, [], ◌≤◌, length, replicate};
 ghost use Rattle.matrix.specs.Valid.{check_answer};
 ghost use Rattle.cells.specs.Read.{read_answer};

@@ -1,5 +1,8 @@
 // Extract on one row, by its entries: the index list is inverted once, and then an entry's column tells its place in
 // the list.
+
+#![tactic(auto)]
+
 ghost use Rattle.std.specs.Prelude.{◌≡◌, ◌*◌, ◌≤◌, length, replicate};
 ghost use Rattle.limits.specs.Limits.{max_cols};
 ghost use Rattle.words.specs.Words.{at};

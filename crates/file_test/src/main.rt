@@ -1,5 +1,8 @@
 // Runs the calls on files and texts on document 01's strip and on the largest matrix, on both sides of each length, and
 // prints what they answer: a code and a number.
+
+#![tactic(auto)]
+
 use files::MAX_FILE_BYTES;
 use libc::STDOUT_FILENO;
 use matrix::layout::MAX_MATRIX_WORDS;

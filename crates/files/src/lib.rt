@@ -1,6 +1,9 @@
 // Matrices in files (document 02, A1): a file is the words of a valid matrix and nothing more, four bytes each, lowest
 // byte first. A file of before document 02's A12, which lacks the section of the revision, is read too. Any number of bytes may come in. A refusal changes nothing lent, and what lies behind the written part
 // stays.
+
+#![tactic(auto)]
+
 ghost use Rattle.std.specs.Prelude.{◌≡◌, ◌+◌, ◌/◌, ◌≤◌, [], ◌∷◌, length, take};
 ghost use Rattle.answers.specs.Refusals.{refused as refusedBy};
 ghost use Rattle.limits.specs.Sizes.{max_matrix_words};

@@ -1,5 +1,8 @@
 // Runs the calls of the format on document 01's strip, on each kind of damage and on the limits, and prints what they
 // answer: a code and a number, a cell, or the words shown.
+
+#![tactic(auto)]
+
 use libc::STDOUT_FILENO;
 use row_view::Section;
 

@@ -2,6 +2,9 @@
 // it and call each other; the bytes left and the bracket allowance fall. Each leaves its value at the front of the
 // words that it is lent, and lends the words behind the largest matrix on to the next operand: so no word that holds a
 // pending value is lent to the next operand.
+
+#![tactic(auto)]
+
 ghost use Rattle.std.specs.Prelude.{◌≤◌, ◌<◌, length};
 ghost use Rattle.limits.specs.Limits.{slot_count};
 ghost use Rattle.matrix.specs.Layout.{grid_of, max_matrix_words};
@@ -19,7 +22,7 @@ use operators::{BinaryOp, Monoid};
 
 // Where a phrase ends, whose value is at the front of the words; that there is none; or the refusal of the first
 // failing step.
-#[derive(Drop)]
+#[derive(Clone, Copy)]
 pub enum Evaluated {
     Ends(usize),
     Missing,

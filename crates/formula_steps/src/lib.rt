@@ -1,6 +1,9 @@
 // One step of a formula: a product or a union of two matrices that stand in one lent area, the first at its front and
 // the second one region of the largest matrix further on. T is put together in the third region, row by row, and then
 // moved to the front. Nothing is lent by & and by &mut at once: each row is worked out before it is written.
+
+#![tactic(auto)]
+
 ghost use Rattle.std.specs.Prelude.{◌≡◌, [], ◌≤◌, ◌<◌, length};
 ghost use Rattle.rows.specs.Row.{Holds};
 ghost use Rattle.result_rows.specs.RowInputs.{RowInputs, Buffers};

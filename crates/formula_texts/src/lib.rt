@@ -1,5 +1,8 @@
 // The texts of formulas over a store (document 02, A8): terms joined by '+', factors joined by '*', digits 0 to 7 and
 // round brackets.
+
+#![tactic(auto)]
+
 ghost use Rattle.std.specs.Prelude.{◌≤◌, length};
 ghost use Rattle.formula_texts.specs.Trees.{InLanguage};
 ghost use Rattle.formula_texts.specs.Reading.{Read, Stands, Decides, FormulaThen, FormulaStops, TermThen};
@@ -25,7 +28,7 @@ pub const FIRST_DIGIT: u8 = 48;
 pub const LAST_DIGIT: u8 = 55;
 
 // Where a phrase ends, or that there is none.
-#[derive(Drop)]
+#[derive(Clone, Copy)]
 pub enum Phrase {
     Ends(usize),
     Missing,

@@ -1,1 +1,4 @@
 // What a formula is worth on plain grids: definitions in specs/, laws in proofs/; there is no code.
+
+#![tactic(auto)]
+

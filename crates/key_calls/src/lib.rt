@@ -1,6 +1,9 @@
 // "Keys behind doors" (document 02, A13) on lent matrices. Any words and any numbers may be lent: a call answers 0
 // and the number of doors in the vector that it has written, or the lowest refusal that applies and 0. A refused call
 // changes no word but the workspace's, and every call leaves the workspace all zeros.
+
+#![tactic(auto)]
+
 ghost use Rattle.std.specs.Prelude.{◌≤◌, length};
 ghost use Rattle.limits.specs.Limits.{max_cols};
 ghost use Rattle.matrix.specs.Layout.{size_of};

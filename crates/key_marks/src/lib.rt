@@ -1,6 +1,9 @@
 // Keys behind doors over matrices in words: a word for each key, not 0 where it is held, and a word for each door, 0
 // while it is shut and one more than the first round that it opens in. `doors_open` and `keys_held` ask each other;
 // `rounds` repeats the product and stops when no key is added.
+
+#![tactic(auto)]
+
 ghost use Rattle.std.specs.Prelude.{◌+◌, ◌≤◌, ◌≡◌, cond, length};
 ghost use Rattle.limits.specs.Limits.{max_allowance};
 ghost use Rattle.conditions.specs.Tests.{◌and◌};

@@ -1,5 +1,8 @@
 // The refusals of "keys behind doors" (document 02, A13) that are looked at before it is worked out: 3 to 5, 7, 8 and
 // 9, in this order.
+
+#![tactic(auto)]
+
 ghost use Rattle.std.specs.Prelude.{◌≡◌};
 ghost use Rattle.matrix.specs.Layout.{grid_of};
 ghost use Rattle.matrix.specs.Facts.{Header};

@@ -1,4 +1,7 @@
 // A row of the Kronecker product, from a row of each input: for each entry of the first a block of the second's columns.
+
+#![tactic(auto)]
+
 ghost use Rattle.std.specs.Prelude.{◌+◌, ◌*◌, ◌/◌, ◌%◌, ◌≤◌, length};
 ghost use Rattle.limits.specs.Limits.{max_cols};
 ghost use Rattle.operations.specs.CellOperations.{intersect};

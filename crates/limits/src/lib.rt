@@ -1,6 +1,8 @@
 // The limits of a matrix, an index list, the flags and a store (document 01: a sheet, a shelf). specs/Limits.antt states
 // the same numbers. Document 02, A6: rows, columns and index lists from 512 to 1,000.
 
+#![tactic(auto)]
+
 // Rows R and columns C are 1 to these.
 pub const MAX_ROWS: u32 = 1000;
 

@@ -1,5 +1,8 @@
 // Runs the operations on both sides of the limits: entries, lengths of the buffers, a large T, index lists. C's spare words
 // are 9.
+
+#![tactic(auto)]
+
 use call_codes::{Options, Verb};
 use operation_runs::{accumulated, extract, masked, mxm, plain, refill, report};
 use test_support::past;

@@ -1,4 +1,7 @@
 // The row of a mask as bits: the columns whose entries count, and what of a row lies inside the mask.
+
+#![tactic(auto)]
+
 ghost use Rattle.std.specs.Prelude.{◌≡◌, ◌<◌, length};
 ghost use Rattle.limits.specs.Limits.{max_cols};
 ghost use Rattle.rows.specs.Row.{lookup, Row};

@@ -1,5 +1,8 @@
 // A row of T as far as the mask lets it through: the write-back looks at T inside the mask only, and what lies outside
 // need not be worked out.
+
+#![tactic(auto)]
+
 ghost use Rattle.std.specs.Prelude.{◌≡◌, true, ◌≤◌, length};
 ghost use Rattle.rows.specs.Row.{lookup, Holds};
 ghost use Rattle.matrix.specs.Layout.{cols, cell_of, grid_of};

@@ -1,6 +1,9 @@
 // Matrices in words: what is valid, where the parts of a valid one are, and the header of one that is being written.
 // Any words may be lent to `check` and `is_valid`; the functions that take a part out of a matrix want the facts of a
 // valid one.
+
+#![tactic(auto)]
+
 use answers::{Answer, INVALID_FIRST};
 use layout::{
     COLS_AT, COLUMNS_PAST, COUNT_AGAIN_PAST, COUNT_PAST, FIXED_WORDS, REVISION_AT,

@@ -1,6 +1,9 @@
 // One merge of sparse rows, for the intersection, the union and the write-back, by case. Without a mask the write-back
 // is a copy, a union or nothing (`row_pairs`). With one, here is what becomes of the cells at one position, and the
 // walk over two rows and a mask's row by their entries.
+
+#![tactic(auto)]
+
 ghost use Rattle.std.specs.Prelude.{◌≡◌, ◌+◌, ◌≤◌, ◌<◌, min, length, get_or};
 ghost use Rattle.rows.specs.Row.{position, Rises, Row, Holds};
 ghost use Rattle.operations.specs.CellOperations.{unite};
@@ -14,7 +17,7 @@ use operations::{Accumulator, WriteBack};
 use operators::BinaryOp;
 
 // How the cells of two rows make one. Only the write-back looks at the mask.
-#[derive(Drop)]
+#[derive(Clone, Copy)]
 pub enum Combine {
     Intersect(BinaryOp),
     Unite(BinaryOp),
@@ -22,7 +25,7 @@ pub enum Combine {
 }
 
 // The same by the simplest means: nothing, one of the two rows, a walk over both, or the write-back under a mask.
-#[derive(Drop)]
+#[derive(Clone, Copy)]
 enum Way {
     Nothing,
     First,

@@ -1,5 +1,8 @@
 // What the programs that run the six operations share: options, and each call with its report: the answer, whether the
 // workspace is clear, and the words of C's buffer. The workspace is filled before each call.
+
+#![tactic(auto)]
+
 use call_codes::{Options, Verb};
 
 // No mask and no accumulator: the number 9 is not looked at.

@@ -1,5 +1,8 @@
 // The operations that give a matrix, as values: what each has and asks for, what T is, and how it is written back. Their
 // meaning on plain grids is in specs/.
+
+#![tactic(auto)]
+
 ghost use Rattle.std.specs.Prelude.{◌≡◌};
 ghost use Rattle.limits.specs.Limits.{max_cols};
 ghost use Rattle.operations.specs.GridOperations.{inputs_of, rules_of, part_shape, needs_of};
@@ -11,7 +14,7 @@ use select_ops::SelectOp;
 // Document 01's operations that give a T, and document 02's. A vector times a matrix is the product with a first input of one
 // row. Assign has the accumulator that it is written back with: T's places that are not listed depend on whether there is
 // one.
-#[derive(Drop)]
+#[derive(Clone, Copy)]
 pub enum Operation {
     Mxm(Monoid, BinaryOp),
     EwiseMult(BinaryOp),
@@ -25,14 +28,14 @@ pub enum Operation {
 }
 
 // "Whether there is a mask or an accumulator is said apart from its words or number."
-#[derive(Drop)]
+#[derive(Clone, Copy)]
 pub enum Accumulator {
     Absent,
     Present(BinaryOp),
 }
 
 // How T is written back into C: the flags that act there, whether there is a mask, and the accumulator.
-#[derive(Drop)]
+#[derive(Clone, Copy)]
 pub struct WriteBack {
     pub replace: bool,
     pub complement: bool,
@@ -44,7 +47,7 @@ pub struct WriteBack {
 // A call of one of these operations, its numbers decoded: the flags, whether every operator, monoid and accumulator
 // number is one, what is computed, whether the first input has to be a vector (it is then never transposed), whether
 // there is a mask, and the accumulator.
-#[derive(Drop)]
+#[derive(Clone, Copy)]
 pub struct Call {
     pub flags: u32,
     pub known: bool,
@@ -55,21 +58,21 @@ pub struct Call {
 }
 
 // The rows and columns of a matrix.
-#[derive(Drop)]
+#[derive(Clone, Copy)]
 pub struct Shape {
     pub rows: usize,
     pub cols: usize,
 }
 
 // Which inputs an operation has beside the first: a second one, index lists.
-#[derive(Drop)]
+#[derive(Clone, Copy)]
 pub struct Inputs {
     pub second: bool,
     pub lists: bool,
 }
 
 // The shapes of a call: of the inputs as their flags ask, of the old C, and the lengths of the two index lists.
-#[derive(Drop)]
+#[derive(Clone, Copy)]
 pub struct Shapes {
     pub first: Shape,
     pub second: Shape,
@@ -78,7 +81,7 @@ pub struct Shapes {
 }
 
 // What an operation asks of them: the shapes that its inputs have to have, the bounds of the indexes, and T's shape.
-#[derive(Drop)]
+#[derive(Clone, Copy)]
 pub struct Needs {
     pub first: Shape,
     pub second: Shape,
@@ -118,7 +121,7 @@ pub fn inputs_of(operation: Operation) -> Inputs
 // A shape that an operation asks for or gives, by what it is made of: the first input, the second, A's columns by B's
 // columns, A's rows by B's columns, the lengths of the lists, the old C, a vector with a place for each of A's rows, a
 // block of B's shape for each place of A.
-#[derive(Drop)]
+#[derive(Clone, Copy)]
 pub enum Part {
     First,
     Second,
@@ -131,7 +134,7 @@ pub enum Part {
 }
 
 // What an operation asks for: the shapes of its inputs, the bounds of the indexes, and T's shape.
-#[derive(Drop)]
+#[derive(Clone, Copy)]
 pub struct Rules {
     pub first: Part,
     pub second: Part,

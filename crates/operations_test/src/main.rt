@@ -1,5 +1,8 @@
 // Runs the six operations: the examples of source 002 that document 01 has operators for, scaled to whole numbers, and the
 // write-backs P7 to P12. C's spare words are 9.
+
+#![tactic(auto)]
+
 use call_codes::Options;
 use operation_runs::{accumulated, apply, ewise_add, ewise_mult, extract, masked, mxm, plain, vxm};
 

@@ -1,4 +1,7 @@
 // The operators by number (document 01, "Operators"). A number that stands for no operator is answered by Unknown.
+
+#![tactic(auto)]
+
 ghost use Rattle.std.specs.Prelude.{◌≡◌};
 ghost use Rattle.operator_codes.specs.Codes.{binary_numbered, monoid_numbered, unary_numbered};
 ghost use Rattle.operator_codes.specs.Codes.{index_unary_numbered, apply_numbered, select_numbered};
@@ -6,37 +9,37 @@ ghost use Rattle.operator_codes.specs.Codes.{index_unary_numbered, apply_numbere
 use operators::{ApplyOp, BinaryOp, IndexUnaryOp, Monoid, UnaryOp};
 use select_ops::SelectOp;
 
-#[derive(Drop)]
+#[derive(Clone, Copy)]
 pub enum BinaryCode {
     Known(BinaryOp),
     Unknown,
 }
 
-#[derive(Drop)]
+#[derive(Clone, Copy)]
 pub enum MonoidCode {
     Known(Monoid),
     Unknown,
 }
 
-#[derive(Drop)]
+#[derive(Clone, Copy)]
 pub enum UnaryCode {
     Known(UnaryOp),
     Unknown,
 }
 
-#[derive(Drop)]
+#[derive(Clone, Copy)]
 pub enum IndexUnaryCode {
     Known(IndexUnaryOp),
     Unknown,
 }
 
-#[derive(Drop)]
+#[derive(Clone, Copy)]
 pub enum ApplyCode {
     Known(ApplyOp),
     Unknown,
 }
 
-#[derive(Drop)]
+#[derive(Clone, Copy)]
 pub enum SelectCode {
     Known(SelectOp),
     Unknown,

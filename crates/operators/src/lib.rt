@@ -1,8 +1,11 @@
 // The operators of document 01 ("Operators") on words, each a signed 32-bit number in two's complement.
+
+#![tactic(auto)]
+
 ghost use Rattle.std.specs.Prelude.{◌≡◌};
 ghost use Rattle.operators.specs.Operators.{binary_word, unary_word, index_unary_word, entry_word, monoid_op};
 
-#[derive(Drop)]
+#[derive(Clone, Copy)]
 pub enum BinaryOp {
     First,
     Second,
@@ -14,7 +17,7 @@ pub enum BinaryOp {
     Max,
 }
 
-#[derive(Drop)]
+#[derive(Clone, Copy)]
 pub enum Monoid {
     Plus,
     Times,
@@ -22,7 +25,7 @@ pub enum Monoid {
     Max,
 }
 
-#[derive(Drop)]
+#[derive(Clone, Copy)]
 pub enum UnaryOp {
     Identity,
     Ainv,
@@ -31,7 +34,7 @@ pub enum UnaryOp {
     One,
 }
 
-#[derive(Drop)]
+#[derive(Clone, Copy)]
 pub enum IndexUnaryOp {
     RowIndex,
     ColIndex,
@@ -39,7 +42,7 @@ pub enum IndexUnaryOp {
 }
 
 // The four kinds of apply, each with its operator, and with the scalar where it has one.
-#[derive(Drop)]
+#[derive(Clone, Copy)]
 pub enum ApplyOp {
     Unary(UnaryOp),
     BinaryScalarFirst(BinaryOp, u32),

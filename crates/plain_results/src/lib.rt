@@ -1,5 +1,8 @@
 // T as a whole, for the calls whose final C is T: its rows one after another, then its words at the front of the
 // workspace.
+
+#![tactic(auto)]
+
 ghost use Rattle.std.specs.Prelude.{◌≡◌, true, ◌≤◌, length};
 ghost use Rattle.limits.specs.Limits.{max_rows, max_entries};
 ghost use Rattle.matrix.specs.Layout.{rows, row_columns, grid_of, workspace_words};

@@ -1,5 +1,8 @@
 // The program of document 02, A1: it reads a file from standard input and prints it as text, or the line "refused 15"
 // alone. The input is read to its end, however it arrives: what comes after the longest file makes it no file.
+
+#![tactic(auto)]
+
 use files::MAX_FILE_BYTES;
 use libc::{STDIN_FILENO, STDOUT_FILENO};
 use matrix::layout::MAX_MATRIX_WORDS;

@@ -1,6 +1,9 @@
 // One row of the product: "over all k where A(i,k) and B(k,j) are both present, multiply, then add up with the monoid".
 // The rows of the second input that the entries of the row name are added up in rising order of k: in a dense row, which
 // is gone through by its places, or by entries (`by_entries`).
+
+#![tactic(auto)]
+
 use limits::ROW_PLACES;
 use matrix::layout::COLS_AT;
 use operators::{BinaryOp, Monoid};
@@ -19,7 +22,7 @@ ghost use Rattle.dense_rows.specs.Dense.{marked, dense, Sized, Spread};
 ghost use Rattle.products.specs.Products.{product_row, added_row};
 
 // The two engines of the product. They give the same rows.
-#[derive(Drop)]
+#[derive(Clone, Copy)]
 pub enum Engine {
     ByPlaces,
     ByEntries,

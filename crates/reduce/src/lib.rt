@@ -1,4 +1,7 @@
 // Reducing a whole matrix to one number (document 02, A4: "a whole sheet into one number").
+
+#![tactic(auto)]
+
 ghost use Rattle.std.specs.Prelude.{◌≡◌};
 ghost use Rattle.answers.specs.Numbers.{number_answer, refused_number};
 ghost use Rattle.matrix.specs.Layout.{grid_of};

@@ -1,4 +1,7 @@
 // The rows of a matrix reduced by a monoid, into one row.
+
+#![tactic(auto)]
+
 ghost use Rattle.std.specs.Prelude.{◌≤◌, length};
 ghost use Rattle.reductions.specs.Reductions.{reduced_row};
 ghost use Rattle.rows.specs.Row.{Holds};

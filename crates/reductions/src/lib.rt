@@ -1,4 +1,7 @@
 // Values added up with a monoid (document 02, A4: "reduce by a monoid").
+
+#![tactic(auto)]
+
 ghost use Rattle.std.specs.Prelude.{◌≡◌};
 ghost use Rattle.reductions.specs.Reductions.{identity_word, total, reduced};
 

@@ -1,4 +1,7 @@
 // Runs the six operations where they are refused: each refusal in its order. C's spare words are 9.
+
+#![tactic(auto)]
+
 use call_codes::Options;
 use operation_runs::{ewise_add, extract, masked, mxm, plain, vxm};
 

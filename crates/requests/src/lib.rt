@@ -1,4 +1,7 @@
 // The refusals of a call on lent matrices that are looked at before it is worked out (1 to 9), in their order.
+
+#![tactic(auto)]
+
 ghost use Rattle.std.specs.Prelude.{◌≡◌, true, cond, ◌≤◌, ◌<◌, eqb, length};
 ghost use Rattle.limits.specs.Limits.{max_cols};
 ghost use Rattle.conditions.specs.Tests.{◌and◌, all};

@@ -1,5 +1,8 @@
 // A row of T for any of the operations. The inputs are valid matrices, as their transpose flags ask; so is the old C.
 // Where there are lists and no second input, the inverses of both lists stand in its place.
+
+#![tactic(auto)]
+
 ghost use Rattle.std.specs.Prelude.{◌≡◌, ◌*◌, ◌/◌, ◌%◌, ◌≤◌, ◌<◌, length};
 ghost use Rattle.words.specs.Words.{at};
 ghost use Rattle.rows.specs.Row.{Holds};

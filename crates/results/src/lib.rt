@@ -1,6 +1,9 @@
 // The result of an operation, put together in the workspace: row by row its columns and values are staged, and at the
 // end the words of the matrix stand at the front. Or its column numbers are written where they
 // stay, and the other sections joined to them.
+
+#![tactic(auto)]
+
 ghost use Rattle.std.specs.Prelude.{◌≡◌};
 ghost use Rattle.results.specs.Staging.{RowBounds, ResultBounds, staged_row, finished};
 ghost use Rattle.results.specs.Joining.{SectionBounds, joined};

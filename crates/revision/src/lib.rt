@@ -1,4 +1,7 @@
 // The revision of a lent matrix (document 02, A12: "Support wants to know whether a sheet was touched").
+
+#![tactic(auto)]
+
 ghost use Rattle.std.specs.Prelude.{◌≡◌};
 ghost use Rattle.revision.specs.Revision.{revision_answer};
 

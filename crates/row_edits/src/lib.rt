@@ -1,4 +1,7 @@
 // One row of a valid matrix, replaced in place, and the revision with it.
+
+#![tactic(auto)]
+
 ghost use Rattle.std.specs.Prelude.{◌≡◌, ◌≤◌};
 ghost use Rattle.limits.specs.Limits.{max_entries};
 ghost use Rattle.rows.specs.Row.{lookup};

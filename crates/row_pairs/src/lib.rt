@@ -1,5 +1,8 @@
 // Two sparse rows made into one by a walk over their entries: the intersection, the union, and the copy of a row. The
 // steps have few branches: which of two columns is the lower one is used as a number.
+
+#![tactic(auto)]
+
 ghost use Rattle.std.specs.Prelude.{◌≡◌, ◌≤◌, min, length};
 ghost use Rattle.operations.specs.CellOperations.{intersect, unite};
 ghost use Rattle.rows.specs.Row.{lookup, Row, Holds};

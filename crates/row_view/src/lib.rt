@@ -1,6 +1,9 @@
 // Looking at one row over two matrices of equal shape (document 01: "look at one row over two sheets"). The part shown
 // lies in the first matrix where that row has an entry, otherwise in the second. This call gives no number: where
 // either matrix is damaged, the shapes differ or the row does not exist, the part is empty.
+
+#![tactic(auto)]
+
 ghost use Rattle.std.specs.Prelude.{◌≡◌};
 ghost use Rattle.matrix.specs.Layout.{columns_from, values_from};
 ghost use Rattle.matrix.specs.Facts.{Header, RowSpan};
@@ -10,7 +13,7 @@ ghost use Rattle.row_view.specs.View.{viewable, section_from, section_to, row_vi
 use matrix::layout::{COLS_AT, COLUMNS_PAST, COUNT_PAST, ROWS_AT, STARTS_AT, VALUES_PAST};
 
 // "column numbers or values as asked"
-#[derive(Drop)]
+#[derive(Clone, Copy)]
 pub enum Section {
     Columns,
     Values,
@@ -34,7 +37,7 @@ pub fn row_view<'a>(first: &'a [u32], second: &'a [u32], i: u32, section: Sectio
 
 // Where the part lies that `row_view` shows, for a host that cannot take a part of its own words back: in the first
 // matrix or in the second, from which word on, and how many words.
-#[derive(Drop)]
+#[derive(Clone, Copy)]
 pub struct Place {
     pub in_second: bool,
     pub from: usize,

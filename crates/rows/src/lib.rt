@@ -1,5 +1,8 @@
 // A sparse row: column numbers that rise strictly, each beside its value. A search counts the column numbers that it looks
 // at.
+
+#![tactic(auto)]
+
 ghost use Rattle.std.specs.Prelude.{◌≡◌, ◌+◌, ◌≤◌, ◌<◌, length};
 ghost use Rattle.limits.specs.Limits.{max_entries};
 ghost use Rattle.words.specs.Words.{at};
@@ -11,35 +14,35 @@ ghost use Rattle.rows.specs.Looks.{position_looks, look_there, looks_for};
 use grid::{Cell, EntryAt};
 
 // The place of a column in a row: its position, or where it would be put to keep the order.
-#[derive(Drop)]
+#[derive(Clone, Copy)]
 pub enum ColumnAt {
     Present(usize),
     Absent(usize),
 }
 
 // The place of a column, and how many column numbers were looked at to find it.
-#[derive(Drop)]
+#[derive(Clone, Copy)]
 pub struct FoundColumn {
     pub place: ColumnAt,
     pub looks: usize,
 }
 
 // The entry of a cell, and how many column numbers were looked at to find it.
-#[derive(Drop)]
+#[derive(Clone, Copy)]
 pub struct FoundEntry {
     pub entry: EntryAt,
     pub looks: usize,
 }
 
 // A position, and how many column numbers were looked at to find it.
-#[derive(Drop)]
+#[derive(Clone, Copy)]
 struct Bound {
     position: usize,
     looks: usize,
 }
 
 // A column number, and how many were looked at, this one included.
-#[derive(Drop)]
+#[derive(Clone, Copy)]
 struct Seen {
     column: u32,
     looks: usize,

@@ -1,5 +1,8 @@
 // Reads each cell of rows with 0, 1, 2, 3, 400 and all columns, and prints for each row how many cells were present and
 // absent, how many answers were wrong, and the most column numbers that a read looked at.
+
+#![tactic(auto)]
+
 use answers::CellAnswer;
 use libc::STDOUT_FILENO;
 use limits::MAX_COLS;
@@ -7,7 +10,7 @@ use matrix::layout::ROWS_AT;
 
 // A row's number of entries, the first column, and how many columns further the next one is. The values are 0, 1, 2 and
 // so on.
-#[derive(Drop)]
+#[derive(Clone, Copy)]
 struct RowPlan {
     entries: u32,
     first: u32,
@@ -16,7 +19,7 @@ struct RowPlan {
 
 // What was seen of a row: its entries so far and the column of the next, absent cells, wrong answers, the most looks and
 // the first column that took them.
-#[derive(Drop)]
+#[derive(Clone, Copy)]
 struct Tally {
     present: u32,
     next: u32,

@@ -1,10 +1,13 @@
 // The conditions of select (document 02, A4) on words, each a signed 32-bit number in two's complement.
+
+#![tactic(auto)]
+
 ghost use Rattle.std.specs.Prelude.{◌≡◌, ◌+◌, ◌%◌};
 ghost use Rattle.select_ops.specs.Selects.{selects};
 
 // Each with the scalar s: the value equal, not equal, less, at most, greater, at least s; the lower triangle, where the
 // column is at most the row plus s, and the upper, where it is at least that.
-#[derive(Drop)]
+#[derive(Clone, Copy)]
 pub enum SelectOp {
     ValueEq(u32),
     ValueNe(u32),

@@ -1,4 +1,7 @@
 // Select on one row of the input as its transpose flag asks.
+
+#![tactic(auto)]
+
 ghost use Rattle.std.specs.Prelude.{◌≤◌, length};
 ghost use Rattle.operations.specs.CellOperations.{select_cell};
 ghost use Rattle.rows.specs.Row.{lookup, Row, Holds};

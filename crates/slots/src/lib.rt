@@ -1,6 +1,9 @@
 // A store in lent words: as many sections as there are slots, each a count of words and then the contents of its slot
 // (document 01: "The shelf"). `check` tells whether any words are a store; the other functions want the facts of one.
 // Contents are moved and never looked into, but by `check`: each is no words or a valid matrix.
+
+#![tactic(auto)]
+
 ghost use Rattle.std.specs.Prelude.{◌≡◌, cond, ◌+◌, ◌-◌, ◌≤◌, ◌<◌, leb, length, drop};
 ghost use Rattle.limits.specs.Limits.{slot_count, max_store_words};
 ghost use Rattle.matrix.specs.Facts.{Header};

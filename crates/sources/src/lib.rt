@@ -1,5 +1,8 @@
 // The inputs of a call as their flags ask. The workspace is three regions of the largest matrix each: the result, the
 // first input transposed, the second input transposed.
+
+#![tactic(auto)]
+
 ghost use Rattle.std.specs.Prelude.{◌≡◌, true, cond, ◌≤◌, length};
 ghost use Rattle.matrix.specs.Layout.{grid_of, max_matrix_words};
 ghost use Rattle.matrix.specs.Facts.{Matrix};

@@ -1,6 +1,9 @@
 // The operations on the slots of a store. Any words and any numbers may be lent; one slot may have several roles,
 // and all are read before C is written. A refused call changes no word of the store, and every call leaves the
 // workspace all zeros.
+
+#![tactic(auto)]
+
 ghost use Rattle.std.specs.Prelude.{◌≡◌, cond, length, replicate};
 ghost use Rattle.answers.specs.Refusals as answers;
 ghost use Rattle.refusals.specs.Cases.{first_applying, first_of};
@@ -107,7 +110,7 @@ fn attempt(
 }
 
 // The number of entries of the final C, which is at the front of the workspace; or a refusal.
-#[derive(Drop)]
+#[derive(Clone, Copy)]
 pub enum Evaluated {
     Done(usize),
     Refused(u32),

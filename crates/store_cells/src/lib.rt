@@ -1,6 +1,9 @@
 // The calls on a store that change or read one slot (document 01, "The shelf"): lay an empty matrix, drop a slot, set,
 // clear and read a cell. Any words may be lent. Each call validates the store once. A refused call changes no word of
 // it, and a write moves each later word at most once.
+
+#![tactic(auto)]
+
 ghost use Rattle.std.specs.Prelude.{◌≡◌};
 ghost use Rattle.limits.specs.Limits.{slot_count};
 ghost use Rattle.answers.specs.Refusals as answers;

@@ -1,6 +1,9 @@
 // A formula over the slots of a store, whose result takes the place of what a slot holds (document 02, A8). Any words,
 // any numbers and any text may be lent. A refused call changes no word of the store, and every call leaves the stack
 // all zeros.
+
+#![tactic(auto)]
+
 ghost use Rattle.std.specs.Prelude.{◌≡◌, not, length, replicate};
 ghost use Rattle.conditions.specs.Tests.{◌and◌};
 ghost use Rattle.answers.specs.Refusals as answers;

@@ -1,5 +1,8 @@
 // Runs the calls on a store on both sides of its limits: room to the word, words that are no store, the shortest and the
 // longest, the most entries. For each call: the answer, and the words of a small store.
+
+#![tactic(auto)]
+
 use store_runs::{clear, drop, lay, read, set};
 
 fn main() {

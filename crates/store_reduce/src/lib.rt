@@ -1,5 +1,8 @@
 // Reducing the matrix in a slot of a store to one number (document 02, A4: "all are shelf calls too"). Any words may be
 // lent.
+
+#![tactic(auto)]
+
 ghost use Rattle.std.specs.Prelude.{◌≡◌, ◌<◌};
 ghost use Rattle.limits.specs.Limits.{slot_count};
 ghost use Rattle.slots.specs.Facts.{Store};

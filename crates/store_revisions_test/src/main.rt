@@ -1,5 +1,8 @@
 // Runs each call that writes into a matrix of a store, accepted and then refused, and prints the answer and the revision after
 // it; calls that write into none; and calls that make a matrix, over another one. All matrices are 1 by 1.
+
+#![tactic(auto)]
+
 use call_codes::{Options, Verb};
 use model::Roles;
 

@@ -1,6 +1,8 @@
 // What the programs that run the calls on a store share: each call on one slot with its report, the answer and then the words
 // of a small store.
 
+#![tactic(auto)]
+
 pub fn lay(store: &mut [u32], slot: usize, rows: u32, cols: u32) {
     let r = store_cells::new_empty(store, slot, rows, cols);
     report(b"lay: ", r.code, r.entries, &store[..]);

@@ -1,5 +1,8 @@
 // Runs the calls on a store: a list of calls that churns its room, one slot in every role, refusals in their order. For each
 // call: the answer, and after an operation whether the workspace is clear; then the words.
+
+#![tactic(auto)]
+
 use call_codes::{Options, Verb};
 use model::Roles;
 use store_runs::{clear, drop, lay, read, set};

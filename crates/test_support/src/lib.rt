@@ -1,4 +1,7 @@
 // What the test programs share: numbers and words printed, and large matrices built word by word.
+
+#![tactic(auto)]
+
 use libc::STDOUT_FILENO;
 
 // The word at k, or 0 past the end.

@@ -1,5 +1,8 @@
 // A matrix as text (document 02, A1): a line "R C N", then a line "row column value" for each entry in order, in signed
 // decimals, each ended by a newline byte. The functions that append answer where the next byte goes.
+
+#![tactic(auto)]
+
 ghost use Rattle.std.specs.Prelude.{◌≡◌, ◌+◌, ◌≤◌, length};
 ghost use Rattle.matrix.specs.Layout.{rows, cols, cell_of, grid_of};
 ghost use Rattle.matrix.specs.Facts.{Matrix};
@@ -18,7 +21,7 @@ const NEWLINE: u8 = 10;
 const SPACE: u8 = 32;
 
 // 0 and how many bytes were written, or a refusal code and 0.
-#[derive(Drop)]
+#[derive(Clone, Copy)]
 pub struct TextAnswer {
     pub code: u32,
     pub length: u32,

@@ -1,5 +1,8 @@
 // The transpose of a matrix, by counting: the number of entries in each column says where its entries go, and one walk
 // over the rows puts them there. The time goes by entries, rows and columns.
+
+#![tactic(auto)]
+
 ghost use Rattle.std.specs.Prelude.{◌≡◌, ◌+◌, ◌≤◌, length};
 ghost use Rattle.rows.specs.Row.{Row};
 ghost use Rattle.matrix.specs.Layout.{max_matrix_words, cols, row_columns, row_values, grid_of};

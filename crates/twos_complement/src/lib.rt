@@ -1,6 +1,9 @@
 // Signed 32-bit arithmetic on words, in two's complement. A word x holds the number `signed x`, and each
 // operation here gives the word of its exact result, modulo 2^32. Sums and differences are std::num's wrapping_add_u32 and
 // wrapping_sub_u32.
+
+#![tactic(auto)]
+
 ghost use Rattle.std.specs.Prelude.{◌≡◌, ◌*ℤ◌, neg_ℤ};
 ghost use Rattle.twos_complement.specs.TwosComplement.{signed, word, min_ℤ, max_ℤ, abs_ℤ, not_ℤ};
 

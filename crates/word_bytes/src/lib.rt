@@ -1,4 +1,7 @@
 // Words of 32 bits as bytes, four each, lowest byte first, and back.
+
+#![tactic(auto)]
+
 ghost use Rattle.std.specs.Prelude.{◌≡◌, ◌+◌, ◌*◌, ◌/◌, ◌≤◌, ◌<◌, length};
 ghost use Rattle.words.specs.Words.{at as atWord, overwrite};
 ghost use Rattle.append.specs.Appended.{Appended};

@@ -1,4 +1,7 @@
 // Lent slices of 32-bit words.
+
+#![tactic(auto)]
+
 ghost use Rattle.std.specs.Prelude.{◌≡◌, ◌+◌, ◌≤◌, length, replicate};
 ghost use Rattle.words.specs.Words.{part, overwrite};
 
