@@ -40,5 +40,6 @@ row_correct r h =
 -- each row of a list whose test holds is correct
 pub rows_correct : (rows : List Row) → all_hold rows ≡ true → (r : Row) → Memᴰ r rows → Correct r
 unfolding all_hold
+rows_correct [] h r m = elim m [ ]
 rows_correct (x ∷ rest) h r (Memᴰ.head e) = row_correct r (rw e (and_left _ _ h))
 rows_correct (x ∷ rest) h r (Memᴰ.tail m) = rows_correct rest (and_right _ _ h) r m

@@ -1,0 +1,44 @@
+-- `write_vector` stages one row and finishes the writing.
+use native.Mathlib.Omega.{arith}
+use Rattle.door_vectors.proofs.Writing.{vector_most, vector_columns, vector_values, vector_bounds, finish_bounds, vector_written}
+use Rattle.door_vectors.proofs.write_vector.Goals as goal
+
+pub slice_bounds-stage_row-end : goal.slice_bounds-stage_row-end
+slice_bounds-stage_row-end c =
+    omega (
+      arith,
+      vector_most c.args.doors.now c.gather_doors-n.ensures,
+      c.requires.fact_1.long_cols,
+      c.gather_doors-n.auto,
+    )
+
+pub slice_bounds-stage_row-end-2 : goal.slice_bounds-stage_row-end-2
+slice_bounds-stage_row-end-2 c =
+    vector_columns (start c.before.before.before.before.before.before).args.doors.now c.gather-doors.ensures
+
+pub slice_bounds-stage_row-end-3 : goal.slice_bounds-stage_row-end-3
+slice_bounds-stage_row-end-3 c =
+    omega (
+      arith,
+      vector_most (start c.before.before.before.before.before.before).args.doors.now c.gather-doors.ensures,
+      (start c.before.before.before.before.before.before).requires.0.long_vals,
+      c.gather-doors.auto,
+    )
+
+pub slice_bounds-stage_row-end-4 : goal.slice_bounds-stage_row-end-4
+slice_bounds-stage_row-end-4 c =
+    vector_values (start c.before.before.before.before.before.before.before).args.doors.now c.gather-doors.ensures
+
+pub stage_row-requires : goal.stage_row-requires
+stage_row-requires c =
+    vector_bounds (start c.before.before.before.before.before.before.before).args.out.now (start c.before.before.before.before.before.before.before).requires.0 (start c.before.before.before.before.before.before.before).requires.1 c.gather-doors.ensures
+
+pub finish-requires : goal.finish-requires
+finish-requires c =
+    finish_bounds (start c.before.before.before.before.before.before.before.before.before.before.before).args.out.now (start c.before.before.before.before.before.before.before.before.before.before.before).requires.0 (start c.before.before.before.before.before.before.before.before.before.before.before).requires.1 c.gather-doors.ensures
+    c.stage_row.auto.work
+
+pub returns : goal.returns
+returns c =
+    vector_written (start c.before.before.before.before.before.before.before.before.before.before.before.before.before.before).args.out.now (start c.before.before.before.before.before.before.before.before.before.before.before.before.before.before).requires.0 (start c.before.before.before.before.before.before.before.before.before.before.before.before.before.before).requires.1 c.gather-doors.ensures
+    c.stage_row.ensures c.stage_row.auto.work c.finish.ensures

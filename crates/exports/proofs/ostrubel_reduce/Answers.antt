@@ -1,0 +1,7 @@
+-- `ostrubel_reduce` answers what `reduce::reduce` does.
+use mathlib.Core.Path.{ap, ◌∙◌}
+use Rattle.exports.specs.Packing.{packed_number}
+use Rattle.exports.proofs.ostrubel_reduce.Goals as goal
+
+pub returns : goal.returns
+returns c = c.pack_number.ensures ∙ ap packed_number c.reduce.ensures

@@ -1,0 +1,24 @@
+-- `row_of` lends the operands.
+use native.Mathlib.Omega.{arith}
+use mathlib.Core.Path.{sym}
+use lib.Seq.{length-take-le}
+use Rattle.matrix.specs.Layout.{max_matrix_words}
+use Rattle.formula_steps.proofs.row_of.Goals as goal
+
+pub slice_bounds-result_row-end : goal.slice_bounds-result_row-end
+slice_bounds-result_row-end c =
+    let p = c.before.before.before.before in
+    sym (length-take-le max_matrix_words p.args.area.now (omega (arith, p.requires.1.1)))
+
+pub slice_bounds-result_row-end-3 : goal.slice_bounds-result_row-end-3
+slice_bounds-result_row-end-3 c =
+    let p = c.before.before.before.before.before.before in
+    sym (length-take-le max_matrix_words p.args.area.now (omega (arith, p.requires.1.1)))
+
+pub result_row-requires : goal.result_row-requires
+result_row-requires c =
+    let p = c.before.before.before.before.before.before.before.before.before.before.requires in
+ record {
+      row_inputs = p.0;
+      buffers = p.1.0;
+    }

@@ -1,0 +1,29 @@
+-- `unary_code` gives `unary_numbered`: each arm by the table, and the last by what is left of the number.
+use Rattle.operator_codes.specs.declared.UnaryCode.TheVariants.{Unknown}
+use Rattle.operator_codes.specs.Codes.{unary_table, unary_numbered}
+use Rattle.operator_codes.proofs.Tables.{unlisted}
+use Rattle.operator_codes.proofs.unary_code.Goals as goal
+
+pub returns-in-0 : goal.returns-in-0
+unfolding unary_numbered
+returns-in-0 c = rw c.in-0.is
+
+pub returns-in-1 : goal.returns-in-1
+unfolding unary_numbered
+returns-in-1 c = rw c.in-1.is
+
+pub returns-in-2 : goal.returns-in-2
+unfolding unary_numbered
+returns-in-2 c = rw c.in-2.is
+
+pub returns-in-3 : goal.returns-in-3
+unfolding unary_numbered
+returns-in-3 c = rw c.in-3.is
+
+pub returns-in-4 : goal.returns-in-4
+unfolding unary_numbered
+returns-in-4 c = rw c.in-4.is
+
+pub returns-in_default : goal.returns-in_default
+unfolding unary_numbered
+returns-in_default c = unlisted unary_table Unknown _ c.in_default.in_default-own.rest

@@ -1,0 +1,9 @@
+-- `add_product` gives the union of the sum and the product: by the mark.
+use borrow.Author.Tests.{eq-eqb, ne_eqb}
+use Rattle.products.proofs.add_product.Goals as goal
+
+pub returns-then-mark-eq0 : goal.returns-then-mark-eq0
+returns-then-mark-eq0 c = rw (eq-eqb _ _ c.if-mark-eq0.true)
+
+pub returns : goal.returns
+returns c = rw (ne_eqb _ _ c.if-mark-eq0.false, c.apply_binary.ensures, c.monoid_op.ensures)

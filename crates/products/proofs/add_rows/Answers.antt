@@ -1,0 +1,54 @@
+-- `add_rows` adds up the rows that the entries name: those of the entries before p are added.
+use Prim.Native.Nat.{◌-◌, ◌<◌}
+use native.Mathlib.Omega.{arith}
+use Rattle.words.specs.Words.{at}
+use Rattle.matrix.specs.Layout.{rows}
+use Rattle.matrix.proofs.Facts.{row_span}
+use Rattle.products.proofs.Summing.{matrix_row, summing_start, summing_step, summing_done}
+use Rattle.products.proofs.add_rows.Goals as goal
+
+-- the column at p is a row of b
+named : (c : goal.After-add_matrix_row-arg-in-loop-p-1)
+    → let a = c.args in at a.columns.now c.loop-p.p < rows a.b.now
+named c = c.requires.row_1.small c.loop-p.p c.loop-p-test.true
+
+pub loop-p-init : goal.loop-p-init
+loop-p-init c = summing_start c.requires.row_1 c.requires.spread
+
+pub offset_bounds-columns-p : goal.offset_bounds-columns-p
+offset_bounds-columns-p c = omega arith
+
+pub bounds-columns-p : goal.bounds-columns-p
+bounds-columns-p c = omega arith
+
+pub overflow_cast-k : goal.overflow_cast-k
+overflow_cast-k c = omega (arith, c.shared_slice_known-in-loop-p-1.given c.loop-p.p)
+
+pub offset_bounds-values-p : goal.offset_bounds-values-p
+offset_bounds-values-p c = omega (arith, c.requires.row_1.even)
+
+pub bounds-values-p : goal.bounds-values-p
+bounds-values-p c = omega (arith, c.requires.row_1.even)
+
+pub add_matrix_row-requires : goal.add_matrix_row-requires
+add_matrix_row-requires c =
+ record {
+      header_1 = c.requires.row_2.header;
+      header_2 = row_span _ c.requires.row_2.starts _ (named c);
+      header_3 = matrix_row _ c.requires.row_2 _ (named c);
+      sized = c.loop-p.invariant.sized;
+    }
+
+pub overflow_add-p : goal.overflow_add-p
+overflow_add-p c = omega arith
+
+pub loop-p-smaller : goal.loop-p-smaller
+loop-p-smaller c = omega arith
+
+pub loop-p-preserved : goal.loop-p-preserved
+loop-p-preserved c =
+    summing_step c.requires.row_1 c.loop-p.invariant c.loop-p-test.true
+    c.add_matrix_row.ensures
+
+pub returns : goal.returns
+returns c = summing_done c.requires.row_1 c.loop-p.invariant c.loop-p-test.false

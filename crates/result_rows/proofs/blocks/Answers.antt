@@ -1,0 +1,52 @@
+-- `blocks` is a row of the Kronecker product.
+use Rattle.matrix.specs.Layout.{cell_of}
+use Rattle.operations.proofs.Blocks.{block_below, place_below}
+use Rattle.result_rows.proofs.Inputs.{matrix_row, matrix_span}
+use Rattle.result_rows.proofs.blocks.Goals as goal
+
+pub row_columns-requires : goal.row_columns-requires
+row_columns-requires c =
+    rw c.row_count-height.ensures (c.requires.block_inputs.first.header, matrix_span _ c.requires.block_inputs.first _ (block_below _ _ _ c.requires.block_inputs.row))
+
+pub row_values-requires : goal.row_values-requires
+row_values-requires c =
+    rw c.row_count-height.ensures (c.requires.block_inputs.first.header, matrix_span _ c.requires.block_inputs.first _ (block_below _ _ _ c.requires.block_inputs.row))
+
+pub row_columns-requires-2 : goal.row_columns-requires-2
+row_columns-requires-2 c =
+    rw c.row_count-height.ensures (c.requires.block_inputs.second.header, matrix_span _ c.requires.block_inputs.second _ (place_below _ _ _ c.requires.block_inputs.row))
+
+pub row_values-requires-2 : goal.row_values-requires-2
+row_values-requires-2 c =
+    rw c.row_count-height.ensures (c.requires.block_inputs.second.header, matrix_span _ c.requires.block_inputs.second _ (place_below _ _ _ c.requires.block_inputs.row))
+
+pub kronecker_row-requires : goal.kronecker_row-requires
+kronecker_row-requires c =
+    rw (
+      c.col_count.ensures,
+      c.col_count-2.ensures,
+      c.row_columns.ensures.words,
+      c.row_values.ensures.words,
+      c.row_columns-2.ensures.words,
+      c.row_values-2.ensures.words,
+      c.row_count-height.ensures,
+    ) (
+      (c.requires.block_inputs.first.header.col_range.most, c.requires.block_inputs.second.header.col_range.most),
+      (
+        matrix_row _ c.requires.block_inputs.first _ (block_below _ _ _ c.requires.block_inputs.row),
+        (matrix_row _ c.requires.block_inputs.second _ (place_below _ _ _ c.requires.block_inputs.row), c.requires.b_in_bounds),
+      ),
+    )
+
+pub returns : goal.returns
+unfolding cell_of
+returns c =
+    rw (
+      c.col_count.ensures,
+      c.col_count-2.ensures,
+      c.row_columns.ensures.words,
+      c.row_values.ensures.words,
+      c.row_columns-2.ensures.words,
+      c.row_values-2.ensures.words,
+      c.row_count-height.ensures,
+    ) at c.kronecker_row.ensures

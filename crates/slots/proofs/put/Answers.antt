@@ -1,0 +1,67 @@
+-- `put` tests the room, changes the count of the slot and copies the words.
+use native.Mathlib.Omega.{arith}
+use Prim.Native.Nat.{ℕ, ◌+◌, ◌-◌, ◌≤◌}
+use mathlib.Core.Path.{◌≡◌, ap}
+use mathlib.Core.Bool.{true}
+use lib.Dec.{leb}
+use lib.ListN.{length}
+use Rattle.conditions.proofs.Tests.{said_no, said_yes}
+use Rattle.slots.specs.Sections.{end_from, count_at}
+use Rattle.slots.proofs.Filled.{filled_not, resizable, slot_within, filled}
+use Rattle.slots.proofs.put.Goals as goal
+
+-- there the test holds
+room_3 : (q : goal.After-find-from) → let p = (start q).args in
+    leb (p.end - count_at p.store.now p.slot + length p.held.now) (length p.store.now) ≡ true
+room_3 q = said_yes q.fits2.ensures q.if-not-fits.false
+
+-- and the slot's words are within the store
+within : (q : goal.After-find-from) → let p = (start q).args in
+    end_from p.slot p.store.now + 1 + length p.held.now ≤ length p.store.now
+within q = slot_within (filling (start q)) (start q).args.held.now (room_3 q)
+
+-- there the test holds
+room : (q : goal.After-resize-arg-1) → let p = (start q).args in
+    leb (p.end - count_at p.store.now p.slot + length p.held.now) (length p.store.now) ≡ true
+room q = said_yes q.fits2.ensures q.if-not-fits.false
+
+-- there the test holds
+room_4 : (q : goal.After-copy_into-arg-1) → let p = (start q).args in
+    leb (p.end - count_at p.store.now p.slot + length p.held.now) (length p.store.now) ≡ true
+room_4 q = said_yes q.fits2.ensures q.if-not-fits.false
+
+-- and the slot's words are within the store
+within_2 : (q : goal.After-copy_into-arg-1) → let p = (start q).args in
+    end_from p.slot p.store.now + 1 + length p.held.now ≤ length p.store.now
+within_2 q = slot_within (filling (start q)) (start q).args.held.now (room_4 q)
+
+-- there the test holds
+room_2 : (q : goal.After-slice_known-3-1) → let p = (start q).args in
+    leb (p.end - count_at p.store.now p.slot + length p.held.now) (length p.store.now) ≡ true
+room_2 q = said_yes q.fits2.ensures q.if-not-fits.false
+
+pub returns-then-not-fits : goal.returns-then-not-fits
+returns-then-not-fits c =
+    let p = c.before.before.before.before.before in
+    filled_not (filling p) p.args.held.now (said_no c.fits2.ensures c.if-not-fits.true)
+
+pub overflow_add-from : goal.overflow_add-from
+overflow_add-from c =
+    let w = within c in
+    let m = (filling (start c.before.before)).most in
+    omega arith
+
+pub resize-requires : goal.resize-requires
+resize-requires c =
+    resizable (filling (start c.before.before.before)) (start c.before.before.before).args.held.now (room c)
+
+pub copy_into-requires : goal.copy_into-requires
+copy_into-requires c =
+    let w = within_2 c in
+    let k = c.resize.auto.store in
+    omega arith
+
+pub returns : goal.returns
+returns c =
+    filled (filling (start c.before.before.before.before.before.before.before.before.before.before)) (start c.before.before.before.before.before.before.before.before.before.before).args.held.now (room_2 c) _ _ _ (ap (λ (a : ℕ). a + 1) c.find-from.ensures)
+    c.resize.ensures c.copy_into.ensures

@@ -1,0 +1,12 @@
+-- `clear` leaves zeros: after i turns the first i words are 0 and the others as they were.
+use Prim.Native.Nat.{◌-◌, ◌≤◌}
+use mathlib.Core.Path.{◌≡◌}
+use mathlib.Core.List.{◌++◌}
+use lib.ListN.{length, drop, replicate}
+use Rattle.words.proofs.clear.Given as goal
+
+abbrev pub invariant-loop-i : goal.invariant-loop-i
+invariant-loop-i l = (l.words ≡ replicate l.i 0 ++ drop l.i l.initial.words) × (length l.words ≡ length l.initial.words) × (l.i ≤ length l.initial.words)
+
+abbrev pub decreases-loop-i : goal.decreases-loop-i
+decreases-loop-i l = length l.initial.words - l.i
