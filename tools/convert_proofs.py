@@ -50,6 +50,8 @@ class Fn:
         self.parent = [self.idx[p[1]] if p[1] is not None else None for p in self.places]
         self.new_place = d["places_by_name"]
         self.needs = {norm(o): (n, i, o) for i, (o, n) in enumerate(d["needs"])}
+        for i, (o, n) in enumerate(d["needs"]):
+            self.needs.setdefault(norm(n), (n, i, o))
         self.ensures = clause_names(source, fname, "ensures")
         self.requires = clause_names(source, fname, "requires")
         self.said = []
@@ -103,14 +105,12 @@ def several(base, names, rest, fn):
     return out
 
 
-def resolve(fn, root, place, fields):
+def resolve(fn, root, place, fields, rootplace=None):
     """A path of the older Rattle from the record at a place, in today's names; or a place."""
     i = 0
     while i < len(fields) and fields[i] == "before":
-        if fn.parent[place] is None:
-            fn.said.append("past the start: " + ".".join(fields))
-            return None, root + "." + ".".join(fields)
-        place = fn.parent[place]
+        if fn.parent[place] is not None:
+            place = fn.parent[place]
         i += 1
     fields = fields[i:]
     if not fields:
@@ -167,6 +167,12 @@ def resolve(fn, root, place, fields):
                         return None, ".".join([root, new, head, names[k - 1]] + rest[k + 1:])
             return None, ".".join([root, new] + rest)
         at = fn.parent[at]
+    if rootplace is not None and rootplace != place:
+        return resolve(fn, root, rootplace, fields, None)
+    if f[-1:].isdigit():
+        short = re.sub(r"[-_]?\d+$", "", f)
+        if any(norm(p[2][0]) == norm(short) for p in fn.places):
+            return resolve(fn, root, place, [short] + rest, rootplace)
     fn.said.append("step " + ".".join(fields))
     return None, ".".join([root, f] + rest)
 
@@ -212,9 +218,10 @@ def turn(fn, text, env, rootplace, helpers, lemmas, want):
         else:
             return None
         for f in fields:
-            if f != "before" or fn.parent[k] is None:
+            if f != "before":
                 return None
-            k = fn.parent[k]
+            if fn.parent[k] is not None:
+                k = fn.parent[k]
         return root, k
 
     def split(path):
@@ -229,12 +236,9 @@ def turn(fn, text, env, rootplace, helpers, lemmas, want):
             p = place_of(base, split(path))
             if p is None:
                 return whole
-            k = p[1]
-            for f in helpers[h]:
-                for _ in range(f):
-                    if fn.parent[k] is None:
-                        return whole
-                    k = fn.parent[k]
+            k = helpers[h]
+            if fn.depth(rootplace[p[0]], k) is None:
+                return whole
             changed = True
             return f"⟦{p[0]}:{k}⟧"
         if helpers:
@@ -243,6 +247,9 @@ def turn(fn, text, env, rootplace, helpers, lemmas, want):
             text = re.sub(r"(= )(" + hs + r") " + BASE + r"((?:\.before)*)(?= in\b)", lambda m: m.group(1) + apply(m.group(2), m.group(3), m.group(4), m.group(2) + " " + m.group(3) + m.group(4)), text)
         text = re.sub(r"\((⟦[^⟧]*⟧)\)", r"\1", text)
 
+        def gap(m):
+            return "" if m.group(0).startswith("\n") or m.string[:m.start()].endswith("\n") else " "
+
         def let(m):
             nonlocal changed
             v, base, path = m.group(1), m.group(2), split(m.group(3))
@@ -250,7 +257,7 @@ def turn(fn, text, env, rootplace, helpers, lemmas, want):
             if p is not None:
                 env[v] = p
                 changed = True
-                return ""
+                return gap(m)
             p = place_of(base, [])
             if p is None:
                 return m.group(0)
@@ -266,7 +273,7 @@ def turn(fn, text, env, rootplace, helpers, lemmas, want):
                 if not base.startswith("⟦"):
                     written[v] = f"⟦{p[0]}:{p[1]}⟧" + "".join("." + x for x in path)
                 changed = True
-                return ""
+                return gap(m)
             return m.group(0)
         written = {}
         text = re.sub(r"[ \t]*\blet ([^\s:=]+)(?: : [^=\n]*)? = " + BASE + r"((?:\.[\w'-]+)*)\s+in\b[ \t]*\n?", let, text)
@@ -321,7 +328,7 @@ def turn(fn, text, env, rootplace, helpers, lemmas, want):
         if p is None:
             return m.group(0)
         root, k = p
-        got, s = resolve(fn, root, k, fields)
+        got, s = resolve(fn, root, k, fields, rootplace[root])
         if s is not None:
             return s
         n = fn.depth(rootplace[root], got)
@@ -329,7 +336,13 @@ def turn(fn, text, env, rootplace, helpers, lemmas, want):
             fn.said.append(f"no way from {root} to {fn.places[got][0]}")
             return m.group(0)
         return ".".join([root] + ["before"] * n) if not (base == root and not fields) else root
-    return PATH.sub(path, text)
+    text = PATH.sub(path, text)
+    text = re.sub(r"\.inv\b(?!ariant)", ".invariant", text)
+    text = re.sub(r"((?:loop-[\w'-]+-test|if-[\w'-]+))\.taken\b", r"\1.true", text)
+    text = re.sub(r"((?:loop-[\w'-]+-test|if-[\w'-]+))\.left\b", r"\1.false", text)
+    text = re.sub(r"\(not[-_](?:true|false) [^ ()]+ ([\w'-]+\.if-not-[\w'-]+\.(?:true|false))\)", r"\1", text)
+    text = re.sub(r"(?<![\w-])not[-_](?:true|false) [^ ()]+ ([\w'-]+\.if-not-[\w'-]+\.(?:true|false))", r"\1", text)
+    return text
 
 
 def tuple_parts(s):
@@ -487,17 +500,12 @@ def convert(crate, fname, folder, d, source):
         if not m:
             continue
         name = m.group(2)
-        h = re.match(re.escape(m.group(0)) + r"tie\.([\w-]+)[^→\n]*→\s*tie\.([\w-]+)[^\n]*\n(?:unfolding[^\n]*\n)?" + re.escape(name) + r" (\w+) = ([^\n]+)$", body)
-        if h:
-            var, e = h.group(3), h.group(4).strip()
-            while True:
-                g = re.sub(r"\(([\w-]+) (" + re.escape(var) + r"(?:\.before)*)\)", lambda q: q.group(2) + ".before" * sum(helpers[q.group(1)]) if q.group(1) in helpers else q.group(0), e)
-                g = re.sub(r"^([\w-]+) (" + re.escape(var) + r"(?:\.before)*)$", lambda q: q.group(2) + ".before" * sum(helpers[q.group(1)]) if q.group(1) in helpers else q.group(0), g)
-                if g == e:
-                    break
-                e = g
-            if re.fullmatch(re.escape(var) + r"(?:\.before)*", e):
-                helpers[name] = [e.count(".before")]
+        h = re.match(re.escape(m.group(0)) + r"\s*tie\.([\w-]+)[^→]*→\s*tie\.([\w-]+)[^\n]*\n(?:unfolding[^\n]*\n)?" + re.escape(name) + r" (\w+) = ([^\n]+)$", body)
+        h = h or re.match(r"(?:abbrev )?" + re.escape(name) + r" : \([\w']+ : tie\.([\w-]+)[^→]*\)\s*→\s*tie\.([\w-]+)[^\n]*\n(?:unfolding[^\n]*\n)?" + re.escape(name) + r" (\w+) = ([^\n]+)$", body)
+        if h and "let " not in h.group(4):
+            k = fn.by_place(h.group(2))
+            if k is not None:
+                helpers[name] = k
     # an answer that another cites, by its old name
     goal_of = {}
     for comment, body, m in parsed:
@@ -606,7 +614,6 @@ def convert(crate, fname, folder, d, source):
                 if not alt:
                     if dfn and dfn.group(3).strip() != "search rules":
                         fn.said.append("no goal " + t.group(1))
-                        kept.append((comment, "-- no goal " + t.group(1) + "\n" + body))
                     continue
                 key = alt[0]
             new, i, old = fn.needs[norm(key)]
