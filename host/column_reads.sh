@@ -15,8 +15,9 @@ cd "$(dirname "$0")/.."
 # list CRATE PATTERN: the functions of a crate whose names match
 list() {
     awk -v crate="$1" -v wanted="^($2)\$" '
-        /^ *\/\// || /⌜/ { next }
-        /^(pub )?(extern "C" )?fn / { name = $0; sub(/^.*fn /, "", name); sub(/[(<].*/, "", name); next }
+        /^ *\/\// || /^ *#!?\[/ { next }
+        /^(pub )?fn / { name = $0; sub(/^fn |^pub fn /, "", name); sub(/[(<].*/, "", name); body = /\{$/; next }
+        !body { body = /^\{$/ || /^\).* \{$/; next } # parameters and clauses
         name ~ wanted {
             line = $0
             while (match(line, /[A-Za-z_0-9)]+\[[^]]*\]?|[^A-Za-z_0-9.:]([a-z_0-9]+::)?[a-z_][a-z_0-9]*\(/)) {

@@ -15,6 +15,14 @@ cargo test --manifest-path host/Cargo.toml --release --offline --quiet
 cargo package --manifest-path host/Cargo.toml --offline --quiet --allow-dirty --no-metadata -p ostrubel
 cargo run --manifest-path host/Cargo.toml --release --offline --quiet -p second -- --calls 200000
 cargo run --manifest-path host/Cargo.toml --release --offline --quiet -p second -- --faults
-# The proved program; where nothing was changed since it was proved, this only says so.
-rt check print_file > /dev/null
-cargo run --manifest-path host/Cargo.toml --release --offline --quiet -p second -- --program "$PWD/target/bin/print_file"
+# The proved program, also on what its crate has for it; where nothing was changed since it was proved, it only runs.
+(
+    cd crates/print_file
+    rt run < stdin > ../../target/print_file.stdout 2> ../../target/print_file.log || {
+        tail -n 20 ../../target/print_file.log >&2
+        exit 1
+    }
+    cmp ../../target/print_file.stdout stdout
+)
+cargo run --manifest-path host/Cargo.toml --release --offline --quiet -p second -- \
+    --program "$PWD/crates/print_file/out/print_file"

@@ -1,7 +1,7 @@
 //! Links the proved library's static archive.
 //!
-//! Where `OSTRUBEL_LIB_DIR` names a folder by its absolute path, `libostrubel.a` there is linked (or `libexports.a`, as
-//! the toolchain names it), and nothing is built. Else `host/library.sh` proves and builds what has changed, which can
+//! Where `OSTRUBEL_LIB_DIR` names a folder by its absolute path, `libostrubel.a` there is linked (or `libexports_c.a`,
+//! as the toolchain names it), and nothing is built. Else `host/library.sh` proves and builds what has changed, which can
 //! take minutes: its lines are shown on the terminal, if there is one. An archive for another machine than the target's
 //! is refused.
 
@@ -12,7 +12,7 @@ use std::path::{Path, PathBuf};
 use std::process::{exit, Command, Stdio};
 
 const ARCHIVE: &str = "libostrubel.a";
-const BUILT_ARCHIVE: &str = "libexports.a";
+const BUILT_ARCHIVE: &str = "libexports_c.a";
 
 fn main() {
     println!("cargo:rerun-if-env-changed=OSTRUBEL_LIB_DIR");
@@ -24,7 +24,7 @@ fn main() {
     };
     let bytes = fs::read(&archive).unwrap_or_else(|error| fail(&format!("{}: {error}", archive.display())));
     check_machine(&archive, &bytes, &target);
-    // A copy of its own: the gate removes target/.
+    // A copy of its own: that archive may be removed or made again.
     let folder = PathBuf::from(variable("OUT_DIR"));
     if let Err(error) = fs::write(folder.join(ARCHIVE), bytes) {
         fail(&format!("{} cannot be copied: {error}", archive.display()));
@@ -59,11 +59,20 @@ fn build_archive(target: &str) -> PathBuf {
             variable("HOST")
         ));
     }
-    for input in ["crates", "crates.txt", "host/library.sh"] {
-        println!("cargo:rerun-if-changed={}", root.join(input).display());
+    for input in ["crates.txt", "host/library.sh"].map(|input| root.join(input)).into_iter().chain(sources(&root)) {
+        println!("cargo:rerun-if-changed={}", input.display());
     }
     run_shown(Command::new("sh").arg(&script), "host/library.sh");
     root.join("target/staticlib").join(ARCHIVE)
+}
+
+/// The folders of the crates whose files are proved. Beside them the toolchain keeps its work.
+fn sources(root: &Path) -> Vec<PathBuf> {
+    let crates = fs::read_dir(root.join("crates")).into_iter().flatten().flatten();
+    let folders = crates.flat_map(|folder| ["src", "specs", "proofs"].map(|part| folder.path().join(part)));
+    let mut folders: Vec<PathBuf> = folders.filter(|folder| folder.is_dir()).collect();
+    folders.sort();
+    folders
 }
 
 /// Runs a command, and shows each line that it prints at once: cargo keeps what a build script prints to itself.

@@ -35,7 +35,7 @@ for target; do
 done
 for target; do rm -rf "${out:?}/$target"; done # where the crates are not proved, nothing is left
 sh host/targets/bitcode.sh
-tools=$(dirname "$(dirname "$(rt doc)")")/on/$(uname -m)/toolchain/bin
+tools=$(dirname "$(rt doc)")/toolchain/bin
 
 # The kit's words without those that name files or a processor.
 words=$(awk '

@@ -45,8 +45,8 @@ done
 gcc -std=c99 -O2 -Wall -Wextra -Werror -Iinclude -Ihost/targets -I"$made" -c host/targets/record.c -o "$made/record.o"
 nm "$out/x86_64/libostrubel.a" | awk '$2 == "T" { print $3, "plain_" $3 }' > "$made/names"
 mkdir "$made/recording"
-objcopy --redefine-syms="$made/names" "$out/x86_64/libostrubel.a" "$made/recording/libexports.a"
-ar rs "$made/recording/libexports.a" "$made/record.o"
+objcopy --redefine-syms="$made/names" "$out/x86_64/libostrubel.a" "$made/recording/libostrubel.a"
+ar rs "$made/recording/libostrubel.a" "$made/record.o"
 OSTRUBEL_TRACE=$made/trace OSTRUBEL_LIB_DIR=$made/recording CARGO_TARGET_DIR=$out/cargo \
     cargo run --manifest-path host/Cargo.toml --release --offline --quiet -p second -- --calls 2000 > "$made/second"
 tail -n 2 "$made/second"
@@ -80,10 +80,10 @@ judge() { # WHAT WANTED SEEN
     fi
 }
 
-# The processor that is left out of the module changes nothing: on x86-64 the machine code is that of `rt staticlib`.
+# The processor that is left out of the module changes nothing: on x86-64 the machine code is that of `rt lib`.
 code() { objdump -d "$1" | grep -v 'file format\|^In archive'; }
 code "$out/x86_64/libostrubel.a" > "$made/code"
-code target/staticlib/libexports.a > "$made/code.kit"
+code target/staticlib/libostrubel.a > "$made/code.kit"
 judge "the machine code on x86-64" "$(sha256sum < "$made/code.kit")" "$(sha256sum < "$made/code")"
 
 wanted=

@@ -1,5 +1,5 @@
 -- Laws of the map: a new map, a column more, and what a place holds by its mark.
-use Prim.Native.Nat.{ℕ, zero, suc, ◌+◌, ◌*◌, ◌/◌, ◌%◌, ◌^◌, ◌≤◌, ◌<◌}
+use Prim.Native.Nat.{ℕ, zero, suc, ◌/◌, ◌%◌, ◌≤◌, ◌<◌}
 use native.Mathlib.Omega.{arith}
 use native.Mathlib.Decide.{dec_lt, ℕ_discrete}
 use mathlib.Core.Path.{◌≡◌, refl, sym, ap, ◌∙◌}
@@ -12,7 +12,7 @@ use Rattle.words.specs.Words.{at}
 use Rattle.grid.specs.declared.Cell.{Cell}
 use Rattle.grid.specs.declared.Cell.TheVariants.{Absent, Present}
 use Rattle.bit_rows.specs.Bits.{bit, SetBit, map_words, mark, flagged, Tracked, Carries, Marking, Room}
-use Rattle.bit_rows.proofs.Bits.{bit_none, bit_small}
+use Rattle.bit_rows.proofs.Bits.{bit_none}
 
 -- ---- cells
 

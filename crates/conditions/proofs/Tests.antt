@@ -6,8 +6,7 @@ use native.Mathlib.Nat.{not-suc-le-zero}
 use native.Mathlib.Numerals.{add-one}
 use native.Mathlib.Decide.{dec_lt}
 use mathlib.Core.Path.{◌≡◌, refl, sym, ◌∙◌}
-use mathlib.Core.Bool.{Bool, true, false, not, false≢true}
-use borrow.Author.Tests.{not-true, not-false}
+use mathlib.Core.Bool.{Bool, true, false, false≢true}
 use Rattle.conditions.specs.Tests.{all, ◌and◌}
 
 -- a test that cannot hold is false: how a refusing return is proved
@@ -39,11 +38,11 @@ and_assoc true b c = refl
 and_assoc false b c = refl
 
 -- what a function's Boolean result said of the test that it stands for, after `if !f(..)`
-pub said_no : {r b : Bool} → r ≡ b → not r ≡ true → b ≡ false
-said_no e t = sym e ∙ not-true _ t
+pub said_no : {r b : Bool} → r ≡ b → r ≡ false → b ≡ false
+said_no e t = sym e ∙ t
 
-pub said_yes : {r b : Bool} → r ≡ b → not r ≡ false → b ≡ true
-said_yes e t = sym e ∙ not-false _ t
+pub said_yes : {r b : Bool} → r ≡ b → r ≡ true → b ≡ true
+said_yes e t = sym e ∙ t
 
 -- where a loop over the numbers starts
 pub all_none : (p : ℕ → Bool) → all 0 p ≡ true

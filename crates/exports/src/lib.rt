@@ -46,24 +46,21 @@ const POSITION_UNIT: u64 = 65536;
 const UPPER_WORD: u64 = 4294967296;
 
 // Whether the words begin with a valid matrix, and its entries.
-#[unsafe(no_mangle)]
-pub extern "C" fn ostrubel_check(words: &[u32]) -> u64
+pub fn ostrubel_check(words: &[u32]) -> u64
     ensures { result ≡ packed (check_answer words.now) }
 {
     pack(matrix::check(words))
 }
 
 // An empty matrix at the front of the buffer.
-#[unsafe(no_mangle)]
-pub extern "C" fn ostrubel_new_empty(rows: u32, cols: u32, buffer: &mut [u32]) -> u64
+pub fn ostrubel_new_empty(rows: u32, cols: u32, buffer: &mut [u32]) -> u64
     ensures { LentCreated buffer.old rows cols result buffer.new }
 {
     pack(create::new_empty(buffer, rows, cols))
 }
 
 // One cell of a matrix.
-#[unsafe(no_mangle)]
-pub extern "C" fn ostrubel_read_cell(i: u32, j: u32, words: &[u32]) -> u64
+pub fn ostrubel_read_cell(i: u32, j: u32, words: &[u32]) -> u64
     ensures { result ≡ packed_cell (read_answer words.now i j) }
 {
     pack_cell(cells::read_cell(words, i, j))
@@ -71,8 +68,7 @@ pub extern "C" fn ostrubel_read_cell(i: u32, j: u32, words: &[u32]) -> u64
 
 // "Look at one row over two sheets": where the part that is shown lies; the column numbers where `values` is 0, else
 // the values.
-#[unsafe(no_mangle)]
-pub extern "C" fn ostrubel_row_view(i: u32, values: u32, first: &[u32], second: &[u32]) -> u64
+pub fn ostrubel_row_view(i: u32, values: u32, first: &[u32], second: &[u32]) -> u64
     ensures { result ≡ packed_place (place_of (row_view (section_of values) first.now
         second.now i)) }
 {
@@ -80,8 +76,7 @@ pub extern "C" fn ostrubel_row_view(i: u32, values: u32, first: &[u32], second: 
 }
 
 // "Product": C gets A times B, by a monoid and an operator.
-#[unsafe(no_mangle)]
-pub extern "C" fn ostrubel_mxm<'a>(
+pub fn ostrubel_mxm<'a>(
     flags: u32,
     has_mask: u32,
     has_accumulator: u32,
@@ -115,8 +110,7 @@ pub extern "C" fn ostrubel_mxm<'a>(
 }
 
 // "Strip times sheet": the product with a vector u as first input.
-#[unsafe(no_mangle)]
-pub extern "C" fn ostrubel_vxm<'a>(
+pub fn ostrubel_vxm<'a>(
     flags: u32,
     has_mask: u32,
     has_accumulator: u32,
@@ -150,8 +144,7 @@ pub extern "C" fn ostrubel_vxm<'a>(
 }
 
 // `ostrubel_mxm` by the first engine of the product, for comparison: the same answers and the same words.
-#[unsafe(no_mangle)]
-pub extern "C" fn ostrubel_mxm_by_places<'a>(
+pub fn ostrubel_mxm_by_places<'a>(
     flags: u32,
     has_mask: u32,
     has_accumulator: u32,
@@ -186,8 +179,7 @@ pub extern "C" fn ostrubel_mxm_by_places<'a>(
 }
 
 // `ostrubel_vxm` by the first engine, likewise.
-#[unsafe(no_mangle)]
-pub extern "C" fn ostrubel_vxm_by_places<'a>(
+pub fn ostrubel_vxm_by_places<'a>(
     flags: u32,
     has_mask: u32,
     has_accumulator: u32,
@@ -222,8 +214,7 @@ pub extern "C" fn ostrubel_vxm_by_places<'a>(
 }
 
 // "Intersection".
-#[unsafe(no_mangle)]
-pub extern "C" fn ostrubel_ewise_mult<'a>(
+pub fn ostrubel_ewise_mult<'a>(
     flags: u32,
     has_mask: u32,
     has_accumulator: u32,
@@ -256,8 +247,7 @@ pub extern "C" fn ostrubel_ewise_mult<'a>(
 }
 
 // "Union".
-#[unsafe(no_mangle)]
-pub extern "C" fn ostrubel_ewise_add<'a>(
+pub fn ostrubel_ewise_add<'a>(
     flags: u32,
     has_mask: u32,
     has_accumulator: u32,
@@ -290,8 +280,7 @@ pub extern "C" fn ostrubel_ewise_add<'a>(
 }
 
 // "Apply": a kind, an operator of that kind and a scalar.
-#[unsafe(no_mangle)]
-pub extern "C" fn ostrubel_apply(
+pub fn ostrubel_apply(
     flags: u32,
     has_mask: u32,
     has_accumulator: u32,
@@ -325,8 +314,7 @@ pub extern "C" fn ostrubel_apply(
 }
 
 // "Extract": the listed rows and columns of A.
-#[unsafe(no_mangle)]
-pub extern "C" fn ostrubel_extract(
+pub fn ostrubel_extract(
     flags: u32,
     has_mask: u32,
     has_accumulator: u32,
@@ -359,8 +347,7 @@ pub extern "C" fn ostrubel_extract(
 }
 
 // "Select": the entries for which a condition holds, by its number and its scalar.
-#[unsafe(no_mangle)]
-pub extern "C" fn ostrubel_select(
+pub fn ostrubel_select(
     flags: u32,
     has_mask: u32,
     has_accumulator: u32,
@@ -393,8 +380,7 @@ pub extern "C" fn ostrubel_select(
 }
 
 // "Reduce" rows: the totals of A's rows by a monoid, in one row.
-#[unsafe(no_mangle)]
-pub extern "C" fn ostrubel_reduce_rows(
+pub fn ostrubel_reduce_rows(
     flags: u32,
     has_mask: u32,
     has_accumulator: u32,
@@ -426,8 +412,7 @@ pub extern "C" fn ostrubel_reduce_rows(
 }
 
 // Assign: A written into C at the listed rows and columns.
-#[unsafe(no_mangle)]
-pub extern "C" fn ostrubel_assign(
+pub fn ostrubel_assign(
     flags: u32,
     has_mask: u32,
     has_accumulator: u32,
@@ -460,8 +445,7 @@ pub extern "C" fn ostrubel_assign(
 }
 
 // The Kronecker product of A and B, by an operator.
-#[unsafe(no_mangle)]
-pub extern "C" fn ostrubel_kronecker<'a>(
+pub fn ostrubel_kronecker<'a>(
     flags: u32,
     has_mask: u32,
     has_accumulator: u32,
@@ -494,75 +478,56 @@ pub extern "C" fn ostrubel_kronecker<'a>(
 }
 
 // "Reduce" a whole matrix: the total of its values by a monoid.
-#[unsafe(no_mangle)]
-pub extern "C" fn ostrubel_reduce(monoid: u32, words: &[u32]) -> u64
+pub fn ostrubel_reduce(monoid: u32, words: &[u32]) -> u64
     ensures { result ≡ packed_number (reduce_answer words.now monoid) }
 {
     pack_number(reduce::reduce(words, monoid))
 }
 
 // The revision of a matrix.
-#[unsafe(no_mangle)]
-pub extern "C" fn ostrubel_revision(words: &[u32]) -> u64
+pub fn ostrubel_revision(words: &[u32]) -> u64
     ensures { result ≡ packed_number (revision_answer words.now) }
 {
     pack_number(revision::revision_of(words))
 }
 
 // An empty matrix in a slot, whatever was there.
-#[unsafe(no_mangle)]
-pub extern "C" fn ostrubel_store_new_empty(
-    slot: usize,
-    rows: u32,
-    cols: u32,
-    store: &mut [u32],
-) -> u64
+pub fn ostrubel_store_new_empty(slot: usize, rows: u32, cols: u32, store: &mut [u32]) -> u64
     ensures { StorePerformed store.old (new_empty slot rows cols) result store.new }
 {
     pack(store_cells::new_empty(store, slot, rows, cols))
 }
 
 // A slot becomes empty.
-#[unsafe(no_mangle)]
-pub extern "C" fn ostrubel_store_drop(slot: usize, store: &mut [u32]) -> u64
+pub fn ostrubel_store_drop(slot: usize, store: &mut [u32]) -> u64
     ensures { StorePerformed store.old (drop_slot slot) result store.new }
 {
     pack(store_cells::drop_slot(store, slot))
 }
 
 // A cell takes a value.
-#[unsafe(no_mangle)]
-pub extern "C" fn ostrubel_store_set_cell(
-    slot: usize,
-    i: u32,
-    j: u32,
-    value: u32,
-    store: &mut [u32],
-) -> u64
+pub fn ostrubel_store_set_cell(slot: usize, i: u32, j: u32, value: u32, store: &mut [u32]) -> u64
     ensures { StorePerformed store.old (set_cell slot i j value) result store.new }
 {
     pack(store_cells::set_cell(store, slot, i, j, value))
 }
 
 // A cell becomes empty.
-#[unsafe(no_mangle)]
-pub extern "C" fn ostrubel_store_clear_cell(slot: usize, i: u32, j: u32, store: &mut [u32]) -> u64
+pub fn ostrubel_store_clear_cell(slot: usize, i: u32, j: u32, store: &mut [u32]) -> u64
     ensures { StorePerformed store.old (clear_cell slot i j) result store.new }
 {
     pack(store_cells::clear_cell(store, slot, i, j))
 }
 
 // One cell of a slot.
-#[unsafe(no_mangle)]
-pub extern "C" fn ostrubel_store_read_cell(slot: usize, i: u32, j: u32, store: &[u32]) -> u64
+pub fn ostrubel_store_read_cell(slot: usize, i: u32, j: u32, store: &[u32]) -> u64
     ensures { StoreRead store.now (read_cell slot i j) result }
 {
     pack_cell(store_cells::read_cell(store, slot, i, j))
 }
 
 // "Product": C gets A times B, by a monoid and an operator.
-#[unsafe(no_mangle)]
-pub extern "C" fn ostrubel_store_mxm(
+pub fn ostrubel_store_mxm(
     flags: u32,
     has_mask: u32,
     has_accumulator: u32,
@@ -600,8 +565,7 @@ pub extern "C" fn ostrubel_store_mxm(
 }
 
 // "Strip times sheet": the product with a vector u as first input.
-#[unsafe(no_mangle)]
-pub extern "C" fn ostrubel_store_vxm(
+pub fn ostrubel_store_vxm(
     flags: u32,
     has_mask: u32,
     has_accumulator: u32,
@@ -639,8 +603,7 @@ pub extern "C" fn ostrubel_store_vxm(
 }
 
 // "Intersection".
-#[unsafe(no_mangle)]
-pub extern "C" fn ostrubel_store_ewise_mult(
+pub fn ostrubel_store_ewise_mult(
     flags: u32,
     has_mask: u32,
     has_accumulator: u32,
@@ -677,8 +640,7 @@ pub extern "C" fn ostrubel_store_ewise_mult(
 }
 
 // "Union".
-#[unsafe(no_mangle)]
-pub extern "C" fn ostrubel_store_ewise_add(
+pub fn ostrubel_store_ewise_add(
     flags: u32,
     has_mask: u32,
     has_accumulator: u32,
@@ -715,8 +677,7 @@ pub extern "C" fn ostrubel_store_ewise_add(
 }
 
 // "Apply": a kind, an operator of that kind and a scalar.
-#[unsafe(no_mangle)]
-pub extern "C" fn ostrubel_store_apply(
+pub fn ostrubel_store_apply(
     flags: u32,
     has_mask: u32,
     has_accumulator: u32,
@@ -754,8 +715,7 @@ pub extern "C" fn ostrubel_store_apply(
 }
 
 // "Extract": the listed rows and columns of A.
-#[unsafe(no_mangle)]
-pub extern "C" fn ostrubel_store_extract(
+pub fn ostrubel_store_extract(
     flags: u32,
     has_mask: u32,
     has_accumulator: u32,
@@ -792,8 +752,7 @@ pub extern "C" fn ostrubel_store_extract(
 }
 
 // "Select": the entries for which a condition holds, by its number and its scalar.
-#[unsafe(no_mangle)]
-pub extern "C" fn ostrubel_store_select(
+pub fn ostrubel_store_select(
     flags: u32,
     has_mask: u32,
     has_accumulator: u32,
@@ -830,8 +789,7 @@ pub extern "C" fn ostrubel_store_select(
 }
 
 // "Reduce" rows: the totals of A's rows by a monoid, in one row.
-#[unsafe(no_mangle)]
-pub extern "C" fn ostrubel_store_reduce_rows(
+pub fn ostrubel_store_reduce_rows(
     flags: u32,
     has_mask: u32,
     has_accumulator: u32,
@@ -867,8 +825,7 @@ pub extern "C" fn ostrubel_store_reduce_rows(
 }
 
 // Assign: A written into C at the listed rows and columns.
-#[unsafe(no_mangle)]
-pub extern "C" fn ostrubel_store_assign(
+pub fn ostrubel_store_assign(
     flags: u32,
     has_mask: u32,
     has_accumulator: u32,
@@ -905,8 +862,7 @@ pub extern "C" fn ostrubel_store_assign(
 }
 
 // The Kronecker product of A and B, by an operator.
-#[unsafe(no_mangle)]
-pub extern "C" fn ostrubel_store_kronecker(
+pub fn ostrubel_store_kronecker(
     flags: u32,
     has_mask: u32,
     has_accumulator: u32,
@@ -943,16 +899,14 @@ pub extern "C" fn ostrubel_store_kronecker(
 }
 
 // "Reduce" a whole matrix: the total of a slot's values by a monoid.
-#[unsafe(no_mangle)]
-pub extern "C" fn ostrubel_store_reduce(slot: usize, monoid: u32, store: &[u32]) -> u64
+pub fn ostrubel_store_reduce(slot: usize, monoid: u32, store: &[u32]) -> u64
     ensures { StoreTotalled store.now (reduce_slot slot monoid) result }
 {
     pack_number(store_reduce::reduce(store, slot, monoid))
 }
 
 // The value of a formula over the slots, in the target's place. The monoid and the operator are the semiring's.
-#[unsafe(no_mangle)]
-pub extern "C" fn ostrubel_store_formula(
+pub fn ostrubel_store_formula(
     target: usize,
     monoid: u32,
     op: u32,
@@ -1101,24 +1055,21 @@ fn options_of(flags: u32, has_mask: u32, has_accumulator: u32, accumulator: u32)
 }
 
 // The matrix of a file at the front of the words.
-#[unsafe(no_mangle)]
-pub extern "C" fn ostrubel_read_file(bytes: &[u8], words: &mut [u32]) -> u64
+pub fn ostrubel_read_file(bytes: &[u8], words: &mut [u32]) -> u64
     ensures { LentFileRead bytes.now words.old result words.new }
 {
     pack(files::read_file(bytes, words))
 }
 
 // The file of a matrix at the front of the bytes.
-#[unsafe(no_mangle)]
-pub extern "C" fn ostrubel_write_file(words: &[u32], bytes: &mut [u8]) -> u64
+pub fn ostrubel_write_file(words: &[u32], bytes: &mut [u8]) -> u64
     ensures { LentFileWritten words.now bytes.old result bytes.new }
 {
     pack(files::write_file(words, bytes))
 }
 
 // The text of a matrix at the front of the bytes.
-#[unsafe(no_mangle)]
-pub extern "C" fn ostrubel_write_text(words: &[u32], bytes: &mut [u8]) -> u64
+pub fn ostrubel_write_text(words: &[u32], bytes: &mut [u8]) -> u64
     ensures { LentTextWritten words.now bytes.old result bytes.new }
 {
     pack_text(text::write_text(words, bytes))
@@ -1132,8 +1083,7 @@ fn pack_text(answer: TextAnswer) -> u64
 }
 
 // "Keys behind doors": the doors that open within an allowance of rounds, as a vector in `out`.
-#[unsafe(no_mangle)]
-pub extern "C" fn ostrubel_open_doors(
+pub fn ostrubel_open_doors(
     allowance: u32,
     locks: &[u32],
     cabinets: &[u32],
@@ -1148,13 +1098,7 @@ pub extern "C" fn ostrubel_open_doors(
 }
 
 // "Rewriting takes a 1 by C strip": row i of the day matrix becomes `row`, and is marked with 1.
-#[unsafe(no_mangle)]
-pub extern "C" fn ostrubel_day_rewrite(
-    i: u32,
-    row: &[u32],
-    day: &mut [u32],
-    marks: &mut [u32],
-) -> u64
+pub fn ostrubel_day_rewrite(i: u32, row: &[u32], day: &mut [u32], marks: &mut [u32]) -> u64
     ensures { LentRewritten day.old marks.old i row.now result day.new
         marks.new }
 {
@@ -1162,35 +1106,21 @@ pub extern "C" fn ostrubel_day_rewrite(
 }
 
 // "taking back empties the day row and its mark, if any".
-#[unsafe(no_mangle)]
-pub extern "C" fn ostrubel_day_back(i: u32, day: &mut [u32], marks: &mut [u32]) -> u64
+pub fn ostrubel_day_back(i: u32, day: &mut [u32], marks: &mut [u32]) -> u64
     ensures { LentTakenBack day.old marks.old i result day.new marks.new }
 {
     pack(day_calls::take_back(day, marks, i))
 }
 
 // "reading a cell through the pair".
-#[unsafe(no_mangle)]
-pub extern "C" fn ostrubel_day_read<'a>(
-    i: u32,
-    j: u32,
-    base: &'a [u32],
-    day: &'a [u32],
-    marks: &[u32],
-) -> u64
+pub fn ostrubel_day_read<'a>(i: u32, j: u32, base: &'a [u32], day: &'a [u32], marks: &[u32]) -> u64
     ensures { result ≡ packed_cell (through_answer base.now day.now marks.now i j) }
 {
     pack_cell(day_calls::read_through(base, day, marks, i, j))
 }
 
 // "folding both into one new sheet", in `out`.
-#[unsafe(no_mangle)]
-pub extern "C" fn ostrubel_day_fold<'a>(
-    base: &'a [u32],
-    day: &'a [u32],
-    marks: &[u32],
-    out: &mut [u32],
-) -> u64
+pub fn ostrubel_day_fold<'a>(base: &'a [u32], day: &'a [u32], marks: &[u32], out: &mut [u32]) -> u64
     ensures { LentFolded base.now day.now marks.now out.old result
         out.new }
 {
@@ -1199,14 +1129,7 @@ pub extern "C" fn ostrubel_day_fold<'a>(
 
 // "Showing a row": where the part that is shown lies, in the day matrix, which counts as the second, or in the base
 // matrix; the column numbers where `values` is 0, else the values.
-#[unsafe(no_mangle)]
-pub extern "C" fn ostrubel_day_show(
-    i: u32,
-    values: u32,
-    base: &[u32],
-    day: &[u32],
-    marks: &[u32],
-) -> u64
+pub fn ostrubel_day_show(i: u32, values: u32, base: &[u32], day: &[u32], marks: &[u32]) -> u64
     ensures { result ≡ packed_place (place_of (day_view (section_of values) base.now day.now
         marks.now i)) }
 {

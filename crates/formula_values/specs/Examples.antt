@@ -1,7 +1,7 @@
 -- Values of formulas over 1 by 1 grids, computed.
 use Rattle.std.specs.Prelude.{ℕ, ◌+◌, ◌≡◌, refl, cond, eqb}
 use Rattle.twos_complement.specs.TwosComplement.{signed, word}
-use Rattle.operators.specs.declared.BinaryOp.TheVariants.{Plus, Minus, Times}
+use Rattle.operators.specs.declared.BinaryOp.TheVariants.{Minus, Times}
 use Rattle.operators.specs.declared.Monoid.TheVariants as monoid
 use Rattle.operators.specs.Operators.{binary_word}
 use Rattle.conditions.specs.Tests.{◌and◌}

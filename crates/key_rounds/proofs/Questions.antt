@@ -3,7 +3,7 @@ use Prim.Native.Nat.{ℕ, zero, suc}
 use mathlib.Core.Path.{◌≡◌, refl, ◌∙◌}
 use mathlib.Core.Bool.{Bool}
 use Rattle.grid.specs.Grid.{Grid}
-use Rattle.key_rounds.specs.Rounds.{◌or◌, reached, keys_after, doors_after}
+use Rattle.key_rounds.specs.Rounds.{reached, keys_after, doors_after}
 use Rattle.key_rounds.specs.Questions.{keys_asked, doors_asked}
 use Rattle.key_rounds.proofs.Tests.{reached_same}
 

@@ -24,7 +24,7 @@ use Rattle.key_rounds.specs.Rounds.{
   door_vector,
 }
 use Rattle.key_rounds.proofs.Tests.{or_left, reached_same, reached_grows}
-use Rattle.key_rounds.proofs.Counting.{count_most, count_grows, count_full}
+use Rattle.key_rounds.proofs.Counting.{count_most, count_full}
 
 module _ (locks cabinets : Grid) (hand : ℕ → Bool) where
   abbrev keys : ℕ → ℕ → Bool

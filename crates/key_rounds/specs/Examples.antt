@@ -1,21 +1,9 @@
 -- Computed examples of the rounds: what each sentence says, and what its nearest wrong reading would give.
 use Rattle.std.specs.Prelude.{ℕ, ◌+◌, ◌≡◌, refl, Bool, true, false, cond, eqb}
 use Rattle.conditions.specs.Tests.{◌and◌}
-use Rattle.grid.specs.declared.Cell.{Cell}
 use Rattle.grid.specs.declared.Cell.TheVariants.{Absent, Present}
 use Rattle.grid.specs.Grid.{Grid}
-use Rattle.key_rounds.specs.Rounds.{
-  filled,
-  ◌or◌,
-  some,
-  reached,
-  keys_after,
-  doors_after,
-  first_before,
-  first_round,
-  in_hand,
-  door_vector,
-}
+use Rattle.key_rounds.specs.Rounds.{filled, ◌or◌, some, reached, keys_after, doors_after, first_before, first_round, door_vector}
 
 -- a corridor: key k opens door k, and key k + 1 is behind it. The entries of the locks are 0
 corridor_locks : Grid

@@ -2,14 +2,13 @@
 use Prim.Native.Nat.{ℕ, suc, ◌+◌, ◌*◌, ◌/◌, ◌%◌, ◌≤◌, ◌<◌}
 use native.Mathlib.Nat.{suc-mul, mul-le-mul_right, le-div_iff_mul-le}
 use native.Mathlib.Omega.{arith}
-use mathlib.Core.Path.{◌≡◌, refl, ap, ◌∙◌}
+use mathlib.Core.Path.{◌≡◌, refl, ◌∙◌}
 use mathlib.Core.List.{List}
 use lib.Arith.{digits_div, digits_mod}
 use lib.ListN.{length}
 use Rattle.limits.specs.Limits.{max_cols}
 use Rattle.words.specs.Words.{at}
 use Rattle.grid.specs.declared.Cell.{Cell}
-use Rattle.grid.specs.declared.Cell.TheVariants.{Absent}
 use Rattle.operators.specs.declared.BinaryOp.{BinaryOp}
 use Rattle.operations.specs.CellOperations.{intersect}
 use Rattle.operations.proofs.Blocks.{has_places, block_below, blocks_most}

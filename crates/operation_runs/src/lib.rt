@@ -4,6 +4,7 @@
 #![tactic(auto)]
 
 use call_codes::{Options, Verb};
+use std::io;
 
 // No mask and no accumulator: the number 9 is not looked at.
 pub fn plain(flags: u32) -> Options {
@@ -36,6 +37,7 @@ pub fn accumulated(flags: u32, has_mask: bool, accumulator: u32) -> Options {
 // The six operations, each with its report. The words of a second input, a mask and lists that a call does not have are
 // not looked at.
 pub fn mxm<'a>(
+    rt: &impl Print,
     label: &[u8],
     options: Options,
     monoid: u32,
@@ -44,13 +46,14 @@ pub fn mxm<'a>(
     b: &'a [u32],
     c: &mut [u32],
     work: &mut [u32],
-) {
+) -> io::Result<()> {
     refill(work);
     let r = calls::operate(options, Verb::Mxm(monoid, op), a, b, a, a, a, c, work);
-    report(label, r.code, r.entries, &c[..], &work[..]);
+    report(rt, label, r.code, r.entries, &c[..], &work[..])
 }
 
 pub fn vxm<'a>(
+    rt: &impl Print,
     label: &[u8],
     options: Options,
     monoid: u32,
@@ -59,13 +62,14 @@ pub fn vxm<'a>(
     a: &'a [u32],
     c: &mut [u32],
     work: &mut [u32],
-) {
+) -> io::Result<()> {
     refill(work);
     let r = calls::operate(options, Verb::Vxm(monoid, op), u, a, u, u, u, c, work);
-    report(label, r.code, r.entries, &c[..], &work[..]);
+    report(rt, label, r.code, r.entries, &c[..], &work[..])
 }
 
 pub fn ewise_mult<'a>(
+    rt: &impl Print,
     label: &[u8],
     options: Options,
     op: u32,
@@ -73,13 +77,14 @@ pub fn ewise_mult<'a>(
     b: &'a [u32],
     c: &mut [u32],
     work: &mut [u32],
-) {
+) -> io::Result<()> {
     refill(work);
     let r = calls::operate(options, Verb::EwiseMult(op), a, b, a, a, a, c, work);
-    report(label, r.code, r.entries, &c[..], &work[..]);
+    report(rt, label, r.code, r.entries, &c[..], &work[..])
 }
 
 pub fn ewise_add<'a>(
+    rt: &impl Print,
     label: &[u8],
     options: Options,
     op: u32,
@@ -88,13 +93,14 @@ pub fn ewise_add<'a>(
     mask: &[u32],
     c: &mut [u32],
     work: &mut [u32],
-) {
+) -> io::Result<()> {
     refill(work);
     let r = calls::operate(options, Verb::EwiseAdd(op), a, b, mask, a, a, c, work);
-    report(label, r.code, r.entries, &c[..], &work[..]);
+    report(rt, label, r.code, r.entries, &c[..], &work[..])
 }
 
 pub fn apply(
+    rt: &impl Print,
     label: &[u8],
     options: Options,
     kind: u32,
@@ -104,7 +110,7 @@ pub fn apply(
     mask: &[u32],
     c: &mut [u32],
     work: &mut [u32],
-) {
+) -> io::Result<()> {
     refill(work);
     let r = calls::operate(
         options,
@@ -117,10 +123,11 @@ pub fn apply(
         c,
         work,
     );
-    report(label, r.code, r.entries, &c[..], &work[..]);
+    report(rt, label, r.code, r.entries, &c[..], &work[..])
 }
 
 pub fn extract(
+    rt: &impl Print,
     label: &[u8],
     options: Options,
     a: &[u32],
@@ -128,22 +135,29 @@ pub fn extract(
     js: &[u32],
     c: &mut [u32],
     work: &mut [u32],
-) {
+) -> io::Result<()> {
     refill(work);
     let r = calls::operate(options, Verb::Extract, a, a, a, is, js, c, work);
-    report(label, r.code, r.entries, &c[..], &work[..]);
+    report(rt, label, r.code, r.entries, &c[..], &work[..])
 }
 
 // The answer and the words of C's buffer: all of them, or the first and the last.
-pub fn report(label: &[u8], code: u32, entries: u32, c: &[u32], work: &[u32]) {
-    test_support::print_call(label, code, entries, work);
+pub fn report(
+    rt: &impl Print,
+    label: &[u8],
+    code: u32,
+    entries: u32,
+    c: &[u32],
+    work: &[u32],
+) -> io::Result<()> {
+    test_support::print_call(rt, label, code, entries, work)?;
     let n = c.len();
     if n <= 40 {
-        test_support::show(b"C", c);
+        test_support::show(rt, b"C", c)
     } else {
-        test_support::show(b"C begins", &c[..14]);
+        test_support::show(rt, b"C begins", &c[..14])?;
         let last = n - 14;
-        test_support::show(b"C ends", &c[last..]);
+        test_support::show(rt, b"C ends", &c[last..])
     }
 }
 

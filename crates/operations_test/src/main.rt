@@ -5,25 +5,26 @@
 
 use call_codes::Options;
 use operation_runs::{accumulated, apply, ewise_add, ewise_mult, extract, masked, mxm, plain, vxm};
+use std::io;
 
 // One word more than a call needs.
 type Workspace = [u32; 15316];
 
-fn main() {
+fn main(rt: HostRuntime) -> io::Result<()> {
     let mut work: Workspace = [7; 15316];
-    matrix_product(&mut work);
-    vector_products(&mut work);
-    reductions(&mut work);
-    intersection(&mut work);
-    union(&mut work);
-    extracts(&mut work);
-    applies(&mut work);
-    transposed(&mut work);
-    write_backs(&mut work);
+    matrix_product(&rt, &mut work)?;
+    vector_products(&rt, &mut work)?;
+    reductions(&rt, &mut work)?;
+    intersection(&rt, &mut work)?;
+    union(&rt, &mut work)?;
+    extracts(&rt, &mut work)?;
+    applies(&rt, &mut work)?;
+    transposed(&rt, &mut work)?;
+    write_backs(&rt, &mut work)
 }
 
 // MIN with PLUS, scaled by 4: 5.5 at (2, 1) is 22.
-fn matrix_product(work: &mut Workspace) {
+fn matrix_product(rt: &impl Print, work: &mut Workspace) -> io::Result<()> {
     let mut a = [0u32; 23];
     let mut b = [0u32; 29];
     let mut c = [9u32; 32];
@@ -35,12 +36,12 @@ fn matrix_product(work: &mut Workspace) {
     let values: &[u32] = &[12, 8, 36, 24, 12, 4, 0, 20];
     test_support::store(&mut b, 4, 3, starts, columns, values);
     create::new_empty(&mut c, 4, 3);
-    test_support::heading(b"products");
-    mxm(b"mxm, min_plus", plain(0), 6, 3, &a, &b, &mut c, work);
+    test_support::heading(rt, b"products")?;
+    mxm(rt, b"mxm, min_plus", plain(0), 6, 3, &a, &b, &mut c, work)
 }
 
 // A matrix times a vector with PLUS and TIMES, the matrix scaled by 4: the vector times its transpose. PLUS with PLUS.
-fn vector_products(work: &mut Workspace) {
+fn vector_products(rt: &impl Print, work: &mut Workspace) -> io::Result<()> {
     let v: &[u32] = &[1, 0, 2, 1, 4, 2, 0, 3, 3, 0, 1, 3, 3, 10, 20, 40];
     let mut a = [0u32; 23];
     let mut b = [0u32; 29];
@@ -54,15 +55,15 @@ fn vector_products(work: &mut Workspace) {
     test_support::store(&mut b, 4, 3, starts, columns, values);
     let b: &[u32] = &b;
     create::new_empty(&mut c, 1, 4);
-    vxm(b"mxv, plus_times", plain(16), 3, 5, v, &a, &mut c, work);
+    vxm(rt, b"mxv, plus_times", plain(16), 3, 5, v, &a, &mut c, work)?;
     create::new_empty(&mut c, 1, 3);
-    vxm(b"vxm, plus_plus", plain(0), 3, 3, v, b, &mut c, work);
+    vxm(rt, b"vxm, plus_plus", plain(0), 3, 3, v, b, &mut c, work)?;
     create::new_empty(&mut c, 1, 3);
-    vxm(b"vxm, flag 8", plain(8), 3, 3, v, b, &mut c, work);
+    vxm(rt, b"vxm, flag 8", plain(8), 3, 3, v, b, &mut c, work)
 }
 
 // By columns with TIMES, and to one value with MAX, scaled by 2: products with a vector of ones.
-fn reductions(work: &mut Workspace) {
+fn reductions(rt: &impl Print, work: &mut Workspace) -> io::Result<()> {
     let ones: &[u32] = &[1, 0, 2, 1, 3, 2, 0, 3, 3, 0, 1, 2, 3, 1, 1, 1];
     let more: &[u32] = &[1, 0, 2, 1, 4, 2, 0, 4, 4, 0, 1, 2, 3, 4, 1, 1, 1, 1];
     let mut a = [0u32; 24];
@@ -72,17 +73,17 @@ fn reductions(work: &mut Workspace) {
     let values: &[u32] = &[4, 10, 3, 8, 1, 4294967282];
     test_support::store(&mut a, 3, 4, &[0, 2, 4, 6], columns, values);
     let a: &[u32] = &a;
-    test_support::heading(b"reductions");
+    test_support::heading(rt, b"reductions")?;
     create::new_empty(&mut c, 1, 4);
-    vxm(b"columns, times", plain(0), 5, 1, ones, a, &mut c, work);
+    vxm(rt, b"columns, times", plain(0), 5, 1, ones, a, &mut c, work)?;
     create::new_empty(&mut c, 1, 4);
-    vxm(b"columns, max", plain(0), 7, 1, ones, a, &mut c, work);
+    vxm(rt, b"columns, max", plain(0), 7, 1, ones, a, &mut c, work)?;
     create::new_empty(&mut s, 1, 1);
-    vxm(b"value, max", plain(16), 7, 0, &c, more, &mut s, work);
+    vxm(rt, b"value, max", plain(16), 7, 0, &c, more, &mut s, work)
 }
 
 // MIN, scaled by 2.
-fn intersection(work: &mut Workspace) {
+fn intersection(rt: &impl Print, work: &mut Workspace) -> io::Result<()> {
     let mut a = [0u32; 22];
     let mut b = [0u32; 24];
     let mut c = [9u32; 30];
@@ -93,12 +94,12 @@ fn intersection(work: &mut Workspace) {
     let values: &[u32] = &[6, 4294967292, 0, 12, 6, 2];
     test_support::store(&mut b, 3, 3, &[0, 2, 4, 6], columns, values);
     create::new_empty(&mut c, 3, 3);
-    test_support::heading(b"intersection and union");
-    ewise_mult(b"ewise_mult, min", plain(0), 6, &a, &b, &mut c, work);
+    test_support::heading(rt, b"intersection and union")?;
+    ewise_mult(rt, b"ewise_mult, min", plain(0), 6, &a, &b, &mut c, work)
 }
 
 // MINUS, scaled by 2: a value on one side alone stays as it is.
-fn union(work: &mut Workspace) {
+fn union(rt: &impl Print, work: &mut Workspace) -> io::Result<()> {
     let mut a = [0u32; 22];
     let mut b = [0u32; 24];
     let mut c = [9u32; 30];
@@ -110,12 +111,12 @@ fn union(work: &mut Workspace) {
     test_support::store(&mut b, 3, 3, &[0, 3, 3, 6], columns, values);
     create::new_empty(&mut c, 3, 3);
     let a: &[u32] = &a;
-    ewise_add(b"ewise_add, minus", plain(0), 4, a, &b, a, &mut c, work);
+    ewise_add(rt, b"ewise_add, minus", plain(0), 4, a, &b, a, &mut c, work)
 }
 
 // The first four columns of a vector; rows 0 and 2 of a matrix, scaled by 2; rows and columns of its transpose in another
 // order.
-fn extracts(work: &mut Workspace) {
+fn extracts(rt: &impl Print, work: &mut Workspace) -> io::Result<()> {
     let v: &[u32] = &[
         1, 0, 2, 1, 7, 2, 0, 5, 5, 0, 1, 3, 4, 6, 5, 10, 2, 40, 4294967291, 24,
     ];
@@ -126,34 +127,65 @@ fn extracts(work: &mut Workspace) {
     let values: &[u32] = &[4, 10, 3, 8, 1, 4294967282];
     test_support::store(&mut a, 3, 3, &[0, 2, 4, 6], columns, values);
     let a: &[u32] = &a;
-    test_support::heading(b"extract");
+    test_support::heading(rt, b"extract")?;
     create::new_empty(&mut w, 1, 4);
-    extract(b"slice", plain(0), v, &[0], &[0, 1, 2, 3], &mut w, work);
+    extract(rt, b"slice", plain(0), v, &[0], &[0, 1, 2, 3], &mut w, work)?;
     create::new_empty(&mut c, 2, 3);
-    extract(b"rows", plain(0), a, &[0, 2], &[0, 1, 2], &mut c, work);
+    extract(rt, b"rows", plain(0), a, &[0, 2], &[0, 1, 2], &mut c, work)?;
     create::new_empty(&mut c, 2, 2);
-    extract(b"reordered", plain(8), a, &[1, 0], &[1, 0], &mut c, work);
+    extract(
+        rt,
+        b"reordered",
+        plain(8),
+        a,
+        &[1, 0],
+        &[1, 0],
+        &mut c,
+        work,
+    )
 }
 
 // The four kinds: unary, on the smallest value, 0 and -5; MINUS with 15 first and second; COLINDEX.
-fn applies(work: &mut Workspace) {
+fn applies(rt: &impl Print, work: &mut Workspace) -> io::Result<()> {
     let u: &[u32] = &[
         1, 0, 2, 1, 4, 2, 0, 3, 3, 0, 1, 3, 3, 2147483648, 0, 4294967291,
     ];
     let v: &[u32] = &[1, 0, 2, 1, 4, 2, 0, 3, 3, 0, 1, 3, 3, 10, 20, 40];
     let mut c = [9u32; 18];
     create::new_empty(&mut c, 1, 4);
-    test_support::heading(b"apply");
-    apply(b"unary, ainv", plain(0), 0, 1, 0, u, u, &mut c, work);
-    apply(b"unary, abs", plain(0), 0, 2, 0, u, u, &mut c, work);
-    apply(b"unary, lnot", plain(0), 0, 3, 0, u, u, &mut c, work);
-    apply(b"minus, 15 first", plain(0), 1, 4, 15, v, v, &mut c, work);
-    apply(b"minus, 15 second", plain(0), 2, 4, 15, v, v, &mut c, work);
-    apply(b"colindex", plain(0), 3, 1, 0, v, v, &mut c, work);
+    test_support::heading(rt, b"apply")?;
+    apply(rt, b"unary, ainv", plain(0), 0, 1, 0, u, u, &mut c, work)?;
+    apply(rt, b"unary, abs", plain(0), 0, 2, 0, u, u, &mut c, work)?;
+    apply(rt, b"unary, lnot", plain(0), 0, 3, 0, u, u, &mut c, work)?;
+    apply(
+        rt,
+        b"minus, 15 first",
+        plain(0),
+        1,
+        4,
+        15,
+        v,
+        v,
+        &mut c,
+        work,
+    )?;
+    apply(
+        rt,
+        b"minus, 15 second",
+        plain(0),
+        2,
+        4,
+        15,
+        v,
+        v,
+        &mut c,
+        work,
+    )?;
+    apply(rt, b"colindex", plain(0), 3, 1, 0, v, v, &mut c, work)
 }
 
 // The transpose, scaled by 2; ROWINDEX and DIAGINDEX with 100, by the row and column after transposing.
-fn transposed(work: &mut Workspace) {
+fn transposed(rt: &impl Print, work: &mut Workspace) -> io::Result<()> {
     let mut a = [0u32; 24];
     let mut c = [9u32; 27];
     let columns: &[u32] = &[1, 3, 0, 1, 0, 2];
@@ -161,29 +193,29 @@ fn transposed(work: &mut Workspace) {
     test_support::store(&mut a, 3, 4, &[0, 2, 4, 6], columns, values);
     create::new_empty(&mut c, 4, 3);
     let a: &[u32] = &a;
-    test_support::heading(b"transpose");
-    apply(b"identity", plain(8), 0, 0, 0, a, a, &mut c, work);
-    apply(b"rowindex", plain(8), 3, 0, 100, a, a, &mut c, work);
-    apply(b"diagindex", plain(8), 3, 2, 100, a, a, &mut c, work);
+    test_support::heading(rt, b"transpose")?;
+    apply(rt, b"identity", plain(8), 0, 0, 0, a, a, &mut c, work)?;
+    apply(rt, b"rowindex", plain(8), 3, 0, 100, a, a, &mut c, work)?;
+    apply(rt, b"diagindex", plain(8), 3, 2, 100, a, a, &mut c, work)
 }
 
 // P7 to P12, with IDENTITY for the operation; then an accumulator that tells old C from T; and flags with nothing to act
 // on.
-fn write_backs(work: &mut Workspace) {
-    test_support::heading(b"write-back");
-    write_back(b"mask", masked(0), work);
-    write_back(b"mask, replace", masked(1), work);
-    write_back(b"structural mask", masked(4), work);
-    write_back(b"complement", masked(2), work);
-    write_back(b"mask, plus", accumulated(0, true, 3), work);
-    write_back(b"no mask, complement, replace", plain(3), work);
-    write_back(b"no mask, minus", accumulated(0, false, 4), work);
-    write_back(b"nothing for flags 4 and 16", plain(20), work);
+fn write_backs(rt: &impl Print, work: &mut Workspace) -> io::Result<()> {
+    test_support::heading(rt, b"write-back")?;
+    write_back(rt, b"mask", masked(0), work)?;
+    write_back(rt, b"mask, replace", masked(1), work)?;
+    write_back(rt, b"structural mask", masked(4), work)?;
+    write_back(rt, b"complement", masked(2), work)?;
+    write_back(rt, b"mask, plus", accumulated(0, true, 3), work)?;
+    write_back(rt, b"no mask, complement, replace", plain(3), work)?;
+    write_back(rt, b"no mask, minus", accumulated(0, false, 4), work)?;
+    write_back(rt, b"nothing for flags 4 and 16", plain(20), work)
 }
 
-fn write_back(label: &[u8], options: Options, work: &mut [u32]) {
+fn write_back(rt: &impl Print, label: &[u8], options: Options, work: &mut [u32]) -> io::Result<()> {
     let mut c: [u32; 19] = [1, 0, 2, 1, 4, 2, 0, 3, 3, 0, 1, 2, 3, 1, 2, 3, 9, 9, 9];
     let t: [u32; 14] = [1, 0, 2, 1, 4, 2, 0, 2, 2, 1, 3, 2, 9, 9];
     let mask: [u32; 16] = [1, 0, 2, 1, 4, 2, 0, 3, 3, 0, 1, 3, 3, 1, 0, 5];
-    apply(label, options, 0, 0, 0, &t, &mask, &mut c, work);
+    apply(rt, label, options, 0, 0, 0, &t, &mask, &mut c, work)
 }

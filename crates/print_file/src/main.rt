@@ -3,63 +3,81 @@
 
 #![tactic(auto)]
 
+ghost use Rattle.std.specs.Prelude.{◌≤◌, length};
+
 use files::MAX_FILE_BYTES;
-use libc::{STDIN_FILENO, STDOUT_FILENO};
 use matrix::layout::MAX_MATRIX_WORDS;
+use std::io;
+use std::io::Read;
 use text::MAX_TEXT_BYTES;
 
-fn main() {
+fn main(rt: HostRuntime) -> io::Result<()> {
+    let mut input = rt.stdin();
     let mut bytes = [0u8; MAX_FILE_BYTES];
-    let length = io::read_full(STDIN_FILENO, &mut bytes);
-    if more() {
-        drain();
-        refuse();
-        return;
+    let length = read_full(&mut input, &mut bytes);
+    if more(&mut input) {
+        drain(&mut input);
+        return refuse(&rt);
     }
-    print_file(&bytes[..length]);
+    print_file(&rt, &bytes[..length])
+}
+
+// Reads until the buffer is full, the input ends or cannot be read: how many bytes are at its front. An empty rest of
+// the buffer reads 0 bytes.
+fn read_full(input: &mut impl Read, bytes: &mut [u8]) -> usize
+    ensures { result ≤ length bytes.new }
+{
+    let mut done = 0;
+    for _ in 0..u64::MAX {
+        match input.read(&mut bytes[done..]) {
+            Ok(0) | Err(_) => break,
+            Ok(n) => done += n,
+        }
+    }
+    done
 }
 
 // The text of a file, or the refusal.
-fn print_file(bytes: &[u8]) {
+fn print_file(rt: &impl Print, bytes: &[u8]) -> io::Result<()> {
     let mut words = [0u32; MAX_MATRIX_WORDS];
     let answer = files::read_file(bytes, &mut words);
     if answer.code != 0 {
-        refuse();
-        return;
+        return refuse(rt);
     }
     let mut out = [0u8; MAX_TEXT_BYTES];
     let written = text::write_text(&words, &mut out);
-    print_front(&out, written.length as usize);
+    print_front(rt, &out, written.length as usize)
 }
 
 // The first n bytes.
-fn print_front(out: &[u8], n: usize) {
+fn print_front(rt: &impl Print, out: &[u8], n: usize) -> io::Result<()> {
     if n <= out.len() {
-        io::write_all(STDOUT_FILENO, &out[..n]);
+        rt.write_all(&out[..n])?;
     }
+    Ok(())
 }
 
-fn refuse() {
-    io::write_all(STDOUT_FILENO, b"refused 15\n");
+fn refuse(rt: &impl Print) -> io::Result<()> {
+    rt.write_all(b"refused 15\n")
 }
 
 // Reads once: whether the input has not ended, or cannot be read.
-fn more() -> bool {
-    let mut rest = io::buffer();
-    libc::read(STDIN_FILENO, &mut rest) != 0
+fn more(input: &mut impl Read) -> bool {
+    let mut rest = [0u8; 4096];
+    !matches!(input.read(&mut rest), Ok(0))
 }
 
 // Reads on to the end of the input, so that whoever writes it is not cut off. A proved loop has to end, and nothing
-// says that the input does: it counts its turns down, from a number that no run uses up. It stops too where the input
-// cannot be read.
-fn drain() {
-    let mut turns = u64::MAX;
-    while turns > 0 && some() {
-        turns -= 1;
+// says that the input does: its turns are a number that no run uses up. It stops too where the input cannot be read.
+fn drain(input: &mut impl Read) {
+    for _ in 0..u64::MAX {
+        if !some(input) {
+            break;
+        }
     }
 }
 
-fn some() -> bool {
-    let mut rest = io::buffer();
-    0 < libc::read(STDIN_FILENO, &mut rest)
+fn some(input: &mut impl Read) -> bool {
+    let mut rest = [0u8; 4096];
+    matches!(input.read(&mut rest), Ok(1..))
 }

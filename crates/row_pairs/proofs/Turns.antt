@@ -11,7 +11,7 @@ use lib.Seq.{take-set-le}
 use Rattle.words.specs.Words.{at}
 use Rattle.grid.specs.declared.Cell.{Cell}
 use Rattle.grid.specs.declared.Cell.TheVariants.{Absent, Present}
-use Rattle.rows.specs.Row.{lookup, position, Rises, Row, Holds}
+use Rattle.rows.specs.Row.{position, Rises, Row, Holds}
 use Rattle.rows.proofs.Holds.{holds_put, holds_skip}
 use Rattle.rows.proofs.Position.{Stands, stands, position_moves, position_stays}
 use Rattle.row_pairs.specs.Steps.{AtMost}

@@ -4,9 +4,9 @@
 #![tactic(auto)]
 
 use answers::CellAnswer;
-use libc::STDOUT_FILENO;
 use limits::MAX_COLS;
 use matrix::layout::ROWS_AT;
+use std::io;
 
 // A row's number of entries, the first column, and how many columns further the next one is. The values are 0, 1, 2 and
 // so on.
@@ -29,17 +29,16 @@ struct Tally {
     most_at: u32,
 }
 
-fn main() {
+fn main(rt: HostRuntime) -> io::Result<()> {
     let mut space = [0u32; 2900];
     let words: &mut [u32] = &mut space;
     build(words);
     let answer = matrix::check(words);
-    test_support::print_pair(b"check: ", answer.code, answer.entries);
-    let mut i: u32 = 0;
-    while i < 6 {
-        read_row(words, i, plan(i));
-        i += 1;
+    test_support::print_pair(&rt, b"check: ", answer.code, answer.entries)?;
+    for i in 0..6u32 {
+        read_row(&rt, words, i, plan(i))?;
     }
+    Ok(())
 }
 
 fn plan(i: u32) -> RowPlan {
@@ -72,10 +71,8 @@ fn build(words: &mut [u32]) {
     test_support::put(words, 13, n);
     test_support::put(words, 14 + n as usize, n);
     let mut start: u32 = 0;
-    let mut i: u32 = 0;
-    while i < 6 {
+    for i in 0..6u32 {
         start = build_row(words, i, start, plan(i));
-        i += 1;
     }
 }
 
@@ -100,15 +97,13 @@ fn build_row(words: &mut [u32], i: u32, start: u32, row: RowPlan) -> u32 {
 // n words from `at` on: first, first + step, first + 2 * step and so on.
 fn put_steps(words: &mut [u32], at: usize, n: usize, first: u32, step: u32) {
     let mut word = first;
-    let mut k = 0;
-    while k < n {
+    for k in 0..n {
         test_support::put(words, test_support::past(at, k), word);
         word = std::num::wrapping_add_u32(word, step);
-        k += 1;
     }
 }
 
-fn read_row(words: &[u32], i: u32, row: RowPlan) {
+fn read_row(rt: &impl Print, words: &[u32], i: u32, row: RowPlan) -> io::Result<()> {
     let mut seen = Tally {
         present: 0,
         next: row.first,
@@ -117,12 +112,10 @@ fn read_row(words: &[u32], i: u32, row: RowPlan) {
         most: 0,
         most_at: 0,
     };
-    let mut j: u32 = 0;
-    while j < MAX_COLS {
+    for j in 0..MAX_COLS {
         seen = looked(read(words, i, j, row, seen), looks_at(words, i, j), j);
-        j += 1;
     }
-    print_row(seen);
+    print_row(rt, seen)
 }
 
 // One cell read, and held against the plan.
@@ -202,13 +195,13 @@ fn looks_at(words: &[u32], i: u32, j: u32) -> u32 {
     read.looks as u32
 }
 
-fn print_row(seen: Tally) {
-    test_support::print_number(seen.present);
-    io::write_all(STDOUT_FILENO, b" present, ");
-    test_support::print_number(seen.absent);
-    io::write_all(STDOUT_FILENO, b" absent, ");
-    test_support::print_number(seen.wrong);
-    io::write_all(STDOUT_FILENO, b" wrong; at most ");
-    test_support::print_number(seen.most);
-    test_support::print_word(b" looks, first for column", seen.most_at);
+fn print_row(rt: &impl Print, seen: Tally) -> io::Result<()> {
+    test_support::print_number(rt, seen.present)?;
+    rt.write_all(b" present, ")?;
+    test_support::print_number(rt, seen.absent)?;
+    rt.write_all(b" absent, ")?;
+    test_support::print_number(rt, seen.wrong)?;
+    rt.write_all(b" wrong; at most ")?;
+    test_support::print_number(rt, seen.most)?;
+    test_support::print_word(rt, b" looks, first for column", seen.most_at)
 }

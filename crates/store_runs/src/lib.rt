@@ -3,39 +3,55 @@
 
 #![tactic(auto)]
 
-pub fn lay(store: &mut [u32], slot: usize, rows: u32, cols: u32) {
+use std::io;
+
+pub fn lay(
+    rt: &impl Print,
+    store: &mut [u32],
+    slot: usize,
+    rows: u32,
+    cols: u32,
+) -> io::Result<()> {
     let r = store_cells::new_empty(store, slot, rows, cols);
-    report(b"lay: ", r.code, r.entries, &store[..]);
+    report(rt, b"lay: ", r.code, r.entries, &store[..])
 }
 
-pub fn drop(store: &mut [u32], slot: usize) {
+pub fn drop(rt: &impl Print, store: &mut [u32], slot: usize) -> io::Result<()> {
     let r = store_cells::drop_slot(store, slot);
-    report(b"drop: ", r.code, r.entries, &store[..]);
+    report(rt, b"drop: ", r.code, r.entries, &store[..])
 }
 
-pub fn set(store: &mut [u32], slot: usize, i: u32, j: u32, value: u32) {
+pub fn set(
+    rt: &impl Print,
+    store: &mut [u32],
+    slot: usize,
+    i: u32,
+    j: u32,
+    value: u32,
+) -> io::Result<()> {
     let r = store_cells::set_cell(store, slot, i, j, value);
-    report(b"set: ", r.code, r.entries, &store[..]);
+    report(rt, b"set: ", r.code, r.entries, &store[..])
 }
 
-pub fn clear(store: &mut [u32], slot: usize, i: u32, j: u32) {
+pub fn clear(rt: &impl Print, store: &mut [u32], slot: usize, i: u32, j: u32) -> io::Result<()> {
     let r = store_cells::clear_cell(store, slot, i, j);
-    report(b"clear: ", r.code, r.entries, &store[..]);
+    report(rt, b"clear: ", r.code, r.entries, &store[..])
 }
 
-pub fn read(store: &[u32], slot: usize, i: u32, j: u32) {
+pub fn read(rt: &impl Print, store: &[u32], slot: usize, i: u32, j: u32) -> io::Result<()> {
     let r = store_cells::read_cell(store, slot, i, j);
     if r.present {
-        test_support::print_pair(b"read, present: ", r.code, r.value);
+        test_support::print_pair(rt, b"read, present: ", r.code, r.value)?;
     } else {
-        test_support::print_pair(b"read, absent: ", r.code, r.value);
+        test_support::print_pair(rt, b"read, absent: ", r.code, r.value)?;
     }
-    test_support::print_word(b"  at position", r.position);
+    test_support::print_word(rt, b"  at position", r.position)
 }
 
-fn report(label: &[u8], code: u32, entries: u32, store: &[u32]) {
-    test_support::print_pair(label, code, entries);
+fn report(rt: &impl Print, label: &[u8], code: u32, entries: u32, store: &[u32]) -> io::Result<()> {
+    test_support::print_pair(rt, label, code, entries)?;
     if store.len() <= 64 {
-        test_support::show(b"store", store);
+        test_support::show(rt, b"store", store)?;
     }
+    Ok(())
 }

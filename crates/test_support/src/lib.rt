@@ -2,7 +2,7 @@
 
 #![tactic(auto)]
 
-use libc::STDOUT_FILENO;
+use std::io;
 
 // The word at k, or 0 past the end.
 pub fn word(words: &[u32], k: usize) -> u32 {
@@ -66,10 +66,8 @@ fn put_list(words: &mut [u32], at: usize, list: &[u32]) {
 }
 
 fn put_words(words: &mut [u32], at: usize, list: &[u32]) {
-    let mut k = 0;
-    while k < list.len() {
-        put(words, past(at, k), list[k]);
-        k += 1;
+    for (k, word) in list.iter().enumerate() {
+        put(words, past(at, k), *word);
     }
 }
 
@@ -80,15 +78,13 @@ pub fn past(a: usize, b: usize) -> usize {
 // n words from `at` on: 0, step, 2 * step and so on, starting again after `last`.
 pub fn put_run(words: &mut [u32], at: usize, n: usize, step: u32, last: u32) {
     let mut word: u32 = 0;
-    let mut k = 0;
-    while k < n {
+    for k in 0..n {
         put(words, past(at, k), word);
         if word == last {
             word = 0;
         } else {
             word = std::num::wrapping_add_u32(word, step);
         }
-        k += 1;
     }
 }
 
@@ -98,64 +94,66 @@ pub fn put(words: &mut [u32], at: usize, word: u32) {
     }
 }
 
-pub fn show(label: &[u8], part: &[u32]) {
-    io::write_all(STDOUT_FILENO, label);
-    io::write_all(STDOUT_FILENO, b":");
-    let mut k = 0;
-    while k < part.len() {
-        io::write_all(STDOUT_FILENO, b" ");
-        print_number(part[k]);
-        k += 1;
+pub fn show(rt: &impl Print, label: &[u8], part: &[u32]) -> io::Result<()> {
+    rt.write_all(label)?;
+    rt.write_all(b":")?;
+    for word in part {
+        rt.write_all(b" ")?;
+        print_number(rt, *word)?;
     }
-    io::write_all(STDOUT_FILENO, b"\n");
+    rt.write_all(b"\n")
 }
 
-pub fn print_pair(label: &[u8], code: u32, entries: u32) {
-    io::write_all(STDOUT_FILENO, label);
-    print_number(code);
-    io::write_all(STDOUT_FILENO, b" ");
-    print_number(entries);
-    io::write_all(STDOUT_FILENO, b"\n");
+pub fn print_pair(rt: &impl Print, label: &[u8], code: u32, entries: u32) -> io::Result<()> {
+    rt.write_all(label)?;
+    print_number(rt, code)?;
+    rt.write_all(b" ")?;
+    print_number(rt, entries)?;
+    rt.write_all(b"\n")
 }
 
 // The answer of a call that has a workspace, and whether the workspace is all zeros.
-pub fn print_call(label: &[u8], code: u32, entries: u32, work: &[u32]) {
-    io::write_all(STDOUT_FILENO, label);
-    io::write_all(STDOUT_FILENO, b": ");
-    print_number(code);
-    io::write_all(STDOUT_FILENO, b" ");
-    print_number(entries);
+pub fn print_call(
+    rt: &impl Print,
+    label: &[u8],
+    code: u32,
+    entries: u32,
+    work: &[u32],
+) -> io::Result<()> {
+    rt.write_all(label)?;
+    rt.write_all(b": ")?;
+    print_number(rt, code)?;
+    rt.write_all(b" ")?;
+    print_number(rt, entries)?;
     if all_zero(work) {
-        io::write_all(STDOUT_FILENO, b", workspace clear\n");
+        rt.write_all(b", workspace clear\n")
     } else {
-        io::write_all(STDOUT_FILENO, b", workspace NOT clear\n");
+        rt.write_all(b", workspace NOT clear\n")
     }
 }
 
-pub fn print_word(label: &[u8], word: u32) {
-    io::write_all(STDOUT_FILENO, label);
-    io::write_all(STDOUT_FILENO, b": ");
-    print_number(word);
-    io::write_all(STDOUT_FILENO, b"\n");
+pub fn print_word(rt: &impl Print, label: &[u8], word: u32) -> io::Result<()> {
+    rt.write_all(label)?;
+    rt.write_all(b": ")?;
+    print_number(rt, word)?;
+    rt.write_all(b"\n")
 }
 
-pub fn print_number(n: u32) {
-    io::print_decimal(STDOUT_FILENO, n as u64);
+pub fn print_number(rt: &impl Print, n: u32) -> io::Result<()> {
+    rt.print(n)
 }
 
-pub fn heading(text: &[u8]) {
-    io::write_all(STDOUT_FILENO, text);
-    io::write_all(STDOUT_FILENO, b"\n");
+pub fn heading(rt: &impl Print, text: &[u8]) -> io::Result<()> {
+    rt.write_all(text)?;
+    rt.write_all(b"\n")
 }
 
 // Whether all words are 0.
 pub fn all_zero(words: &[u32]) -> bool {
-    let mut k = 0;
-    while k < words.len() {
-        if words[k] != 0 {
+    for word in words {
+        if *word != 0 {
             return false;
         }
-        k += 1;
     }
     true
 }

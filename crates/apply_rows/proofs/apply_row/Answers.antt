@@ -1,5 +1,5 @@
 -- `apply_row` leaves the row that apply gives: the entries before p are written.
-use Prim.Native.Nat.{◌-◌, ◌<◌}
+use Prim.Native.Nat.{◌<◌}
 use native.Mathlib.Omega.{arith}
 use Rattle.apply_rows.proofs.Applying.{applying_start, applying_room, applying_step, applying_done}
 use Rattle.apply_rows.proofs.apply_row.Goals as goal
@@ -45,7 +45,7 @@ loop-p-smaller c = omega arith
 
 pub loop-p-preserved : goal.loop-p-preserved
 loop-p-preserved c =
-    applying_step c.requires.fact_1 c.loop-p.inv c.loop-p-test.taken c.requires.fact_2.0 c.requires.fact_2.1 c.apply_entry-y.ensures
+    applying_step c.requires.fact_1 c.loop-p.invariant c.loop-p-test.true c.requires.fact_2.0 c.requires.fact_2.1 c.apply_entry-y.ensures
 
 pub shape_of-oc : goal.shape_of-oc
 shape_of-oc c = c.loop-p.invariant.long_cols

@@ -1,6 +1,6 @@
 -- `apply_values` overwrites: after k turns the first k values are in place.
 use native.Mathlib.Omega.{arith}
-use Prim.Native.Nat.{ℕ, ◌+◌, ◌-◌}
+use Prim.Native.Nat.{ℕ, ◌+◌}
 use mathlib.Core.Path.{refl, ap, ◌∙◌}
 use mathlib.Core.List.{List, map}
 use lib.ListN.{set, length-set, length-map}

@@ -1,30 +1,10 @@
 -- `add_unlisted` keeps the old row at the columns that the list does not name: those entries before p are put.
 use Prim.Native.Nat.{◌-◌, ◌<◌}
 use native.Mathlib.Omega.{arith}
-use mathlib.Core.Logic.{⊎_elim}
 use Rattle.words.specs.Words.{at}
 use Rattle.assign_rows.proofs.Keeping.{keeping_start, keeping_put, keeping_left, keeping_done}
 use Rattle.assign_rows.proofs.add_unlisted.Goals as goal
-
--- the column of entry p
-small : (t : goal.After-shared_slice_known-in-loop-p-1) →
-    let x = t.args in at x.old_columns_lem.now t.loop-p.p < x.places
-small t = t.requires.fact_2.small t.loop-p.p t.loop-p-test.true
-
--- the column of entry p
-small_2 : (t : goal.After-shared_slice_known-in-loop-p-2-1-unread) →
-    let x = t.args in at x.old_columns_lem.now t.loop-p.p < x.places
-small_2 t = t.requires.fact_2.small t.loop-p.p t.loop-p-test.true
-
--- the column of entry p
-small_3 : (t : goal.After-shared_slice_known-then-inverse-j-eq0-1) →
-    let x = t.args in at x.old_columns_lem.now t.loop-p.p < x.places
-small_3 t = t.requires.fact_2.small t.loop-p.p t.loop-p-test.true
-
--- the column of entry p
-small_4 : (t : goal.After-mark_column-arg-1) →
-    let x = t.args in at x.old_columns_lem.now t.loop-p.p < x.places
-small_4 t = t.requires.fact_2.small t.loop-p.p t.loop-p-test.true
+use Rattle.assign_rows.proofs.add_unlisted.Goals.{else-inverse-j-eq0, then-inverse-j-eq0}
 
 pub loop-p-init : goal.loop-p-init
 loop-p-init c = keeping_start _ _ _ c.requires.fact_2 c.requires.fact_5 c.requires.fact_4
@@ -36,13 +16,13 @@ pub bounds-old_columns-p : goal.bounds-old_columns-p
 bounds-old_columns-p c = omega arith
 
 pub overflow_cast-j : goal.overflow_cast-j
-overflow_cast-j c = omega (arith, small c, c.requires.fact_1.0)
+overflow_cast-j c = omega (arith, c.requires.fact_2.small c.loop-p.p c.loop-p-test.true, c.requires.fact_1.0)
 
 pub offset_bounds-inverse-j : goal.offset_bounds-inverse-j
-offset_bounds-inverse-j c = omega (arith, small c, c.requires.fact_1.0)
+offset_bounds-inverse-j c = omega (arith, c.requires.fact_2.small c.loop-p.p c.loop-p-test.true, c.requires.fact_1.0)
 
 pub bounds-inverse-j : goal.bounds-inverse-j
-bounds-inverse-j c = omega (arith, small_2 c, c.requires.fact_1.0, c.requires.fact_3)
+bounds-inverse-j c = omega (arith, c.requires.fact_2.small c.loop-p.p c.loop-p-test.true, c.requires.fact_1.0, c.requires.fact_3)
 
 pub offset_bounds-old_values-p : goal.offset_bounds-old_values-p
 offset_bounds-old_values-p c = omega (arith, c.requires.fact_2.even)
@@ -51,16 +31,16 @@ pub bounds-old_values-p : goal.bounds-old_values-p
 bounds-old_values-p c = omega (arith, c.requires.fact_2.even)
 
 pub offset_bounds-ov-j : goal.offset_bounds-ov-j
-offset_bounds-ov-j c = omega (arith, small_3 c, c.requires.fact_1.0)
+offset_bounds-ov-j c = omega (arith, c.requires.fact_2.small c.loop-p.p c.loop-p-test.true, c.requires.fact_1.0)
 
 pub bounds-ov-j : goal.bounds-ov-j
-bounds-ov-j c = omega (arith, small_3 c, c.requires.fact_1.1, c.loop-p.inv.long)
+bounds-ov-j c = omega (arith, c.requires.fact_2.small c.loop-p.p c.loop-p-test.true, c.requires.fact_1.1, c.loop-p.invariant.long)
 
 pub mark_column-t-requires : goal.mark_column-t-requires
 mark_column-t-requires c =
  record {
-      fact_1 = omega (arith, small_4 c, c.requires.fact_1.0);
-      fact_2 = c.loop-p.inv.tracked;
+      fact_1 = omega (arith, c.requires.fact_2.small c.loop-p.p c.loop-p-test.true, c.requires.fact_1.0);
+      fact_2 = c.loop-p.invariant.tracked;
     }
 
 pub overflow_add-p : goal.overflow_add-p
@@ -72,12 +52,9 @@ loop-p-smaller c = omega arith
 pub loop-p-preserved : goal.loop-p-preserved
 loop-p-preserved c =
     let h = c.loop-p.invariant in
-    ⊎_elim
-    (λ w. rw (w.4, w.5, w.6)
-    (keeping_put _ _ _ c.requires.fact_2 c.requires.fact_5 h c.loop-p-test.true w.0.taken c.requires.fact_1.1 w.3.ensures))
-    (λ w. rw (w.1, w.2, w.3)
-    (keeping_left _ _ _ c.requires.fact_2 c.requires.fact_5 h c.loop-p-test.true w.0.left))
-    c.if-inverse-j-eq0.branch
+    elim c.if-inverse-j-eq0.branch [ then-inverse-j-eq0 w ↦ rw (w.map-is, w.ov-is, w.t-is)
+    (keeping_put _ _ _ c.requires.fact_2 c.requires.fact_5 h c.loop-p-test.true w.if-inverse-j-eq0.true c.requires.fact_1.1 w.mark_column-t.ensures) | else-inverse-j-eq0 w ↦ rw (w.map-is, w.ov-is, w.t-is)
+    (keeping_left _ _ _ c.requires.fact_2 c.requires.fact_5 h c.loop-p-test.true w.if-inverse-j-eq0.false) ]
 
 pub shape_of-ov : goal.shape_of-ov
 shape_of-ov c = c.loop-p.invariant.long

@@ -6,18 +6,6 @@ use Rattle.bit_rows.proofs.Marks.{carries_none}
 use Rattle.assign_rows.proofs.Row.{old_past, only_listed, assigned_room, assigned_row}
 use Rattle.assign_rows.proofs.assign_row.Goals as goal
 
--- the values' buffer keeps its length
-placed_long : (q : goal.After-keep_unlisted-arg-1) → length q.place_listed-top.new.ov ≡ length q.args.ov.now
-placed_long q = q.place_listed-top.auto.ov
-
--- the values' buffer keeps its length
-placed_long_2 : (q : goal.After-collect-arg-2-1) → length q.place_listed-top.new.ov ≡ length q.args.ov.now
-placed_long_2 q = q.place_listed-top.auto.ov
-
-kept_long : (k : goal.After-collect-arg-2-1)
-    → length k.keep_unlisted-all.new.ov ≡ length k.args.ov.now
-kept_long k = k.keep_unlisted-all.auto.ov ∙ placed_long_2 k
-
 pub place_listed-top-requires : goal.place_listed-top-requires
 place_listed-top-requires c =
  record {
@@ -30,7 +18,7 @@ place_listed-top-requires c =
 pub keep_unlisted-all-requires : goal.keep_unlisted-all-requires
 keep_unlisted-all-requires c =
  record {
-      fact_1 = (c.requires.places_le_max_cols_1, omega (arith, c.requires.places_in_bounds.1, placed_long c));
+      fact_1 = (c.requires.places_le_max_cols_1, omega (arith, c.requires.places_in_bounds.1, c.place_listed-top.auto.ov));
       fact_2 = c.requires.places_le_max_cols_3;
       fact_3 = c.requires.places_le_max_cols_4.inverse.sized;
       fact_4 = c.place_listed-top.ensures.tracked;
@@ -41,7 +29,7 @@ pub collect-requires : goal.collect-requires
 collect-requires c =
  record {
       fact_1 = c.keep_unlisted-all.ensures.tracked;
-      fact_2 = assigned_room c.requires.places_le_max_cols_4 c.place_listed-top.ensures _ (old_past c.args.accumulator c.requires.places_le_max_cols_3) c.keep_unlisted-all.ensures           c.requires.places_in_bounds.0 (omega (arith, c.requires.places_in_bounds.1, kept_long c));
+      fact_2 = assigned_room c.requires.places_le_max_cols_4 c.place_listed-top.ensures _ (old_past c.args.accumulator c.requires.places_le_max_cols_3) c.keep_unlisted-all.ensures           c.requires.places_in_bounds.0 (omega (arith, c.requires.places_in_bounds.1, (c.keep_unlisted-all.auto.ov ∙ c.place_listed-top.auto.ov)));
     }
 
 pub returns : goal.returns

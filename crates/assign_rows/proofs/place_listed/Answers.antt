@@ -7,55 +7,6 @@ use Rattle.words.specs.Words.{at}
 use Rattle.assign_rows.proofs.Placing.{placing_start, placing_index, placing_column, placing_step, placing_done}
 use Rattle.assign_rows.proofs.place_listed.Goals as goal
 
--- the index of entry p, its column, and the column's place in the buffer
-index : (t : goal.After-shared_slice_known-in-loop-p-1) →
-    let x = t.args in at x.columns.now t.loop-p.p < length x.list.now
-index t =
-placing_index t.requires.fact_1 t.requires.fact_2 t.loop-p.invariant t.loop-p-test.true
-
--- the index of entry p, its column, and the column's place in the buffer
-index_2 : (t : goal.After-shared_slice_known-in-loop-p-2-1-unread) →
-    let x = t.args in at x.columns.now t.loop-p.p < length x.list.now
-index_2 t =
-placing_index t.requires.fact_1 t.requires.fact_2 t.loop-p.invariant t.loop-p-test.true
-
-column : (t : goal.After-shared_slice_known-in-loop-p-2-1) →
-    let x = t.args in at x.list.now (at x.columns.now t.loop-p.p) < max_cols
-column t =
-placing_column t.requires.fact_1 t.requires.fact_2 t.loop-p.invariant t.loop-p-test.true
-
-column_2 : (t : goal.After-shared_slice_known-in-loop-p-3-1) →
-    let x = t.args in at x.list.now (at x.columns.now t.loop-p.p) < max_cols
-column_2 t =
-placing_column t.requires.fact_1 t.requires.fact_2 t.loop-p.invariant t.loop-p-test.true
-
--- the index of entry p, its column, and the column's place in the buffer
-index_3 : (t : goal.After-shared_slice_known-in-loop-p-3-1) →
-    let x = t.args in at x.columns.now t.loop-p.p < length x.list.now
-index_3 t =
-placing_index t.requires.fact_1 t.requires.fact_2 t.loop-p.invariant t.loop-p-test.true
-
-room : (t : goal.After-shared_slice_known-in-loop-p-3-1) →
-    let x = t.args in
-    at x.list.now (at x.columns.now t.loop-p.p) < length x.ov.now
-room t = t.requires.fact_3 _ (index_3 t)
-
-column_3 : (t : goal.After-mark_column-arg-1) →
-    let x = t.args in at x.list.now (at x.columns.now t.loop-p.p) < max_cols
-column_3 t =
-placing_column t.requires.fact_1 t.requires.fact_2 t.loop-p.invariant t.loop-p-test.true
-
--- the index of entry p, its column, and the column's place in the buffer
-index_4 : (t : goal.After-mark_column-top) →
-    let x = t.args in at x.columns.now t.loop-p.p < length x.list.now
-index_4 t =
-placing_index t.requires.fact_1 t.requires.fact_2 t.loop-p.invariant t.loop-p-test.true
-
-room_2 : (t : goal.After-mark_column-top) →
-    let x = t.args in
-    at x.list.now (at x.columns.now t.loop-p.p) < length x.ov.now
-room_2 t = t.requires.fact_3 _ (index_4 t)
-
 pub loop-p-init : goal.loop-p-init
 loop-p-init c = placing_start c.requires.fact_1 c.requires.fact_2 _ c.requires.fact_4
 
@@ -66,16 +17,16 @@ pub bounds-columns-p : goal.bounds-columns-p
 bounds-columns-p c = omega arith
 
 pub overflow_cast-k : goal.overflow_cast-k
-overflow_cast-k c = omega (arith, index c, c.requires.fact_2.few)
+overflow_cast-k c = omega (arith, (placing_index c.requires.fact_1 c.requires.fact_2 c.loop-p.invariant c.loop-p-test.true), c.requires.fact_2.few)
 
 pub offset_bounds-list-k : goal.offset_bounds-list-k
-offset_bounds-list-k c = omega (arith, index c, c.requires.fact_2.few)
+offset_bounds-list-k c = omega (arith, (placing_index c.requires.fact_1 c.requires.fact_2 c.loop-p.invariant c.loop-p-test.true), c.requires.fact_2.few)
 
 pub bounds-list-k : goal.bounds-list-k
-bounds-list-k c = omega (arith, index_2 c)
+bounds-list-k c = omega (arith, (placing_index c.requires.fact_1 c.requires.fact_2 c.loop-p.invariant c.loop-p-test.true))
 
 pub overflow_cast-j : goal.overflow_cast-j
-overflow_cast-j c = omega (arith, column c)
+overflow_cast-j c = omega (arith, (placing_column c.requires.fact_1 c.requires.fact_2 c.loop-p.invariant c.loop-p-test.true))
 
 pub offset_bounds-values-p : goal.offset_bounds-values-p
 offset_bounds-values-p c = omega (arith, c.requires.fact_1.even)
@@ -84,15 +35,15 @@ pub bounds-values-p : goal.bounds-values-p
 bounds-values-p c = omega (arith, c.requires.fact_1.even)
 
 pub offset_bounds-ov-j : goal.offset_bounds-ov-j
-offset_bounds-ov-j c = omega (arith, column_2 c)
+offset_bounds-ov-j c = omega (arith, (placing_column c.requires.fact_1 c.requires.fact_2 c.loop-p.invariant c.loop-p-test.true))
 
 pub bounds-ov-j : goal.bounds-ov-j
-bounds-ov-j c = omega (arith, room c, c.loop-p.invariant.long)
+bounds-ov-j c = omega (arith, (c.requires.fact_3 _ (placing_index c.requires.fact_1 c.requires.fact_2 c.loop-p.invariant c.loop-p-test.true)), c.loop-p.invariant.long)
 
 pub mark_column-top-requires : goal.mark_column-top-requires
 mark_column-top-requires c =
  record {
-      fact_1 = column_3 c;
+      fact_1 = (placing_column c.requires.fact_1 c.requires.fact_2 c.loop-p.invariant c.loop-p-test.true);
       fact_2 = c.loop-p.invariant.tracked;
     }
 
@@ -104,7 +55,7 @@ loop-p-smaller c = omega arith
 
 pub loop-p-preserved : goal.loop-p-preserved
 loop-p-preserved c =
-    placing_step c.requires.fact_1 c.requires.fact_2 c.loop-p.invariant c.loop-p-test.true (room_2 c) c.mark_column-top.ensures
+    placing_step c.requires.fact_1 c.requires.fact_2 c.loop-p.invariant c.loop-p-test.true (c.requires.fact_3 _ (placing_index c.requires.fact_1 c.requires.fact_2 c.loop-p.invariant c.loop-p-test.true)) c.mark_column-top.ensures
 
 pub shape_of-ov : goal.shape_of-ov
 shape_of-ov c = c.loop-p.invariant.long

@@ -42,7 +42,7 @@ pub collect_word-e-requires : goal.collect_word-e-requires
 collect_word-e-requires c =
     let h = c.loop-used.invariant in
     let n = c.loop-used-test.true in
- record {
+    record {
       fact_1 = (words_most c.requires.fact_1 h n, omega (arith, low_4 c));
       fact_2 = words_room c.requires.fact_1 h n c.requires.fact_2;
     }
@@ -56,7 +56,7 @@ loop-used-smaller c = left_fewer c.loop-used.invariant.left c.loop-used-test.tru
 pub loop-used-preserved : goal.loop-used-preserved
 loop-used-preserved c =
     words_step c.requires.fact_1 c.loop-used.invariant c.loop-used-test.true
-    c.oc-1.given c.ov-1.given c.collect_word-e.ensures
+    c.collect_word-e.auto.oc c.collect_word-e.auto.ov c.collect_word-e.ensures
 
 pub shape_of-oc : goal.shape_of-oc
 shape_of-oc c = c.loop-used.invariant.long_cols

@@ -1,5 +1,4 @@
 -- `keep_columns`: the words before w have what is let through, and the others are as they were.
-use Prim.Native.Nat.{◌-◌}
 use Rattle.bit_rows.proofs.Keeping.{keeping_start, keeping_step, keeping_done}
 use Rattle.bit_rows.proofs.keep_columns.Goals as goal
 

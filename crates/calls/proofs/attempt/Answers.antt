@@ -8,26 +8,26 @@ use Rattle.calls.proofs.attempt.Goals as goal
 
 -- past the first test no refusal of the inputs applies
 none_applies : (q : goal.After-compute-arg-1)
-    → input_refusal (start q).args.call (start q).args.a.now (start q).args.b.now (start q).args.mask.now
-    (start q).args.c.now (start q).args.is.now (start q).args.js.now (length (start q).args.work.now) ≡ 0
+    → input_refusal q.args.call q.args.a.now q.args.b.now q.args.mask.now
+    q.args.c.now q.args.is.now q.args.js.now (length q.args.work.now) ≡ 0
 none_applies q = sym q.input_refusal-code.ensures ∙ q.if-code-ne0.false
 
 -- past the first test no refusal of the inputs applies
 none_applies_2 : (q : goal.After-commit-arg-1)
-    → input_refusal (start q).args.call (start q).args.a.now (start q).args.b.now (start q).args.mask.now
-    (start q).args.c.now (start q).args.is.now (start q).args.js.now (length (start q).args.work.now) ≡ 0
+    → input_refusal q.args.call q.args.a.now q.args.b.now q.args.mask.now
+    q.args.c.now q.args.is.now q.args.js.now (length q.args.work.now) ≡ 0
 none_applies_2 q = sym q.input_refusal-code.ensures ∙ q.if-code-ne0.false
 
 -- past the first test no refusal of the inputs applies
 none_applies_3 : (q : goal.In-Full)
-    → input_refusal (start q).args.call (start q).args.a.now (start q).args.b.now (start q).args.mask.now
-    (start q).args.c.now (start q).args.is.now (start q).args.js.now (length (start q).args.work.now) ≡ 0
+    → input_refusal q.args.call q.args.a.now q.args.b.now q.args.mask.now
+    q.args.c.now q.args.is.now q.args.js.now (length q.args.work.now) ≡ 0
 none_applies_3 q = sym q.input_refusal-code.ensures ∙ q.if-code-ne0.false
 
 -- past the first test no refusal of the inputs applies
 none_applies_4 : (q : goal.After-slice_known-in-Done-1)
-    → input_refusal (start q).args.call (start q).args.a.now (start q).args.b.now (start q).args.mask.now
-    (start q).args.c.now (start q).args.is.now (start q).args.js.now (length (start q).args.work.now) ≡ 0
+    → input_refusal q.args.call q.args.a.now q.args.b.now q.args.mask.now
+    q.args.c.now q.args.is.now q.args.js.now (length q.args.work.now) ≡ 0
 none_applies_4 q = sym q.input_refusal-code.ensures ∙ q.if-code-ne0.false
 
 pub returns-then-code-ne0 : goal.returns-then-code-ne0
@@ -43,12 +43,12 @@ compute-outcome-requires c =
 
 pub commit-requires : goal.commit-requires
 commit-requires c =
-    let h = ready_of _ _ _ _ _ _ _ _ (none_applies_2 c) in
-    let f = rw c.outcome.given.1 at c.compute.ensures in
-    let x = (start c.before.before.before.before.before.before.before.before.before.before).args in
+     let h = ready_of _ _ _ _ _ _ _ _ (none_applies_2 c) in
+    let f = rw c.in-Done.is at c.compute-outcome.ensures in
+    let x = c.args in
     let fits =
     size_fits x.call x.a.now x.b.now x.mask.now x.c.now x.is.now x.js.now _ f.0
-    c.compute.new.1.1.1.1.1.1.1.0 f.2 in
+    c.compute-outcome.new.work f.2 in
  record {
       fact_1 = h.ready.inputs.output.header;
       fact_2 = f.1;
@@ -57,10 +57,10 @@ commit-requires c =
 
 pub returns-in-Full : goal.returns-in-Full
 returns-in-Full c =
-    attempted_full _ _ _ _ _ _ _ _ (none_applies_3 c) (rw c.in-Full.is at c.compute-outcome.ensures)
+     attempted_full _ _ _ _ _ _ _ _ (none_applies_3 c) (rw c.in-Full.is at c.compute-outcome.ensures)
 
 pub returns-in-Done : goal.returns-in-Done
 returns-in-Done c =
-    let f = rw c.outcome.given.1 at c.compute.ensures in
+     let f = rw c.in-Done.is at c.compute-outcome.ensures in
     attempted_done _ _ _ _ _ _ _ _ (none_applies_4 c) _ _ _ _ f.0 f.1 f.2
     c.commit.ensures

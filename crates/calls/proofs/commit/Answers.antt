@@ -11,8 +11,7 @@ use Rattle.calls.proofs.commit.Goals as goal
 
 pub returns-then-c-size : goal.returns-then-c-size
 returns-then-c-size c =
-    let s = c.before.before.before.before.before in
-    let l : length s.args.c.now < size_of (rows s.args.c.now) s.args.n = omega arith in
+     let l : length c.args.c.now < size_of (rows c.args.c.now) c.args.n = omega arith in
     record { answer_is = rw (lt-leb _ _ l); words_are = refl }
 
 pub slice_bounds-copy_into-end : goal.slice_bounds-copy_into-end
@@ -23,16 +22,15 @@ copy_into-requires c = simp length-take (omega arith)
 
 pub set_revision-requires : goal.set_revision-requires
 set_revision-requires c =
-    let h = (start c.before.before.before).pre.0.fits in
+     let h = c.requires.fact_1.fits in
     omega (arith, c.copy_into.auto.dst)
 
 pub returns : goal.returns
 returns c =
-    let v = c.next-revision.ensures ∙ ap next_revision c.revision.ensures in
-    let s = start c.before.before.before.before.before.before in
-    let l : size_of (rows s.args.c.now) s.args.n ≤ length s.args.c.now = omega arith in
+     let v = c.next_revision-revision.ensures ∙ ap next_revision c.revision.ensures in
+    let l : size_of (rows c.args.c.now) c.args.n ≤ length c.args.c.now = omega arith in
     record {
       answer_is = rw (le-leb _ _ l);
       words_are = copied_revised _ _ c.set_revision.ensures v c.copy_into.ensures
-          (ap (λ (r : ℕ). size_of r s.args.n) c.row_count.ensures);
+          (ap (λ (r : ℕ). size_of r c.args.n) c.row_count.ensures);
     }

@@ -9,7 +9,7 @@ row_count-total-requires c = c.requires.prepared_1.inputs.output.header
 
 pub loop-i-init : goal.loop-i-init
 loop-i-init c =
-    (
+ (
       progress_start _ _ _ _ _ _ _ _ _ _ _ _ _ _ _ c.requires.prepared_1 c.requires.first_value_1 c.requires.prepared_2 c.row_count-total.ensures c.requires.first_value_2
           c.requires.row_buffers,
       (refl, refl, refl, refl, refl),
@@ -23,32 +23,32 @@ advance-n-requires c =
     }
 
 pub shape_of-work-then-n : goal.shape_of-work-then-n
-shape_of-work-then-n c = c.advance-n.auto.work ∙ c.loop-i.inv.1.0
+shape_of-work-then-n c = c.advance-n.auto.work ∙ c.loop-i.invariant.1.0
 
 pub shape_of-tc-then-n : goal.shape_of-tc-then-n
-shape_of-tc-then-n c = c.advance-n.auto.tc ∙ c.loop-i.inv.1.1
+shape_of-tc-then-n c = c.advance-n.auto.tc ∙ c.loop-i.invariant.1.1
 
 pub shape_of-tv-then-n : goal.shape_of-tv-then-n
-shape_of-tv-then-n c = c.advance-n.auto.tv ∙ c.loop-i.inv.1.2
+shape_of-tv-then-n c = c.advance-n.auto.tv ∙ c.loop-i.invariant.1.2
 
 pub shape_of-oc-then-n : goal.shape_of-oc-then-n
-shape_of-oc-then-n c = c.advance-n.auto.oc ∙ c.loop-i.inv.1.3
+shape_of-oc-then-n c = c.advance-n.auto.oc ∙ c.loop-i.invariant.1.3
 
 pub shape_of-ov-then-n : goal.shape_of-ov-then-n
-shape_of-ov-then-n c = c.advance-n.auto.ov ∙ c.loop-i.inv.1.4
+shape_of-ov-then-n c = c.advance-n.auto.ov ∙ c.loop-i.invariant.1.4
 
 pub returns-then-n : goal.returns-then-n
 returns-then-n c = c.advance-n.ensures.full c.if-n.true
 
 pub overflow_add-i : goal.overflow_add-i
-overflow_add-i c = counter_fits _ _ _ _ _ _ _ c.loop-i.inv.0 c.loop-i-test.taken
+overflow_add-i c = counter_fits _ _ _ _ _ _ _ c.loop-i.invariant.0 c.loop-i-test.true
 
 pub loop-i-smaller : goal.loop-i-smaller
-loop-i-smaller c = counter_falls c.loop-i-test.taken
+loop-i-smaller c = counter_falls c.loop-i-test.true
 
 pub loop-i-preserved : goal.loop-i-preserved
 loop-i-preserved c =
-    let v = c.loop-i.inv.1 in
+     let v = c.loop-i.invariant.1 in
     let k = c.advance-n.kept.1.1.1.1.1.1.1.1.1 in
     let t = k.1.1.1.1 in (
       c.advance-n.ensures.more c.if-n.false,
@@ -66,10 +66,11 @@ col_count-requires c = c.loop-i.invariant.0.ready.inputs.output.header
 
 pub finish-requires : goal.finish-requires
 finish-requires c =
-    rw c.col_count.ensures (result_bounds _ _ _ _ _ _ _ c.loop-i.invariant.0 c.loop-i-test.false)
+     rw c.col_count.ensures (result_bounds _ _ _ _ _ _ _ c.loop-i.invariant.0 c.loop-i-test.false)
 
 pub shape_of-work : goal.shape_of-work
-shape_of-work c = result_long c.loop-i.work c.finish.new.work c.finish.auto.work ∙ c.loop-i.inv.1.0
+shape_of-work c =
+     result_long c.loop-i.work c.finish.new.work c.finish.auto.work ∙ c.loop-i.invariant.1.0
 
 pub shape_of-tc : goal.shape_of-tc
 shape_of-tc c = c.loop-i.invariant.1.1
@@ -85,5 +86,5 @@ shape_of-ov c = c.loop-i.invariant.1.4
 
 pub returns : goal.returns
 returns c =
-    progress_done _ _ _ _ _ _ _ c.loop-i.invariant.0 c.loop-i-test.false _
+     progress_done _ _ _ _ _ _ _ c.loop-i.invariant.0 c.loop-i-test.false _
     (rw c.col_count.ensures at c.finish.ensures) c.finish.auto.work

@@ -34,7 +34,7 @@ compute_prepared-requires c =
 
 pub returns-then-inputs : goal.returns-then-inputs
 returns-then-inputs c =
-    computed_listed c.requires.fact_1 (listed_3 c) c.invert_lists.new.out c.compute_prepared.result _
+     computed_listed c.requires.fact_1 (listed_3 c) c.invert_lists.new.out c.compute_prepared.result _
     c.compute_prepared.ensures
 
 pub compute_prepared-requires-2 : goal.compute_prepared-requires-2

@@ -116,7 +116,7 @@ orient-requires-2 c =
 
 pub compute_rows-requires : goal.compute_rows-requires
 compute_rows-requires c =
-    let i = c.requires.fact_1.inputs in
+     let i = c.requires.fact_1.inputs in
     let d = both_long c in
  record {
       prepared_1 = c.requires.fact_1;

@@ -65,7 +65,7 @@ plain_rows-requires c =
 
 pub returns-then-is_straight : goal.returns-then-is_straight
 returns-then-is_straight c =
-    computed_same c.plain_rows.result _ _ _
+     computed_same c.plain_rows.result _ _ _
     (plain_same _ _ _ _ _ _ _ _ _ c.requires.prepared_1 (first_source_2 c) (second_source_2 c)
     (straight_plain (write_back_of c.args.call) c.args.first c.args.second (taken c)))
     c.plain_rows.ensures

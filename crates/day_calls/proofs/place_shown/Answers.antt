@@ -47,7 +47,7 @@ section_place-requires c =
 
 pub returns-then-is_marked : goal.returns-then-is_marked
 returns-then-is_marked c =
-    c.section_place.ensures
+     c.section_place.ensures
     ∙ placed_day _ _ _ _ _ (told_3 c) (sym c.is_marked.ensures ∙ c.if-is_marked.true)
 
 pub section_place-requires-2 : goal.section_place-requires-2
@@ -60,5 +60,5 @@ section_place-requires-2 c =
 
 pub returns : goal.returns
 returns c =
-    c.section_place-2.ensures
+     c.section_place-2.ensures
     ∙ placed_base _ _ _ _ _ (told_5 c) (sym c.is_marked.ensures ∙ c.if-is_marked.false)

@@ -50,7 +50,7 @@ row_section-requires c =
 
 pub returns-then-is_marked : goal.returns-then-is_marked
 returns-then-is_marked c =
-    shown_day _ _ _ _ _ _ (told_3 c) (sym c.is_marked.ensures ∙ c.if-is_marked.true) c.row_section.ensures
+     shown_day _ _ _ _ _ _ (told_3 c) (sym c.is_marked.ensures ∙ c.if-is_marked.true) c.row_section.ensures
 
 pub row_section-requires-2 : goal.row_section-requires-2
 row_section-requires-2 c =
@@ -62,4 +62,4 @@ row_section-requires-2 c =
 
 pub returns : goal.returns
 returns c =
-    shown_base _ _ _ _ _ _ (told_5 c) (sym c.is_marked.ensures ∙ c.if-is_marked.false) c.row_section-2.ensures
+     shown_base _ _ _ _ _ _ (told_5 c) (sym c.is_marked.ensures ∙ c.if-is_marked.false) c.row_section-2.ensures

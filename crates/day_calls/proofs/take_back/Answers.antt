@@ -9,31 +9,31 @@ use Rattle.day_calls.proofs.Rewrites.{back_refused, back_done}
 use Rattle.day_calls.proofs.take_back.Goals as goal
 
 -- past that test the row can be taken back
-none_2 : (c : goal.Else-code-ne0) → let a = (start c).args in back_refusal a.day.now a.marks.now a.i ≡ 0
+none_2 : (c : goal.Else-code-ne0) → let a = c.args in back_refusal a.day.now a.marks.now a.i ≡ 0
 none_2 c = sym c.back_refusal-code.ensures ∙ c.if-code-ne0.false
 
-ready : (c : goal.Else-code-ne0) → let a = (start c).args in Backable a.day.now a.marks.now a.i
+ready : (c : goal.Else-code-ne0) → let a = c.args in Backable a.day.now a.marks.now a.i
 ready c = back_ready _ _ _ (none_2 c)
 
 -- past that test the row can be taken back
-none_3 : (c : goal.After-replace_row-arg-3-1) → let a = (start c).args in back_refusal a.day.now a.marks.now a.i ≡ 0
+none_3 : (c : goal.After-replace_row-arg-3-1) → let a = c.args in back_refusal a.day.now a.marks.now a.i ≡ 0
 none_3 c = sym c.back_refusal-code.ensures ∙ c.if-code-ne0.false
 
-ready_2 : (c : goal.After-replace_row-arg-3-1) → let a = (start c).args in Backable a.day.now a.marks.now a.i
+ready_2 : (c : goal.After-replace_row-arg-3-1) → let a = c.args in Backable a.day.now a.marks.now a.i
 ready_2 c = back_ready _ _ _ (none_3 c)
 
 -- past that test the row can be taken back
-none_4 : (c : goal.After-take_mark-arg-1) → let a = (start c).args in back_refusal a.day.now a.marks.now a.i ≡ 0
+none_4 : (c : goal.After-take_mark-arg-1) → let a = c.args in back_refusal a.day.now a.marks.now a.i ≡ 0
 none_4 c = sym c.back_refusal-code.ensures ∙ c.if-code-ne0.false
 
-ready_3 : (c : goal.After-take_mark-arg-1) → let a = (start c).args in Backable a.day.now a.marks.now a.i
+ready_3 : (c : goal.After-take_mark-arg-1) → let a = c.args in Backable a.day.now a.marks.now a.i
 ready_3 c = back_ready _ _ _ (none_4 c)
 
 -- past that test the row can be taken back
-none : (c : goal.After-accepted) → let a = (start c).args in back_refusal a.day.now a.marks.now a.i ≡ 0
+none : (c : goal.After-accepted) → let a = c.args in back_refusal a.day.now a.marks.now a.i ≡ 0
 none c = sym c.back_refusal-code.ensures ∙ c.if-code-ne0.false
 
-ready_4 : (c : goal.After-accepted) → let a = (start c).args in Backable a.day.now a.marks.now a.i
+ready_4 : (c : goal.After-accepted) → let a = c.args in Backable a.day.now a.marks.now a.i
 ready_4 c = back_ready _ _ _ (none c)
 
 pub returns-then-code-ne0 : goal.returns-then-code-ne0
@@ -57,7 +57,7 @@ take_mark-requires c = back_vector (ready_3 c)
 
 pub returns : goal.returns
 returns c =
-    let r = ready_4 c in
+     let r = ready_4 c in
     rw c.accepted.ensures
-    (back_done _ _ _ (none c) _ _ _ (c.count_with.ensures ∙ count_without r)
+    (back_done _ _ _ (none c) _ _ _ (c.count_with-n.ensures ∙ count_without r)
     (without_written r _ _ _ refl refl c.replace_row.ensures) c.take_mark.ensures)

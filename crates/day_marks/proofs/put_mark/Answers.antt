@@ -4,7 +4,7 @@ use Rattle.day_marks.proofs.put_mark.Goals as goal
 
 pub insert_entry-requires : goal.insert_entry-requires
 insert_entry-requires c =
-    let k = c.in_default.is in
+     let k = c.in_default.is in
  record {
       fact_1 = in_vector c.requires.fact_1;
       fact_2 = absent_placed c.requires.fact_2 k c.position_of.ensures;

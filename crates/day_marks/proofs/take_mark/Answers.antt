@@ -5,17 +5,17 @@ use Rattle.day_marks.proofs.Marks.{in_vector, absent_placed, present_placed, tak
 use Rattle.day_marks.proofs.take_mark.Goals as goal
 
 pub touch-requires : goal.touch-requires
-touch-requires c = omega (arith, c.before.before.before.before.before.before.requires.matrix.header.fits)
+touch-requires c = omega (arith, c.requires.matrix.header.fits)
 
 pub returns-in_default : goal.returns-in_default
 returns-in_default c =
-    c.touch.ensures
-    ∙ taken_none c.before.before.before.requires
+     c.touch.ensures
+    ∙ taken_none c.requires
     (absent_placed c.entry_at-found.ensures.fact_1 c.in_default.is refl)
 
 pub remove_entry-requires : goal.remove_entry-requires
 remove_entry-requires c =
  record {
-      fact_1 = in_vector c.before.before.before.requires;
+      fact_1 = in_vector c.requires;
       fact_2 = present_placed c.entry_at-found.ensures.fact_1 c.in-Present.is;
     }

@@ -1,10 +1,9 @@
 -- `gather_row` leaves the marked places in the buffers: those before j are written.
-use Prim.Native.Nat.{◌-◌}
 use native.Mathlib.Omega.{arith}
-use mathlib.Core.Logic.{⊎_elim}
 use Rattle.dense_rows.proofs.Cells.{dense_unmarked, dense_marked}
 use Rattle.dense_rows.proofs.Gathering.{gathering_start, gathering_put, gathering_skip, gathering_done}
 use Rattle.dense_rows.proofs.gather_row.Goals as goal
+use Rattle.dense_rows.proofs.gather_row.Goals.{else-marks-j-ne0, then-marks-j-ne0}
 
 pub loop-j-init : goal.loop-j-init
 loop-j-init c = gathering_start _ _ _ _
@@ -48,10 +47,7 @@ loop-j-smaller c = omega arith
 pub loop-j-preserved : goal.loop-j-preserved
 loop-j-preserved c =
     let h = c.loop-j.invariant in
-    ⊎_elim
-    (λ w. rw (w.2, w.3, w.4) (gathering_put h c.loop-j-test.true c.requires.1 c.requires.2 (dense_marked _ _ _ w.0.taken)))
-    (λ w. rw (w.1, w.2, w.3) (gathering_skip h c.loop-j-test.true (dense_unmarked _ _ _ w.0.left)))
-    c.if-marks-j-ne0.branch
+    elim c.if-marks-j-ne0.branch [ then-marks-j-ne0 w ↦ rw (w.oc-is, w.ov-is, w.e-is) (gathering_put h c.loop-j-test.true c.requires.1 c.requires.2 (dense_marked _ _ _ w.if-marks-j-ne0.true)) | else-marks-j-ne0 w ↦ rw (w.oc-is, w.ov-is, w.e-is) (gathering_skip h c.loop-j-test.true (dense_unmarked _ _ _ w.if-marks-j-ne0.false)) ]
 
 pub shape_of-oc : goal.shape_of-oc
 shape_of-oc c = c.loop-j.invariant.long_cols

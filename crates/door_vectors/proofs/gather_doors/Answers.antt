@@ -52,7 +52,7 @@ loop-d-smaller c = omega arith
 
 pub loop-d-preserved : goal.loop-d-preserved
 loop-d-preserved c =
-    let h = c.loop-d.invariant in
+     let h = c.loop-d.invariant in
     ⊎_elim
     (λ w.
     rw (w.2, w.3, w.4)

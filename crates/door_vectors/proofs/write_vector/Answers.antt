@@ -5,7 +5,7 @@ use Rattle.door_vectors.proofs.write_vector.Goals as goal
 
 pub slice_bounds-stage_row-end : goal.slice_bounds-stage_row-end
 slice_bounds-stage_row-end c =
-    omega (
+     omega (
       arith,
       vector_most c.args.doors.now c.gather_doors-n.ensures,
       c.requires.fact_1.long_cols,
@@ -13,32 +13,30 @@ slice_bounds-stage_row-end c =
     )
 
 pub slice_bounds-stage_row-end-2 : goal.slice_bounds-stage_row-end-2
-slice_bounds-stage_row-end-2 c =
-    vector_columns (start c.before.before.before.before.before.before).args.doors.now c.gather-doors.ensures
+slice_bounds-stage_row-end-2 c = vector_columns c.args.doors.now c.gather_doors-n.ensures
 
 pub slice_bounds-stage_row-end-3 : goal.slice_bounds-stage_row-end-3
 slice_bounds-stage_row-end-3 c =
-    omega (
+     omega (
       arith,
-      vector_most (start c.before.before.before.before.before.before).args.doors.now c.gather-doors.ensures,
-      (start c.before.before.before.before.before.before).requires.0.long_vals,
-      c.gather-doors.auto,
+      vector_most c.args.doors.now c.gather_doors-n.ensures,
+      c.requires.fact_1.long_vals,
+      c.gather_doors-n.auto,
     )
 
 pub slice_bounds-stage_row-end-4 : goal.slice_bounds-stage_row-end-4
-slice_bounds-stage_row-end-4 c =
-    vector_values (start c.before.before.before.before.before.before.before).args.doors.now c.gather-doors.ensures
+slice_bounds-stage_row-end-4 c = vector_values c.args.doors.now c.gather_doors-n.ensures
 
 pub stage_row-requires : goal.stage_row-requires
 stage_row-requires c =
-    vector_bounds (start c.before.before.before.before.before.before.before).args.out.now (start c.before.before.before.before.before.before.before).requires.0 (start c.before.before.before.before.before.before.before).requires.1 c.gather-doors.ensures
+     vector_bounds c.args.out.now c.requires.fact_1 c.requires.fact_2 c.gather_doors-n.ensures
 
 pub finish-requires : goal.finish-requires
 finish-requires c =
-    finish_bounds (start c.before.before.before.before.before.before.before.before.before.before.before).args.out.now (start c.before.before.before.before.before.before.before.before.before.before.before).requires.0 (start c.before.before.before.before.before.before.before.before.before.before.before).requires.1 c.gather-doors.ensures
+     finish_bounds c.args.out.now c.requires.fact_1 c.requires.fact_2 c.gather_doors-n.ensures
     c.stage_row.auto.work
 
 pub returns : goal.returns
 returns c =
-    vector_written (start c.before.before.before.before.before.before.before.before.before.before.before.before.before.before).args.out.now (start c.before.before.before.before.before.before.before.before.before.before.before.before.before.before).requires.0 (start c.before.before.before.before.before.before.before.before.before.before.before.before.before.before).requires.1 c.gather-doors.ensures
+     vector_written c.args.out.now c.requires.fact_1 c.requires.fact_2 c.gather_doors-n.ensures
     c.stage_row.ensures c.stage_row.auto.work c.finish.ensures

@@ -11,7 +11,7 @@ use Rattle.edits.proofs.replace_value.Goals as goal
 -- the position is below N
 below : (c : goal.After-slice_known-3-1)
     → c.args.p < entries c.args.words.now
-below c =present_below c.requires.fact_1 c.requires.fact_2
+below c = present_below c.requires.fact_1 c.requires.fact_2
 
 pub overflow_add-words-3 : goal.overflow_add-words-3
 overflow_add-words-3 c = let l = below c in omega arith

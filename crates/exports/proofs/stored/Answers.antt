@@ -3,7 +3,7 @@ use Rattle.exports.proofs.stored.Goals as goal
 
 pub returns : goal.returns
 returns c =
- record {
+    record {
       fact_1 = record { answer = _; packed_is = c.pack.ensures; done = rw c.options_of-options.ensures at c.operate.ensures.0 };
       fact_2 = c.operate.ensures.1;
     }

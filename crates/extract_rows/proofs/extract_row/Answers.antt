@@ -1,28 +1,13 @@
 -- `extract_row` leaves the listed cells: a row without entries gives none; of any other the entries are put at their
 -- places, and what stands there is collected.
-use Prim.Native.Nat.{◌-◌, ◌<◌}
 use native.Mathlib.Omega.{arith}
 use mathlib.Core.Path.{◌∙◌}
-use Rattle.limits.specs.Limits.{max_cols}
-use Rattle.words.specs.Words.{at}
 use Rattle.rows.proofs.Holds.{holds_absent}
 use Rattle.rows.proofs.Walk.{absent_all}
 use Rattle.bit_rows.proofs.Marks.{carries_none}
 use Rattle.extract_rows.proofs.Extracting.{extracting_start, extracting_place, extracting_step}
 use Rattle.extract_rows.proofs.Extracting.{extracting_room, extracting_done}
 use Rattle.extract_rows.proofs.extract_row.Goals as goal
-
--- the column of entry p is one of a row
-small : (c : goal.After-shared_slice_known-in-loop-p-1) → at c.args.columns.now c.loop-p.p < max_cols
-small c = c.requires.row_1.small c.loop-p.p c.loop-p-test.true
-
--- the column of entry p is one of a row
-small_2 : (c : goal.After-place_entry-arg-1) → at c.args.columns.now c.loop-p.p < max_cols
-small_2 c = c.requires.row_1.small c.loop-p.p c.loop-p-test.true
-
--- the column of entry p is one of a row
-small_3 : (c : goal.After-shared_slice_known-in-loop-p-2-1-unread) → at c.args.columns.now c.loop-p.p < max_cols
-small_3 c = c.requires.row_1.small c.loop-p.p c.loop-p-test.true
 
 pub returns-then-columns-eq0 : goal.returns-then-columns-eq0
 returns-then-columns-eq0 c = holds_absent _ _ _ _ (λ j. absent_all _ _ c.if-columns-eq0.true _)
@@ -37,13 +22,13 @@ pub bounds-columns-p : goal.bounds-columns-p
 bounds-columns-p c = omega arith
 
 pub overflow_cast-k : goal.overflow_cast-k
-overflow_cast-k c = omega (arith, small c)
+overflow_cast-k c = omega (arith, c.requires.row_1.small c.loop-p.p c.loop-p-test.true)
 
 pub offset_bounds-inverse-k : goal.offset_bounds-inverse-k
-offset_bounds-inverse-k c = omega (arith, small_2 c)
+offset_bounds-inverse-k c = omega (arith, c.requires.row_1.small c.loop-p.p c.loop-p-test.true)
 
 pub bounds-inverse-k : goal.bounds-inverse-k
-bounds-inverse-k c = omega (arith, small_3 c, c.requires.row_3.sized)
+bounds-inverse-k c = omega (arith, c.requires.row_1.small c.loop-p.p c.loop-p-test.true, c.requires.row_3.sized)
 
 pub offset_bounds-values-p : goal.offset_bounds-values-p
 offset_bounds-values-p c = omega (arith, c.requires.row_1.even)
@@ -55,7 +40,7 @@ pub place_entry-top-requires : goal.place_entry-top-requires
 place_entry-top-requires c =
     let h = c.loop-p.invariant in
     let m = extracting_place c.requires.row_1 c.requires.row_2 c.requires.row_3 h c.loop-p-test.true in
- record {
+    record {
       fact_1 = (omega (arith, m, c.requires.row_2.few), omega (arith, m, h.long, c.requires.list_in_bounds.1));
       fact_2 = h.tracked;
     }

@@ -7,35 +7,33 @@ use Rattle.matrix.specs.Layout.{max_matrix_words}
 use Rattle.formula_steps.proofs.Result.{shape_small, stepped_disagree, agreeing}
 use Rattle.formula_steps.proofs.step.Goals as goal
 
--- no goal slice-bounds-shape-of-end
-part_shape_of_end : tie.Need-slice-bounds-shape-of-end
-part_shape_of_end c = omega (arith, c.before.before.before.before.requires.space)
-
 pub slice_bounds-shape_of-end : goal.slice_bounds-shape_of-end
 slice_bounds-shape_of-end c = omega (arith, c.requires.space)
 
 pub slice_bounds-shape_of-end-2 : goal.slice_bounds-shape_of-end-2
 slice_bounds-shape_of-end-2 c =
-    let p = c.before.before in
-    sym (length-take-le max_matrix_words p.args.area.now (omega (arith, p.requires.space)))
+     sym (length-take-le max_matrix_words c.args.area.now (omega (arith, c.requires.space)))
+
+pub slice_bounds-shape_of-end : goal.slice_bounds-shape_of-end
+slice_bounds-shape_of-end c = omega (arith, c.requires.space)
 
 pub needs_of-needs-requires : goal.needs_of-needs-requires
 needs_of-needs-requires c =
-    let p = c.before.before.before.before.before.before.requires.ready in record {
-      fact_1 = shape_small p.left _ c.shape_of.ensures;
+    let p = c.requires.ready in record {
+      fact_1 = shape_small p.left _ c.shape_of-first.ensures;
       fact_2 = shape_small p.right _ c.shape_of-second.ensures;
     }
 
 pub returns-then-not-inputs_agree : goal.returns-then-not-inputs_agree
 returns-then-not-inputs_agree c =
-    stepped_disagree c.before.before.before.before.before.before.before.before.requires
-    c.shape_of.ensures c.shape_of-second.ensures
+     stepped_disagree c.requires
+    c.shape_of-first.ensures c.shape_of-second.ensures
     c.needs_of-needs.ensures
     (said_no c.inputs_agree.ensures c.if-not-inputs_agree.true)
 
 pub write_result-requires : goal.write_result-requires
 write_result-requires c =
-    agreeing c.before.before.before.before.before.before.before.before.requires
-    c.shape_of.ensures c.shape_of-second.ensures
+     agreeing c.requires
+    c.shape_of-first.ensures c.shape_of-second.ensures
     c.needs_of-needs.ensures
     (said_yes c.inputs_agree.ensures c.if-not-inputs_agree.false)

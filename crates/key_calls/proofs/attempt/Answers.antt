@@ -51,11 +51,11 @@ door_vector-n-requires c =
 
 pub commit-requires : goal.commit-requires
 commit-requires c =
-    let x = (start c.before.before.before.before.before.before).args in record {
-      fact_1 = entries_few _ _ _ _ _ _ c.door-vector.ensures (checked_2 c).ready;
-      fact_2 = size_fits x.allowance x.locks.now x.cabinets.now x.hand.now _ _ c.door-vector.ensures;
+     let x = c.args in record {
+      fact_1 = entries_few _ _ _ _ _ _ c.door_vector-n.ensures (checked_2 c).ready;
+      fact_2 = size_fits x.allowance x.locks.now x.cabinets.now x.hand.now _ _ c.door_vector-n.ensures;
     }
 
 pub returns : goal.returns
 returns c =
-    attempted_done _ _ _ _ _ _ (none_applies c) _ _ _ _ c.door-vector.ensures c.commit.ensures
+     attempted_done _ _ _ _ _ _ (none_applies c) _ _ _ _ c.door_vector-n.ensures c.commit.ensures

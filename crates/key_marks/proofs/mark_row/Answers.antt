@@ -72,7 +72,7 @@ loop-p-smaller c = omega (arith, c.loop-p-test.true)
 pub loop-p-preserved : goal.loop-p-preserved
 loop-p-preserved c =
     stamped_same
-    (stamped_then c.requires.fact_2 c.loop-p.inv
+    (stamped_then c.requires.fact_2 c.loop-p.invariant
     (stamped_one c.loop-p.marks (at c.args.columns.now c.loop-p.p) (place_3 c)
     c.stamp_once.ensures))
     (λ j. has_next c.args.columns.now c.loop-p.p j c.loop-p-test.true)

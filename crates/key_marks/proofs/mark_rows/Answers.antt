@@ -34,7 +34,7 @@ loop-i-smaller c = omega (arith, c.loop-i-test.true)
 pub loop-i-preserved : goal.loop-i-preserved
 loop-i-preserved c =
     let a = c.args in (
-      rows_next a.m.now a.from.now c.loop-i.i c.requires.marking c.loop-i.inv.0
+      rows_next a.m.now a.from.now c.loop-i.i c.requires.marking c.loop-i.invariant.0
           c.mark_named.ensures,
       omega (arith, c.loop-i-test.true),
     )

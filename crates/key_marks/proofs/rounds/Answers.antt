@@ -31,31 +31,31 @@ count_marks-requires c = tt
 
 pub shape_of-keys-then-count_marks-before : goal.shape_of-keys-then-count_marks-before
 shape_of-keys-then-count_marks-before c =
-    c.mark-rows2.ensures.size ∙ c.loop.inv.0.keys_size ∙ sym (start c.before.before.before.before.before.before.before.before.before.before.before).pre.0.keys_size
+    c.mark-rows2.ensures.size ∙ c.loop.invariant.0.keys_size ∙ sym (start c.before.before.before.before.before.before.before.before.before.before.before).requires.0.keys_size
 
 pub shape_of-doors-then-count_marks-before : goal.shape_of-doors-then-count_marks-before
 shape_of-doors-then-count_marks-before c =
-    c.loop.inv.0.doors_size ∙ sym (start c.before.before.before.before.before.before.before.before.before.before.before).pre.0.doors_size
+    c.loop.invariant.0.doors_size ∙ sym (start c.before.before.before.before.before.before.before.before.before.before.before).requires.0.doors_size
 
 pub returns-then-count_marks-before : goal.returns-then-count_marks-before
 returns-then-count_marks-before c =
-    rounds_settled c.loop.inv.0
-    (keys_stamped (lent_fitting (start c.before.before.before.before.before.before.before.before.before.before.before).pre.0) c.loop.inv.0 c.mark-rows2.ensures)
+    rounds_settled c.loop.invariant.0
+    (keys_stamped (lent_fitting (start c.before.before.before.before.before.before.before.before.before.before.before).requires.0) c.loop.invariant.0 c.mark-rows2.ensures)
     (sym c.count_marks.ensures ∙ c.if-count_marks-before.true ∙ c.count-marks.ensures)
     c.loop-test.true
 
 pub overflow_add-n : goal.overflow_add-n
 overflow_add-n c =
-    omega (arith, c.loop-test.taken, (start c.before.before.before.before.before.before.before.before.before.before.before).pre.1)
+    omega (arith, c.loop-test.taken, (start c.before.before.before.before.before.before.before.before.before.before.before).requires.1)
 
 pub overflow_add-n-in-loop-n : goal.overflow_add-n-in-loop-n
 overflow_add-n-in-loop-n c =
-    omega (arith, c.loop-test.taken, (start c.before.before.before.before.before.before.before.before.before.before.before.before).pre.1)
+    omega (arith, c.loop-test.taken, (start c.before.before.before.before.before.before.before.before.before.before.before.before).requires.1)
 
 pub mark_rows-requires-in-loop-n-2 : goal.mark_rows-requires-in-loop-n-2
 mark_rows-requires-in-loop-n-2 c =
-    let l = (start c.before.before.before.before.before.before.before.before.before.before.before.before.before).pre.0 in
-    locks_stampable l (keys_stamped (lent_fitting l) c.loop.inv.0 c.mark-rows2.ensures) (omega arith)
+    let l = (start c.before.before.before.before.before.before.before.before.before.before.before.before.before).requires.0 in
+    locks_stampable l (keys_stamped (lent_fitting l) c.loop.invariant.0 c.mark-rows2.ensures) (omega arith)
 
 pub loop-n-smaller : goal.loop-n-smaller
 loop-n-smaller c = omega (arith, c.loop-test.taken)
@@ -63,7 +63,7 @@ loop-n-smaller c = omega (arith, c.loop-test.taken)
 pub loop-n-preserved : goal.loop-n-preserved
 loop-n-preserved c =
     (
-      doors_stamped (keys_stamped (lent_fitting (start c.before.before.before.before.before.before.before.before.before.before.before.before.before.before.before.before).pre.0) c.loop.inv.0 c.mark-rows2.ensures)
+      doors_stamped (keys_stamped (lent_fitting (start c.before.before.before.before.before.before.before.before.before.before.before.before.before.before.before.before).requires.0) c.loop.invariant.0 c.mark-rows2.ensures)
           c.mark_rows-in-loop-n-2.ensures,
       omega (arith, c.loop-test.true),
     )

@@ -1,5 +1,5 @@
 -- `add_block` adds the block of one entry: those of its entries before p are written.
-use Prim.Native.Nat.{◌-◌, ◌+◌, ◌<◌}
+use Prim.Native.Nat.{◌+◌, ◌<◌}
 use native.Mathlib.Omega.{arith}
 use Rattle.kronecker_rows.proofs.Adding.{adding_start, adding_room, adding_step, adding_done}
 use Rattle.kronecker_rows.proofs.add_block.Goals as goal
@@ -26,11 +26,11 @@ overflow_add-oc c = omega (arith, c.requires.row_1.small c.loop-p.p c.loop-p-tes
 
 pub offset_bounds-oc-e : goal.offset_bounds-oc-e
 offset_bounds-oc-e c =
-    omega (arith, room c, c.loop-p.invariant.long_cols, (c.requires.row_2, c.requires.places_in_bounds))
+    omega (arith, room c, c.loop-p.invariant.long_cols, c.requires.row_2, c.requires.places_in_bounds)
 
 pub bounds-oc-e : goal.bounds-oc-e
 bounds-oc-e c =
-    omega (arith, room c, c.loop-p.invariant.long_cols, (c.requires.row_2, c.requires.places_in_bounds))
+    omega (arith, room c, c.loop-p.invariant.long_cols, c.requires.row_2, c.requires.places_in_bounds)
 
 pub offset_bounds-values-p : goal.offset_bounds-values-p
 offset_bounds-values-p c = omega (arith, c.requires.row_1.even)
@@ -43,14 +43,14 @@ apply_binary-requires c = tt
 
 pub offset_bounds-ov-e : goal.offset_bounds-ov-e
 offset_bounds-ov-e c =
-    omega (arith, room_2 c, c.loop-p.inv.long_vals, (c.requires.row_2, c.requires.places_in_bounds))
+    omega (arith, room_2 c, c.loop-p.invariant.long_vals, c.requires.row_2, c.requires.places_in_bounds)
 
 pub bounds-ov-e : goal.bounds-ov-e
 bounds-ov-e c =
-    omega (arith, room_2 c, c.loop-p.inv.long_vals, (c.requires.row_2, c.requires.places_in_bounds))
+    omega (arith, room_2 c, c.loop-p.invariant.long_vals, c.requires.row_2, c.requires.places_in_bounds)
 
 pub overflow_add-e : goal.overflow_add-e
-overflow_add-e c = omega (arith, room_2 c, (c.requires.row_2, c.requires.places_in_bounds))
+overflow_add-e c = omega (arith, room_2 c, c.requires.row_2, c.requires.places_in_bounds)
 
 pub overflow_add-p : goal.overflow_add-p
 overflow_add-p c = omega arith
@@ -61,7 +61,7 @@ loop-p-smaller c = omega arith
 pub loop-p-preserved : goal.loop-p-preserved
 loop-p-preserved c =
     rw c.apply_binary.ensures
-    (adding_step c.requires.row_1 c.loop-p.inv c.loop-p-test.taken c.requires.places_in_bounds.0 c.requires.places_in_bounds.1)
+    (adding_step c.requires.row_1 c.loop-p.invariant c.loop-p-test.true c.requires.places_in_bounds.0 c.requires.places_in_bounds.1)
 
 pub shape_of-oc : goal.shape_of-oc
 shape_of-oc c = c.loop-p.invariant.long_cols

@@ -1,5 +1,4 @@
 -- `kronecker_row` leaves the row of the product: the blocks of the entries before p are written.
-use Prim.Native.Nat.{◌-◌}
 use native.Mathlib.Omega.{arith}
 use Rattle.kronecker_rows.proofs.Blocking.{blocking_start, block_within, block_small, blocking_room, blocking_step, blocking_done}
 use Rattle.kronecker_rows.proofs.kronecker_row.Goals as goal

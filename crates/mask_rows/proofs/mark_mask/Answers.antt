@@ -6,14 +6,6 @@ use Rattle.words.specs.Words.{at}
 use Rattle.mask_rows.proofs.Masks.{masking_start, masking_step, masking_done}
 use Rattle.mask_rows.proofs.mark_mask.Goals as goal
 
--- the column at p is a place of a row
-place : (c : goal.After-shared_slice_known-in-loop-p-1) → at c.args.columns.now c.loop-p.p < max_cols
-place c = c.requires.fact_1.small c.loop-p.p c.loop-p-test.true
-
--- the column at p is a place of a row
-place_2 : (c : goal.After-mark_entry-arg-1) → at c.args.columns.now c.loop-p.p < max_cols
-place_2 c = c.requires.fact_1.small c.loop-p.p c.loop-p-test.true
-
 pub loop-p-init : goal.loop-p-init
 loop-p-init c = masking_start c.requires.fact_1 c.requires.fact_2
 
@@ -24,7 +16,7 @@ pub bounds-columns-p : goal.bounds-columns-p
 bounds-columns-p c = omega arith
 
 pub overflow_cast-j : goal.overflow_cast-j
-overflow_cast-j c = omega (arith, place c)
+overflow_cast-j c = omega (arith, (c.requires.fact_1.small c.loop-p.p c.loop-p-test.true))
 
 pub offset_bounds-values-p : goal.offset_bounds-values-p
 offset_bounds-values-p c = omega (arith, c.requires.fact_1.even)
@@ -35,7 +27,7 @@ bounds-values-p c = omega (arith, c.requires.fact_1.even)
 pub mark_entry-top-requires : goal.mark_entry-top-requires
 mark_entry-top-requires c =
  record {
-      fact_1 = place_2 c;
+      fact_1 = (c.requires.fact_1.small c.loop-p.p c.loop-p-test.true);
       fact_2 = c.loop-p.invariant.tracked;
     }
 
@@ -47,7 +39,7 @@ loop-p-smaller c = omega (arith, c.loop-p-test.true)
 
 pub loop-p-preserved : goal.loop-p-preserved
 loop-p-preserved c =
-    masking_step c.requires.fact_1 c.loop-p.inv c.loop-p-test.taken c.mark_entry-top.ensures
+    masking_step c.requires.fact_1 c.loop-p.invariant c.loop-p-test.true c.mark_entry-top.ensures
 
 pub returns : goal.returns
 returns c = masking_done c.requires.fact_1 c.loop-p.invariant c.loop-p-test.false

@@ -2,12 +2,12 @@
 use native.Mathlib.Omega.{arith}
 use Prim.Native.Nat.{◌-◌}
 use mathlib.Core.Path.{◌≡◌, sym, ◌∙◌}
-use mathlib.Core.Logic.{⊎_elim}
 use Rattle.column_order.proofs.Counts.{count_none, count_met, count_missed}
 use Rattle.matrix.specs.Layout.{rows}
 use Rattle.matrix.specs.Falls.{falls_at_start, start_falls}
 use Rattle.matrix.proofs.Facts.{row_span}
 use Rattle.matrix.proofs.start_falls.Goals as goal
+use Rattle.matrix.proofs.start_falls.Goals.{else-falls_at_start, then-falls_at_start}
 
 pub loop-i-init : goal.loop-i-init
 loop-i-init c = (omega arith, omega arith, omega arith, sym (count_none _))
@@ -24,11 +24,8 @@ loop-i-preserved c =
     let p = falls_at_start c.args.words.now in (
       omega arith,
       omega arith,
-      ⊎_elim (λ w. omega (arith, w.1)) (λ w. omega (arith, w.1)) c.if-falls_at_start.branch,
-      ⊎_elim
-          (λ w. w.1 ∙ count_met c.loop-i.i _ p c.loop-i.invariant.3 (sym c.falls_at_start.ensures ∙ w.0.taken))
-          (λ w. w.1 ∙ count_missed c.loop-i.i _ p c.loop-i.invariant.3 (sym c.falls_at_start.ensures ∙ w.0.left))
-          c.if-falls_at_start.branch,
+      elim c.if-falls_at_start.branch [ then-falls_at_start w ↦ omega arith | else-falls_at_start w ↦ omega arith ],
+      elim c.if-falls_at_start.branch [ then-falls_at_start w ↦ w.falls-is ∙ count_met c.loop-i.i _ p c.loop-i.invariant.3 (sym c.falls_at_start.ensures ∙ w.if-falls_at_start.true) | else-falls_at_start w ↦ w.falls-is ∙ count_missed c.loop-i.i _ p c.loop-i.invariant.3 (sym c.falls_at_start.ensures ∙ w.if-falls_at_start.false) ],
     )
 
 pub returns : goal.returns

@@ -2,12 +2,12 @@
 use native.Mathlib.Omega.{arith}
 use Prim.Native.Nat.{◌-◌}
 use mathlib.Core.Path.{◌≡◌, sym, ◌∙◌}
-use mathlib.Core.Logic.{⊎_elim}
 use borrow.Author.Tests.{le-leb, lt-leb}
 use Rattle.conditions.proofs.Tests.{refuted, all_none, all_kept, all_not}
 use Rattle.matrix.specs.Layout.{rows}
 use Rattle.matrix.proofs.Facts.{starts_facts, starts_decide}
 use Rattle.matrix.proofs.starts_valid.Goals as goal
+use Rattle.matrix.proofs.starts_valid.Goals.{else-words-i, then-words-i}
 
 pub returns-then-words-ne0 : goal.returns-then-words-ne0
 returns-then-words-ne0 c = sym (refuted _ (λ h. let f = starts_facts _ h in omega arith))
@@ -23,10 +23,7 @@ loop-i-preserved c =
     (
       omega arith,
       omega arith,
-      ⊎_elim
-          (λ w. w.1 ∙ sym (all_not _ _ c.loop-i.i (omega arith) (lt-leb _ _ w.0.taken)))
-          (λ w. w.1 ∙ all_kept _ _ _ c.loop-i.invariant.2 (le-leb _ _ w.0.left))
-          c.if-words-i.branch,
+      elim c.if-words-i.branch [ then-words-i w ↦ w.climb-is ∙ sym (all_not _ _ c.loop-i.i (omega arith) (lt-leb _ _ w.if-words-i.true)) | else-words-i w ↦ w.climb-is ∙ all_kept _ _ _ c.loop-i.invariant.2 (le-leb _ _ w.if-words-i.false) ],
     )
 
 pub returns : goal.returns

@@ -1,6 +1,5 @@
 -- `seek` gives the position: no index that is passed holds column q or a later one.
 use native.Mathlib.Omega.{arith}
-use Prim.Native.Nat.{◌-◌}
 use Rattle.rows.proofs.Cursors.{seek_more, seek_stop, seek_end}
 use Rattle.merge.proofs.seek.Goals as goal
 

@@ -1,6 +1,6 @@
 -- `write_masked` leaves the row written back: `Merged` holds at each column where one of the two rows has an entry.
 use native.Mathlib.Omega.{arith}
-use Prim.Native.Nat.{ℕ, ◌+◌, ◌-◌, ◌≤◌, min}
+use Prim.Native.Nat.{ℕ, ◌+◌, ◌≤◌, min}
 use mathlib.Core.Path.{◌≡◌}
 use mathlib.Core.List.{List}
 use lib.ListN.{get_or}
@@ -61,14 +61,14 @@ loop-q-init c = (onward c (merged_start _ _ _ _ _ _ _) c.next_column-q.ensures).
 
 pub seek-m-requires : goal.seek-m-requires
 seek-m-requires c =
- record {
+    record {
       rises = c.requires.row.rises;
       i_bound = c.loop-q.invariant.mask;
     }
 
 pub write_back_at-cell-requires : goal.write_back_at-cell-requires
 write_back_at-cell-requires c =
- record {
+    record {
       cursor = record { even = c.requires.row.even; rises = c.requires.row.rises; stands = c.seek-m.ensures };
       cursor_2 = record { even = c.requires.row_2.even; rises = c.requires.row_2.rises; stands = c.loop-q.invariant.pair.first };
       cursor_3 = record { even = c.requires.row_3.even; rises = c.requires.row_3.rises; stands = c.loop-q.invariant.pair.second };
@@ -80,14 +80,14 @@ put_cell-e-requires c =
 
 pub past-i-requires : goal.past-i-requires
 past-i-requires c =
- record {
+    record {
       fact_1 = c.requires.row_2.rises;
       fact_2 = c.loop-q.invariant.pair.first;
     }
 
 pub past-k-requires : goal.past-k-requires
 past-k-requires c =
- record {
+    record {
       fact_1 = c.requires.row_3.rises;
       fact_2 = c.loop-q.invariant.pair.second;
     }

@@ -2,7 +2,6 @@
 use Prim.Native.Nat.{◌-◌, ◌<◌}
 use native.Mathlib.Omega.{arith}
 use lib.ListN.{length}
-use borrow.Author.Tests.{not-false}
 use Rattle.matrix.specs.Layout.{rows}
 use Rattle.plain_results.proofs.Rows.{skipped_none, skipped_next}
 use Rattle.plain_results.proofs.skip_rows.Goals as goal
@@ -53,7 +52,7 @@ loop-i-smaller c = omega (arith, c.loop-i-test.true)
 
 pub loop-i-preserved : goal.loop-i-preserved
 loop-i-preserved c =
-    skipped_next c.loop-i.invariant (c.is_empty.ensures (not-false _ c.if-not-is_empty.false))
+    skipped_next c.loop-i.invariant (c.is_empty.ensures c.if-not-is_empty.false)
     (in_rows_2 c) (in_starts c)
 
 pub shape_of-starts : goal.shape_of-starts

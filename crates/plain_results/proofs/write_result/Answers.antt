@@ -13,7 +13,7 @@ write_applied-requires c =
 
 pub returns-then-by_value : goal.returns-then-by_value
 returns-then-by_value c =
-    let x = c.args in
+     let x = c.args in
     written_matched c.in-Apply.is x.a.now x.b.now x.c.now x.is.now x.js.now _ _
     c.write_applied.ensures
 
@@ -26,6 +26,6 @@ write_rows-requires c =
 
 pub returns-else-by_value : goal.returns-else-by_value
 returns-else-by_value c =
-    let x = c.args in
+     let x = c.args in
     written_matched c.in-Apply.is x.a.now x.b.now x.c.now x.is.now x.js.now _ _
     c.write_rows.ensures

@@ -80,14 +80,14 @@ pub bounds-cells-j-in-loop-p : goal.bounds-cells-j-in-loop-p
 bounds-cells-j-in-loop-p c = place_6 c
 
 pub overflow_add-p : goal.overflow_add-p
-overflow_add-p c = omega (arith, c.loop-p-test.taken)
+overflow_add-p c = omega (arith, c.loop-p-test.true)
 
 pub loop-p-smaller : goal.loop-p-smaller
-loop-p-smaller c = omega (arith, c.loop-p-test.taken)
+loop-p-smaller c = omega (arith, c.loop-p-test.true)
 
 pub loop-p-preserved : goal.loop-p-preserved
 loop-p-preserved c =
-    adding_step c.requires.fact_1 c.loop-p.inv c.loop-p-test.taken
+     adding_step c.requires.fact_1 c.loop-p.invariant c.loop-p-test.true
     c.apply_binary-product.ensures c.add_product-sum.ensures
 
 pub returns : goal.returns

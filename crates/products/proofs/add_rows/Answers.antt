@@ -47,7 +47,7 @@ loop-p-smaller c = omega arith
 
 pub loop-p-preserved : goal.loop-p-preserved
 loop-p-preserved c =
-    summing_step c.requires.row_1 c.loop-p.invariant c.loop-p-test.true
+     summing_step c.requires.row_1 c.loop-p.invariant c.loop-p-test.true
     c.add_matrix_row.ensures
 
 pub returns : goal.returns

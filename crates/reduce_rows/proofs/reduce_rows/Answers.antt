@@ -19,7 +19,7 @@ below_3 c = rw c.row_count-n.ensures at c.loop-j-test.true
 
 room : (c : goal.In-Present)
     → c.loop-j.e < rows c.args.words.now
-room c =reducing_room c.requires.fact_1 c.loop-j.inv (below_3 c)
+room c =reducing_room c.requires.fact_1 c.loop-j.invariant (below_3 c)
 
 -- in a turn there is a row j
 below_2 : (c : goal.Joined-reduce_values) → c.loop-j.j < rows c.args.words.now

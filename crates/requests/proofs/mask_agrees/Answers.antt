@@ -4,12 +4,12 @@ use borrow.Author.Tests.{not-true, not-false}
 use Rattle.requests.proofs.mask_agrees.Goals as goal
 
 pub returns-then-not-has_mask : goal.returns-then-not-has_mask
-returns-then-not-has_mask c = rw (not-true c.args.call.has_mask c.if-not-has_mask.true)
+returns-then-not-has_mask c = rw c.if-not-has_mask.true
 
 pub shape_of-requires : goal.shape_of-requires
-shape_of-requires c = c.requires (not-false _ c.if-not-has_mask.false)
+shape_of-requires c = c.requires c.if-not-has_mask.false
 
 pub returns : goal.returns
 returns c =
     c.same_shape.ensures
-    ∙ rw (c.shape_of.ensures, not-false c.args.call.has_mask c.if-not-has_mask.false)
+    ∙ rw (c.shape_of.ensures, c.if-not-has_mask.false)

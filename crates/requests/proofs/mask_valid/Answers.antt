@@ -4,7 +4,7 @@ use borrow.Author.Tests.{not-true, not-false}
 use Rattle.requests.proofs.mask_valid.Goals as goal
 
 pub returns-then-not-has_mask : goal.returns-then-not-has_mask
-returns-then-not-has_mask c = rw (not-true c.args.call.has_mask c.if-not-has_mask.true)
+returns-then-not-has_mask c = rw c.if-not-has_mask.true
 
 pub returns : goal.returns
-returns c = c.is_valid.ensures ∙ rw (not-false c.args.call.has_mask c.if-not-has_mask.false)
+returns c = c.is_valid.ensures ∙ rw c.if-not-has_mask.false

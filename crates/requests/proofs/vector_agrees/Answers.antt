@@ -3,7 +3,7 @@ use borrow.Author.Tests.{not-true, not-false}
 use Rattle.requests.proofs.vector_agrees.Goals as goal
 
 pub returns-then-not-vector_first : goal.returns-then-not-vector_first
-returns-then-not-vector_first c = rw (not-true c.args.call.vector_first c.if-not-vector_first.true)
+returns-then-not-vector_first c = rw c.if-not-vector_first.true
 
 pub returns : goal.returns
-returns c = rw (not-false c.args.call.vector_first c.if-not-vector_first.false)
+returns c = rw c.if-not-vector_first.false

@@ -5,7 +5,7 @@ use Rattle.result_rows.proofs.result_row.Goals as goal
 
 pub product-requires : goal.product-requires
 product-requires c =
-    let e = c.in-Mxm.is in
+     let e = c.in-Mxm.is in
  record {
       product_inputs = product_inputs _ _ _ _ _ _ _ _ (rw e at c.requires.row_inputs);
       b_in_bounds = buffers (rw e at c.requires.buffers);
@@ -13,7 +13,7 @@ product-requires c =
 
 pub pair-requires : goal.pair-requires
 pair-requires c =
-    let e = c.in-EwiseMult.is in
+     let e = c.in-EwiseMult.is in
  record {
       pair_inputs = mult_inputs _ _ _ _ _ _ _ (rw e at c.requires.row_inputs);
       a_in_bounds = buffers (rw e at c.requires.buffers);
@@ -21,7 +21,7 @@ pair-requires c =
 
 pub pair-requires-in-EwiseAdd : goal.pair-requires-in-EwiseAdd
 pair-requires-in-EwiseAdd c =
-    let e = c.in-EwiseAdd.is in
+     let e = c.in-EwiseAdd.is in
  record {
       pair_inputs = add_inputs _ _ _ _ _ _ _ (rw e at c.requires.row_inputs);
       a_in_bounds = buffers (rw e at c.requires.buffers);
@@ -29,7 +29,7 @@ pair-requires-in-EwiseAdd c =
 
 pub applied-requires : goal.applied-requires
 applied-requires c =
-    let e = c.in-Apply.is in
+     let e = c.in-Apply.is in
     let h = rw e at c.requires.row_inputs in
  record {
       matrix_1 = h.first;
@@ -39,7 +39,7 @@ applied-requires c =
 
 pub extracted-requires : goal.extracted-requires
 extracted-requires c =
-    let e = c.in-Extract.is in
+     let e = c.in-Extract.is in
  record {
       list_inputs = list_inputs _ _ _ _ _ _ (rw e at c.requires.row_inputs);
       js_in_bounds = buffers (rw e at c.requires.buffers);
@@ -47,7 +47,7 @@ extracted-requires c =
 
 pub selected-requires : goal.selected-requires
 selected-requires c =
-    let e = c.in-Select.is in
+     let e = c.in-Select.is in
     let h = rw e at c.requires.row_inputs in
  record {
       matrix_1 = h.first;
@@ -57,7 +57,7 @@ selected-requires c =
 
 pub reduce_rows-requires : goal.reduce_rows-requires
 reduce_rows-requires c =
-    let e = c.in-ReduceRows.is in
+     let e = c.in-ReduceRows.is in
     let h = rw e at c.requires.row_inputs in
  record {
       fact_1 = h.first;
@@ -66,7 +66,7 @@ reduce_rows-requires c =
 
 pub assigned-requires : goal.assigned-requires
 assigned-requires c =
-    let e = c.in-Assign.is in
+     let e = c.in-Assign.is in
  record {
       assign_inputs = assign_inputs _ _ _ _ _ _ _ (rw e at c.requires.row_inputs);
       c_in_bounds = buffers (rw e at c.requires.buffers);
@@ -74,7 +74,7 @@ assigned-requires c =
 
 pub blocks-requires : goal.blocks-requires
 blocks-requires c =
-    let e = c.in-Kronecker.is in
+     let e = c.in-Kronecker.is in
  record {
       block_inputs = block_inputs _ _ _ _ _ _ _ (rw e at c.requires.row_inputs);
       b_in_bounds = buffers (rw e at c.requires.buffers);

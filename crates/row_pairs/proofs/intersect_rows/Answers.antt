@@ -1,5 +1,5 @@
 -- `intersect_rows` leaves the intersection: before each turn all columns below the two indexes are done.
-use Prim.Native.Nat.{◌-◌, ◌<◌}
+use Prim.Native.Nat.{◌<◌}
 use native.Mathlib.Omega.{arith}
 use lib.ListN.{length}
 use Rattle.row_pairs.proofs.Turns.{some_step}
@@ -106,7 +106,7 @@ loop-i-smaller c = omega (arith, some_step c.at_most-i.ensures c.at_most-k.ensur
 
 pub loop-i-preserved : goal.loop-i-preserved
 loop-i-preserved c =
-    intersecting_turn _ c.requires.row_1 c.requires.row_2 c.loop-i.inv c.loop-i-test.taken c.if-bc-k.left c.requires.places_in_bounds.0
+    intersecting_turn _ c.requires.row_1 c.requires.row_2 c.loop-i.invariant c.loop-i-test.true c.if-bc-k.false c.requires.places_in_bounds.0
     c.requires.places_in_bounds.1 c.apply_binary.ensures c.same-e.ensures
     c.at_most-i.ensures c.at_most-k.ensures
 

@@ -1,5 +1,5 @@
 -- `unite_rows` leaves the union: before each turn all columns below the two indexes are done.
-use Prim.Native.Nat.{◌-◌, ◌<◌}
+use Prim.Native.Nat.{◌<◌}
 use native.Mathlib.Omega.{arith}
 use mathlib.Core.Path.{◌∙◌}
 use lib.ListN.{length}
@@ -103,8 +103,8 @@ loop-i-smaller c = omega (arith, some_step c.at_most-i.ensures c.at_most-k.ensur
 
 pub loop-i-preserved : goal.loop-i-preserved
 loop-i-preserved c =
-    uniting_turn _ c.requires.row_1 c.requires.row_2 c.loop-i.inv c.requires.places_in_bounds.0 c.requires.places_in_bounds.1 c.loop-i-test.taken
-    c.if-bc-k.left c.lower.ensures c.united.ensures c.at_most-i.ensures
+    uniting_turn _ c.requires.row_1 c.requires.row_2 c.loop-i.invariant c.requires.places_in_bounds.0 c.requires.places_in_bounds.1 c.loop-i-test.true
+    c.if-bc-k.false c.lower.ensures c.united.ensures c.at_most-i.ensures
     c.at_most-k.ensures
 
 pub copy_rest-requires-2 : goal.copy_rest-requires-2

@@ -1,10 +1,10 @@
 -- `select_row` leaves the row that select gives: those entries before p that are kept are written.
-use Prim.Native.Nat.{◌-◌, ◌<◌}
+use Prim.Native.Nat.{◌<◌}
 use native.Mathlib.Omega.{arith}
 use mathlib.Core.Path.{sym, ◌∙◌}
-use mathlib.Core.Logic.{⊎_elim}
 use Rattle.select_rows.proofs.Selecting.{selecting_start, selecting_room, selecting_kept, selecting_left, selecting_done}
 use Rattle.select_rows.proofs.select_row.Goals as goal
+use Rattle.select_rows.proofs.select_row.Goals.{else-is_selected, then-is_selected}
 
 room : (c : goal.Then-is_selected) → c.loop-p.e < c.args.places
 room c = selecting_room c.requires.fact_1 c.loop-p.invariant c.loop-p-test.true
@@ -51,11 +51,11 @@ loop-p-smaller c = omega arith
 pub loop-p-preserved : goal.loop-p-preserved
 loop-p-preserved c =
     let h = c.loop-p.invariant in
-    ⊎_elim
-    (λ w. rw (w.1, w.2, w.3)
-    (selecting_kept c.requires.fact_1 h c.loop-p-test.true c.requires.fact_2.0 c.requires.fact_2.1 (sym c.is_selected.ensures ∙ w.0.taken)))
-    (λ w. rw (w.1, w.2, w.3) (selecting_left c.requires.fact_1 h c.loop-p-test.true (sym c.is_selected.ensures ∙ w.0.left)))
-    c.if-is_selected.branch
+    elim c.if-is_selected.branch [
+      | then-is_selected w ↦ rw (w.oc-is, w.ov-is, w.e-is)
+          (selecting_kept c.requires.fact_1 h c.loop-p-test.true c.requires.fact_2.0 c.requires.fact_2.1 (sym c.is_selected.ensures ∙ w.if-is_selected.true))
+      | else-is_selected w ↦ rw (w.oc-is, w.ov-is, w.e-is) (selecting_left c.requires.fact_1 h c.loop-p-test.true (sym c.is_selected.ensures ∙ w.if-is_selected.false))
+    ]
 
 pub shape_of-oc : goal.shape_of-oc
 shape_of-oc c = c.loop-p.invariant.long_cols

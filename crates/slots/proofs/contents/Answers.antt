@@ -11,29 +11,25 @@ use Rattle.slots.proofs.contents.Goals as goal
 by_bounds : (s : List ℕ) {a b e f : ℕ} → a ≡ b → e ≡ f → part a e s ≡ part b f s
 by_bounds s p q = rw (p, q)
 
--- no goal slice-bounds-result-end
-part_result_end : tie.Need-slice-bounds-result-end
-part_result_end c = let f = section c.before in omega arith
-
 -- the section that was found
 section : (c : goal.After-find-at)
     → Section c.args.store.now c.find-at.result c.args.slot
-section c =section_at _ _ _ c.requires.fact_1.within c.requires.fact_2 c.find-at.ensures
+section c = section_at _ _ _ c.requires.fact_1.within c.requires.fact_2 c.find-at.ensures
 
 -- the section that was found
 section_2 : (c : goal.After-shared_slice_known-2-1-unread)
     → Section c.args.store.now c.find-at.result c.args.slot
-section_2 c =section_at _ _ _ c.requires.fact_1.within c.requires.fact_2 c.find-at.ensures
+section_2 c = section_at _ _ _ c.requires.fact_1.within c.requires.fact_2 c.find-at.ensures
 
 -- the section that was found
 section_3 : (c : goal.After-shared_slice_known-2-1)
     → Section c.args.store.now c.find-at.result c.args.slot
-section_3 c =section_at _ _ _ c.requires.fact_1.within c.requires.fact_2 c.find-at.ensures
+section_3 c = section_at _ _ _ c.requires.fact_1.within c.requires.fact_2 c.find-at.ensures
 
 -- the section that was found
 section_4 : (c : goal.After-result-1)
     → Section c.args.store.now c.find-at.result c.args.slot
-section_4 c =section_at _ _ _ c.requires.fact_1.within c.requires.fact_2 c.find-at.ensures
+section_4 c = section_at _ _ _ c.requires.fact_1.within c.requires.fact_2 c.find-at.ensures
 
 pub overflow_add-from : goal.overflow_add-from
 overflow_add-from c = let f = section c in omega arith
@@ -53,9 +49,12 @@ overflow_add-to c = let f = section_3 c in omega arith
 pub offset_bounds-store-from : goal.offset_bounds-store-from
 offset_bounds-store-from c = let f = section_3 c in omega arith
 
+pub slice_bounds-result-end : goal.slice_bounds-result-end
+slice_bounds-result-end c = let f = section_3 c in omega arith
+
 pub returns : goal.returns
 returns c =
-    record {
+     record {
       place = record {
         memory = refl;
         offset = omega arith;

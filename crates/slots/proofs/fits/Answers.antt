@@ -11,17 +11,17 @@ use Rattle.slots.proofs.fits.Goals as goal
 -- the section that was found
 section : (c : goal.After-find-at) → let x = c.args in
     Section x.store.now c.find-at.result x.slot
-section c =section_at _ _ _ c.requires.sections_1.within c.requires.sections_2 c.find-at.ensures
+section c = section_at _ _ _ c.requires.sections_1.within c.requires.sections_2 c.find-at.ensures
 
 -- the section that was found
 section_2 : (c : goal.After-shared_slice_known-2-1-unread) → let x = c.args in
     Section x.store.now c.find-at.result x.slot
-section_2 c =section_at _ _ _ c.requires.sections_1.within c.requires.sections_2 c.find-at.ensures
+section_2 c = section_at _ _ _ c.requires.sections_1.within c.requires.sections_2 c.find-at.ensures
 
 -- the section that was found
 section_3 : (c : goal.After-shared_slice_known-2-1) → let x = c.args in
     Section x.store.now c.find-at.result x.slot
-section_3 c =section_at _ _ _ c.requires.sections_1.within c.requires.sections_2 c.find-at.ensures
+section_3 c = section_at _ _ _ c.requires.sections_1.within c.requires.sections_2 c.find-at.ensures
 
 pub offset_bounds-store-at : goal.offset_bounds-store-at
 offset_bounds-store-at c = let f = section c in omega arith
@@ -33,9 +33,9 @@ pub overflow_cast-old : goal.overflow_cast-old
 overflow_cast-old c = let f = section_3 c in omega arith
 
 pub overflow_sub-result : goal.overflow_sub-result
-overflow_sub-result c = let f = section_3 c inomega arith
+overflow_sub-result c = let f = section_3 c in omega arith
 
 pub returns : goal.returns
 returns c =
-    let a = c.args in
+     let a = c.args in
     ap (λ (i : ℕ). leb (a.end - at a.store.now i + a.size) (length a.store.now)) c.find-at.ensures

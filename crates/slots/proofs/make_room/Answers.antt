@@ -7,19 +7,20 @@ use Rattle.slots.proofs.RoomMade.{unmoved, grown, shrunk}
 use borrow.Author.Rules.{rules}
 use Rattle.slots.proofs.make_room.Goals as goal
 
--- no goal slice-bounds-clear-end
-part_clear_end : tie.Need-slice-bounds-clear-end
-part_clear_end c = omega (arith, down_length c)
-
 -- the moves keep the length
 up_length : (c : goal.After-slice_known-then-old-size-1)
     → length c.move_up.new.words ≡ length c.args.tail.now
 up_length c =
     c.move_up.auto.words ∙ simp length-set refl
 
-down_length : (c : goal.After-slice_known-4-1)
+down_length : (c : goal.After-slice_known-3-1)
     → length c.move_down.new.words ≡ length c.args.tail.now
 down_length c =
+    c.move_down.auto.words ∙ simp length-set refl
+
+down_length_2 : (c : goal.After-slice_known-4-1)
+    → length c.move_down.new.words ≡ length c.args.tail.now
+down_length_2 c =
     c.move_down.auto.words ∙ simp length-set refl
 
 pub returns-then-size-old : goal.returns-then-size-old
@@ -33,15 +34,18 @@ shape_of-tail-then-old-size c = up_length c
 
 pub returns-then-old-size : goal.returns-then-old-size
 returns-then-old-size c =
-    grown c.args.tail.now c.args.end c.args.size c.requires _ c.move_up.ensures (omega arith)
+     grown c.args.tail.now c.args.end c.args.size c.requires _ c.move_up.ensures (omega arith)
 
 pub move_down-requires : goal.move_down-requires
 move_down-requires c = (omega arith, simp length-set (omega arith))
 
+pub slice_bounds-clear-end : goal.slice_bounds-clear-end
+slice_bounds-clear-end c = omega (arith, down_length c)
+
 pub shape_of-tail : goal.shape_of-tail
-shape_of-tail c = search (rules, down_length c)
+shape_of-tail c = search (rules, down_length_2 c)
 
 pub returns : goal.returns
 returns c =
-    shrunk c.args.tail.now c.args.end c.args.size c.requires _ c.move_down.ensures _ (omega arith)
+     shrunk c.args.tail.now c.args.end c.args.size c.requires _ c.move_down.ensures _ (omega arith)
     c.clear.ensures

@@ -2,7 +2,6 @@
 use Prim.Native.Nat.{ℕ, ◌≤◌}
 use native.Mathlib.Omega.{arith}
 use mathlib.Core.Path.{◌≡◌, sym, ap, subst, ◌∙◌}
-use borrow.Author.Tests.{not-true, not-false}
 use lib.ListN.{length}
 use lib.Seq.{length-take-le}
 use Rattle.limits.specs.Sizes.{size_of}
@@ -14,71 +13,68 @@ use Rattle.store_calls.proofs.commit.Goals as goal
 
 -- the size that is counted
 abbrev size : goal.After-put-arg-1 → ℕ
-size q = size_of q.row_count-rows.result (start q).args.n
+size q = size_of q.row_count-rows.result q.args.n
 
 size_is : (q : goal.After-put-arg-1)
-    → size q ≡ size_of (rows (slot_at (start q).args.store.now (start q).args.slot)) (start q).args.n
+    → size q ≡ size_of (rows (slot_at q.args.store.now q.args.slot)) q.args.n
 size_is q =
-    ap (λ (r : ℕ). size_of r (start q).args.n)
+    ap (λ (r : ℕ). size_of r q.args.n)
     (q.row_count-rows.ensures ∙ ap rows q.contents.ensures.words)
 
 -- the words that are put are there
-size_there : (q : goal.After-put-arg-1) → size q ≤ length (start q).args.work.now
-size_there q = let e = size_is q in let l = (start q).requires.there in omega arith
+size_there : (q : goal.After-put-arg-1) → size q ≤ length q.args.work.now
+size_there q = let e = size_is q in let l = q.requires.there in omega arith
 
 -- the size that is counted
 abbrev size_2 : goal.After-refused → ℕ
-size_2 q = size_of q.row_count-rows.result (start q).args.n
+size_2 q = size_of q.row_count-rows.result q.args.n
 
 size_is_2 : (q : goal.After-refused)
-    → size_2 q ≡ size_of (rows (slot_at (start q).args.store.now (start q).args.slot)) (start q).args.n
+    → size_2 q ≡ size_of (rows (slot_at q.args.store.now q.args.slot)) q.args.n
 size_is_2 q =
-    ap (λ (r : ℕ). size_of r (start q).args.n)
+    ap (λ (r : ℕ). size_of r q.args.n)
     (q.row_count-rows.ensures ∙ ap rows q.contents.ensures.words)
 
 -- the words that are put are there
-size_there_2 : (q : goal.After-refused) → size_2 q ≤ length (start q).args.work.now
-size_there_2 q = let e = size_is_2 q in let l = (start q).requires.there in omega arith
+size_there_2 : (q : goal.After-refused) → size_2 q ≤ length q.args.work.now
+size_there_2 q = let e = size_is_2 q in let l = q.requires.there in omega arith
 
 -- the size that is counted
 abbrev size_3 : goal.Else-not-put → ℕ
-size_3 q = size_of q.row_count-rows.result (start q).args.n
+size_3 q = size_of q.row_count-rows.result q.args.n
 
 size_is_3 : (q : goal.Else-not-put)
-    → size_3 q ≡ size_of (rows (slot_at (start q).args.store.now (start q).args.slot)) (start q).args.n
+    → size_3 q ≡ size_of (rows (slot_at q.args.store.now q.args.slot)) q.args.n
 size_is_3 q =
-    ap (λ (r : ℕ). size_of r (start q).args.n)
+    ap (λ (r : ℕ). size_of r q.args.n)
     (q.row_count-rows.ensures ∙ ap rows q.contents.ensures.words)
 
 -- the words that are put are there
-size_there_3 : (q : goal.Else-not-put) → size_3 q ≤ length (start q).args.work.now
-size_there_3 q = let e = size_is_3 q in let l = (start q).requires.there in omega arith
+size_there_3 : (q : goal.Else-not-put) → size_3 q ≤ length q.args.work.now
+size_there_3 q = let e = size_is_3 q in let l = q.requires.there in omega arith
 
 pub row_count-rows-requires : goal.row_count-rows-requires
-row_count-rows-requires c =
-    subst Header (sym c.contents.ensures.words) c.before.before.before.before.requires.held.matrix.header
+row_count-rows-requires c = subst Header (sym c.contents.ensures.words) c.requires.held.matrix.header
 
 pub slice_bounds-put-end : goal.slice_bounds-put-end
-slice_bounds-put-end c = sym (length-take-le (size c) (start c.before.before).args.work.now (size_there c))
+slice_bounds-put-end c = sym (length-take-le (size c) c.args.work.now (size_there c))
 
 pub put-requires : goal.put-requires
 put-requires c =
-    let p = (start c.before.before).requires in
-    let t = length-take-le (size c) (start c.before.before).args.work.now (size_there c) in
-    let m = size_most _ _ _ p.held p.few (size_is c) in
+     let t = length-take-le (size c) c.args.work.now (size_there c) in
+    let m = size_most _ _ _ c.requires.held c.requires.few (size_is c) in
  record {
-      sections_1 = p.store.sections;
-      sections_2 = p.slot;
-      end_value_1 = p.ends;
-      end_value_2 = p.store.most;
+      sections_1 = c.requires.store.sections;
+      sections_2 = c.requires.slot;
+      end_value_1 = c.requires.ends;
+      end_value_2 = c.requires.store.most;
       end_value_3 = omega arith;
     }
 
 pub returns-then-not-put : goal.returns-then-not-put
 returns-then-not-put c =
-    committed_refused _ _ _ _ _ (size_is_2 c) (size_there_2 c) c.put.ensures _ (not-true _ c.if-not-put.true)
+     committed_refused _ _ _ _ _ (size_is_2 c) (size_there_2 c) c.put.ensures _ c.if-not-put.true
     c.refused.ensures
 
 pub returns : goal.returns
-returns c =
-    committed _ _ _ _ _ (size_is_3 c) (size_there_3 c) c.put.ensures (not-false _ c.if-not-put.false)
+returns c = committed _ _ _ _ _ (size_is_3 c) (size_there_3 c) c.put.ensures c.if-not-put.false

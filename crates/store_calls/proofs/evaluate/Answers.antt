@@ -84,13 +84,13 @@ lent_5 q = record {
   output = q.contents-c.ensures.words;
 }
 
-none_applies_3 : (q : goal.After-compute-arg-1) →let x = q.args in
+none_applies_3 : (q : goal.After-compute-arg-1) → let x = q.args in
     agreement_refusal x.call (grid_of (first_3 q)) (grid_of (second_3 q)) (grid_of (mask_3 q)) (grid_of (output_3 q))
     x.is.now x.js.now (length x.work.now) ≡ 0
 none_applies_3 q = sym q.agreement_refusal-code.ensures ∙ q.if-code-ne0.false
 
 -- so the inputs can be worked on, and the workspace suffices
-checks : (q : goal.After-compute-arg-1) →let x = q.args in
+checks : (q : goal.After-compute-arg-1) → let x = q.args in
     Checked x.call (first_3 q) (second_3 q) (mask_3 q) (output_3 q) x.is.now x.js.now (length x.work.now)
 checks q =
     let v = all_valid q.args.call _ _ _ _ _ _ q.requires.fact_2 (lent_5 q) in
@@ -118,13 +118,13 @@ lent_6 q = record {
   output = q.contents-c.ensures.words;
 }
 
-none_applies_4 : (q : goal.After-next_revision) →let x = q.args in
+none_applies_4 : (q : goal.After-next_revision) → let x = q.args in
     agreement_refusal x.call (grid_of (first_4 q)) (grid_of (second_4 q)) (grid_of (mask_4 q)) (grid_of (output_4 q))
     x.is.now x.js.now (length x.work.now) ≡ 0
 none_applies_4 q = sym q.agreement_refusal-code.ensures ∙ q.if-code-ne0.false
 
 -- so the inputs can be worked on, and the workspace suffices
-checks_2 : (q : goal.After-next_revision) →let x = q.args in
+checks_2 : (q : goal.After-next_revision) → let x = q.args in
     Checked x.call (first_4 q) (second_4 q) (mask_4 q) (output_4 q) x.is.now x.js.now (length x.work.now)
 checks_2 q =
     let v = all_valid q.args.call _ _ _ _ _ _ q.requires.fact_2 (lent_6 q) in
@@ -156,7 +156,7 @@ lent_3 q = record {
   output = q.contents-c.ensures.words;
 }
 
-none_applies : (q : goal.In-Full) →let x = q.args in
+none_applies : (q : goal.In-Full) → let x = q.args in
     agreement_refusal x.call (grid_of (first_5 q)) (grid_of (second_5 q)) (grid_of (mask_5 q)) (grid_of (output_5 q))
     x.is.now x.js.now (length x.work.now) ≡ 0
 none_applies q = sym q.agreement_refusal-code.ensures ∙ q.if-code-ne0.false
@@ -187,7 +187,7 @@ lent_4 q = record {
   output = q.contents-c.ensures.words;
 }
 
-none_applies_2 : (q : goal.After-slice_known-in-Done-1) →let x = q.args in
+none_applies_2 : (q : goal.After-slice_known-in-Done-1) → let x = q.args in
     agreement_refusal x.call (grid_of (first_6 q)) (grid_of (second_6 q)) (grid_of (mask_6 q)) (grid_of (output_6 q))
     x.is.now x.js.now (length x.work.now) ≡ 0
 none_applies_2 q = sym q.agreement_refusal-code.ensures ∙ q.if-code-ne0.false
@@ -197,7 +197,7 @@ agreement_refusal-code-requires c = all_valid _ _ _ _ _ _ _ c.requires.fact_2 (l
 
 pub returns-then-code-ne0 : goal.returns-then-code-ne0
 returns-then-code-ne0 c =
-    evaluated_refused _ (operation c) _ _ _ _ c.requires.fact_2 (lent_2 c) _ c.agreement_refusal-code.ensures
+     evaluated_refused _ (operation c) _ _ _ _ c.requires.fact_2 (lent_2 c) _ c.agreement_refusal-code.ensures
     c.if-code-ne0.true
 
 pub compute-requires : goal.compute-requires
@@ -212,16 +212,16 @@ revision-requires c = rw c.contents-c.ensures.words c.requires.fact_2.output.mat
 
 pub set_revision-requires : goal.set_revision-requires
 set_revision-requires c =
-    let h = (checks_2 c).workspace in
+     let h = (checks_2 c).workspace in
     omega (arith, c.compute.auto.work)
 
 pub returns-in-Full : goal.returns-in-Full
 returns-in-Full c =
-    evaluated_full _ (operation_2 c) _ _ _ _ c.requires.fact_2 (lent_3 c) (none_applies c)
+     evaluated_full _ (operation_2 c) _ _ _ _ c.requires.fact_2 (lent_3 c) (none_applies c)
     (rw c.in-Full.is at c.compute.ensures)
 
 pub returns-in-Done : goal.returns-in-Done
 returns-in-Done c =
-    let f = computed_done _ _ _ c.in-Done.is c.compute.ensures in
+     let f = computed_done _ _ _ c.in-Done.is c.compute.ensures in
     evaluated_done _ (operation_3 c) _ _ _ _ c.requires.fact_2 (lent_4 c) (none_applies_2 c) _ _ _ _ f.0 f.1 f.2
     c.set_revision.ensures (c.next_revision.ensures ∙ ap next_revision c.revision.ensures)

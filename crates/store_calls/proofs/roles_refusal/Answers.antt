@@ -26,5 +26,5 @@ vacancy_refusal-vacancy-requires c =
 
 pub returns : goal.returns
 returns c =
-    numbers_first _ _ _ (slots_are_2 c) _ _ _ c.numbers_refusal-number.ensures c.vacancy_refusal-vacancy.ensures
+     numbers_first _ _ _ (slots_are_2 c) _ _ _ c.numbers_refusal-number.ensures c.vacancy_refusal-vacancy.ensures
     c.first_of.ensures

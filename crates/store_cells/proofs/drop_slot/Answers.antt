@@ -8,15 +8,15 @@ use Rattle.store_cells.proofs.Outcomes.{none_resized, drop_refused, drop_perform
 use Rattle.store_cells.proofs.drop_slot.Goals as goal
 
 -- past the first test the words are a store
-store : (c : goal.After-refused-then-slot-ge-SLOTS) → Checked (start c.before.before.before).args.store.now c.check-end.result
+store : (c : goal.After-refused-then-slot-ge-SLOTS) → Checked c.args.store.now c.check-end.result
 store c = checked _ _ c.check-end.ensures c.if-end-eq0.false
 
 -- past the first test the words are a store
-store_2 : (c : goal.After-resize-arg-1) → Checked (start c.before.before.before).args.store.now c.check-end.result
+store_2 : (c : goal.After-resize-arg-1) → Checked c.args.store.now c.check-end.result
 store_2 c = checked _ _ c.check-end.ensures c.if-end-eq0.false
 
 -- past the first test the words are a store
-store_3 : (c : goal.After-accepted) → Checked (start c.before.before.before.before.before.before.before).args.store.now c.check-end.result
+store_3 : (c : goal.After-accepted) → Checked c.args.store.now c.check-end.result
 store_3 c = checked _ _ c.check-end.ensures c.if-end-eq0.false
 
 pub returns-then-end-eq0 : goal.returns-then-end-eq0
@@ -37,6 +37,6 @@ resize-requires c =
 
 pub returns : goal.returns
 returns c =
-    let p = (start c.before.before.before.before.before.before.before).args in
+     let p = c.args in
     rw c.accepted.ensures
     (drop_performed (store_3 c).valid _ (omega arith) (c.resize.ensures ∙ none_resized p.store.now p.slot))

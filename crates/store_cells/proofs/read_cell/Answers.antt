@@ -24,7 +24,7 @@ store_3 : (c : goal.Else-code-ne0) → Checked c.args.store.now c.check-end.resu
 store_3 c = checked _ _ c.check-end.ensures c.if-end-eq0.false
 
 -- and past the second it has the cell
-there : (c : goal.Else-code-ne0) →let p = c.args in
+there : (c : goal.Else-code-ne0) → let p = c.args in
     Reached p.store.now p.slot p.i p.j c.check-end.result
 there c = reached (store_3 c) c.cell_refusal-code.ensures c.if-code-ne0.false
 
@@ -33,7 +33,7 @@ store_4 : (c : goal.After-contents) → Checked c.args.store.now c.check-end.res
 store_4 c = checked _ _ c.check-end.ensures c.if-end-eq0.false
 
 -- and past the second it has the cell
-there_2 : (c : goal.After-contents) →let p = c.args in
+there_2 : (c : goal.After-contents) → let p = c.args in
     Reached p.store.now p.slot p.i p.j c.check-end.result
 there_2 c = reached (store_4 c) c.cell_refusal-code.ensures c.if-code-ne0.false
 
@@ -42,7 +42,7 @@ store_5 : (c : goal.After-found) → Checked c.args.store.now c.check-end.result
 store_5 c = checked _ _ c.check-end.ensures c.if-end-eq0.false
 
 -- and past the second it has the cell
-there_3 : (c : goal.After-found) →let p = c.args in
+there_3 : (c : goal.After-found) → let p = c.args in
     Reached p.store.now p.slot p.i p.j c.check-end.result
 there_3 c = reached (store_5 c) c.cell_refusal-code.ensures c.if-code-ne0.false
 
@@ -56,7 +56,7 @@ cell_refusal-code-requires c = (store c).store
 
 pub returns-then-code-ne0 : goal.returns-then-code-ne0
 returns-then-code-ne0 c =
-    ap found c.refused-then-code-ne0.ensures
+     ap found c.refused-then-code-ne0.ensures
     ∙ read_refused _ _ _ _ (store_2 c).valid _ c.cell_refusal-code.ensures c.if-code-ne0.true
 
 pub contents-requires : goal.contents-requires
@@ -71,7 +71,7 @@ entry_at-found-requires c = let h = (there_2 c).cell in rw c.contents.ensures.wo
 
 pub returns : goal.returns
 returns c =
-    let p = c.args in
+     let p = c.args in
     ap found (c.found.ensures ∙ ap found_answer (c.entry_at-found.ensures.fact_1
     ∙ ap (λ (x : List ℕ). entry_at (grid_of x) p.i p.j) c.contents.ensures.words))
     ∙ read_found _ _ _ _ (there_3 c)

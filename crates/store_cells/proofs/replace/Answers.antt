@@ -8,31 +8,27 @@ use Rattle.slots.specs.Sections.{slot_at}
 use Rattle.store_cells.proofs.Edited.{slot_in, slot_inside, slot_lent, replaced_placed}
 use Rattle.store_cells.proofs.replace.Goals as goal
 
--- no goal slice-bounds-replace-value-end
-part_replace_value_end : tie.Need-slice-bounds-replace-value-end
-part_replace_value_end c = let i = inside c in omega arith
-
 -- the length of the slot's words, and that they are within the store
 long_3 : (c : goal.After-find-from)
-    → length c.contents-words.result.now ≡ length (slot_at (start c).args.store.now (start c).args.slot)
+    → length c.contents-words.result.now ≡ length (slot_at c.args.store.now c.args.slot)
 long_3 c = ap length c.contents-words.ensures.words
 
-inside : (c : goal.After-find-from) → c.find-from.result + 1 + length c.contents.result.now
-    ≤ length (start c.before.before.before).args.store.now
-inside c = slot_inside (start c.before.before.before).requires.0 _ _ c.find-from.ensures (long_3 c)
+inside : (c : goal.After-find-from) → c.find-from.result + 1 + length c.contents-words.result.now
+    ≤ length c.args.store.now
+inside c = slot_inside c.requires.fact_1 _ _ c.find-from.ensures (long_3 c)
 
 -- the length of the slot's words, and that they are within the store
 long : (c : goal.After-replace_value-arg-1)
-    → length c.contents-words.result.now ≡ length (slot_at (start c).args.store.now (start c).args.slot)
+    → length c.contents-words.result.now ≡ length (slot_at c.args.store.now c.args.slot)
 long c = ap length c.contents-words.ensures.words
 
 -- the length of the slot's words, and that they are within the store
 long_2 : (c : goal.After-accepted)
-    → length c.contents-words.result.now ≡ length (slot_at (start c).args.store.now (start c).args.slot)
+    → length c.contents-words.result.now ≡ length (slot_at c.args.store.now c.args.slot)
 long_2 c = ap length c.contents-words.ensures.words
 
 pub entry_count-n-requires : goal.entry_count-n-requires
-entry_count-n-requires c = rw c.contents-words.ensures.words (start c).requires.0.held.matrix.header
+entry_count-n-requires c = rw c.contents-words.ensures.words c.requires.fact_1.held.matrix.header
 
 pub overflow_add-from : goal.overflow_add-from
 overflow_add-from c = let i = inside c in omega arith
@@ -43,15 +39,16 @@ overflow_add-from-2 c = let i = inside c in omega arith
 pub offset_bounds-store-from : goal.offset_bounds-store-from
 offset_bounds-store-from c = let i = inside c in omega arith
 
+pub slice_bounds-replace_value-end : goal.slice_bounds-replace_value-end
+slice_bounds-replace_value-end c = let i = inside c in omega arith
+
 pub replace_value-requires : goal.replace_value-requires
 replace_value-requires c =
-    let p = (start c.before.before.before.before).requires in
-    rw (slot_lent p.0 _ _ (ap (λ (a : ℕ). a + 1) c.find-from.ensures) (long c)) (slot_in p.0, p.1)
+     rw (slot_lent c.requires.fact_1 _ _ (ap (λ (a : ℕ). a + 1) c.find-from.ensures) (long c)) (slot_in c.requires.fact_1, c.requires.fact_2)
 
 pub returns : goal.returns
 returns c =
-    let p = (start c.before.before.before.before.before.before.before.before).pre in
-    rw c.accepted.ensures
-    (replaced_placed p.0 (start c.before.before.before.before.before.before.before.before).args.p (start c.before.before.before.before.before.before.before.before).args.value p.1 _ _ _ _
+     rw c.accepted.ensures
+    (replaced_placed c.requires.fact_1 c.args.p c.args.value c.requires.fact_2 _ _ _ _
     (ap (λ (a : ℕ). a + 1) c.find-from.ensures) (long_2 c)
-    (c.entry-count.ensures ∙ ap entries c.contents.ensures.words) c.replace_value.ensures)
+    (c.entry_count-n.ensures ∙ ap entries c.contents-words.ensures.words) c.replace_value.ensures)

@@ -2,7 +2,6 @@
 use Prim.Native.Nat.{ℕ, ◌≤◌}
 use native.Mathlib.Omega.{arith}
 use mathlib.Core.Path.{◌≡◌, sym, ap, ◌∙◌}
-use borrow.Author.Tests.{not-true, not-false}
 use lib.ListN.{length}
 use lib.Seq.{length-take-le}
 use Rattle.limits.specs.Sizes.{size_of}
@@ -51,27 +50,26 @@ pub row_count-rows-requires : goal.row_count-rows-requires
 row_count-rows-requires c = standing_header c.requires.some_grid.1
 
 pub slice_bounds-put-end : goal.slice_bounds-put-end
-slice_bounds-put-end c = sym (length-take-le (size c) (start c.before.before).args.stack.now (there c))
+slice_bounds-put-end c = sym (length-take-le (size c) c.args.stack.now (there c))
 
 pub put-requires : goal.put-requires
 put-requires c =
-    let p = (start c.before.before).requires in
-    let t = length-take-le (size c) (start c.before.before).args.stack.now (there c) in
-    let m = size_small p.some_grid.1 in
+     let t = length-take-le (size c) c.args.stack.now (there c) in
+    let m = size_small c.requires.some_grid.1 in
  record {
-      sections_1 = p.store.sections;
-      sections_2 = p.slot;
-      end_value_1 = p.ends;
-      end_value_2 = p.store.most;
+      sections_1 = c.requires.store.sections;
+      sections_2 = c.requires.slot;
+      end_value_1 = c.requires.ends;
+      end_value_2 = c.requires.store.most;
       end_value_3 = omega (arith, size_counted c);
     }
 
 pub returns-then-not-put : goal.returns-then-not-put
 returns-then-not-put c =
-    committed_refused _ _ _ _ (size_counted_2 c) c.put.ensures _ (not-true _ c.if-not-put.true)
+     committed_refused _ _ _ _ (size_counted_2 c) c.put.ensures _ c.if-not-put.true
     c.refused.ensures
 
 pub returns : goal.returns
 returns c =
-    committed _ _ _ _ (size_counted_3 c) c.put.ensures _ c.entry-count.ensures
-    (not-false _ c.if-not-put.false)
+     committed _ _ _ _ (size_counted_3 c) c.put.ensures _ c.entry_count-n.ensures
+    c.if-not-put.false

@@ -156,7 +156,7 @@ pub loop-k-smaller : goal.loop-k-smaller
 loop-k-smaller c = omega arith
 
 pub loop-k-preserved : goal.loop-k-preserved
-loop-k-preserved c = placing_step (source_2 c) c.requires.room c.loop-k.inv c.loop-k-test.taken
+loop-k-preserved c = placing_step (source_2 c) c.requires.room c.loop-k.invariant c.loop-k-test.true
 
 pub shape_of-next : goal.shape_of-next
 shape_of-next c = c.loop-k.invariant.long_next

@@ -1,6 +1,5 @@
 -- `read_words` writes the words of the bytes: after k turns the first k.
 use native.Mathlib.Omega.{arith}
-use Prim.Native.Nat.{◌-◌}
 use mathlib.Core.Path.{refl, ◌∙◌}
 use lib.ListN.{length-set}
 use lib.Seq.{paste-zero}

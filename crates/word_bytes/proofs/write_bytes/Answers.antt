@@ -1,6 +1,5 @@
 -- `write_bytes` writes the bytes of the words: after k turns those of the first k.
 use native.Mathlib.Omega.{arith}
-use Prim.Native.Nat.{◌-◌}
 use Rattle.word_bytes.proofs.Loops.{writing_start, writing_turn, writing_done}
 use Rattle.word_bytes.proofs.write_bytes.Goals as goal
 

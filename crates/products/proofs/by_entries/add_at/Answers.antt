@@ -5,12 +5,11 @@ use Rattle.products.proofs.by_entries.add_at.Goals as goal
 
 pub returns-then-mark-eq0 : goal.returns-then-mark-eq0
 returns-then-mark-eq0 c =
-    let a = c.before.before.before.args in
+     let a = c.args in
     added_first a.monoid a.product a.sums.now
     (sym c.mark_at-mark.ensures ∙ c.if-mark-eq0.true) c.mark_column.ensures
 
 pub returns : goal.returns
 returns c =
-    let s = c.before.before.before in
-    added_later s.args.monoid s.args.product s.args.sums.now s.requires.1 c.mark_at-mark.ensures
+     added_later c.args.monoid c.args.product c.args.sums.now c.requires.fact_2 c.mark_at-mark.ensures
     c.if-mark-eq0.false c.add_product-sum.ensures

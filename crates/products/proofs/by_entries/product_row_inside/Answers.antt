@@ -8,7 +8,7 @@ use Rattle.products.proofs.ByEntries.{inside_empty, carries_inside, inside_room,
 use Rattle.products.proofs.by_entries.product_row_inside.Goals as goal
 
 -- the sums inside the mask
-inside : (c : goal.After-collect-arg-2-1) →    let a = c.args in
+inside : (c : goal.After-collect-arg-2-1) →     let a = c.args in
     Carries (inside_row a.w (lookup a.mc.now a.mv.now)
     (product_row a.monoid a.op (lookup a.columns.now a.values.now) a.b.now))
     c.sum_rows-top.result c.keep_inside.new.map c.sum_rows-top.new.sums
@@ -16,7 +16,7 @@ inside c =
     carries_inside c.sum_rows-top.ensures c.keep_inside.ensures
 
 -- the sums inside the mask
-inside_2 : (c : goal.After-slice_known-5-1) →    let a = c.args in
+inside_2 : (c : goal.After-slice_known-5-1) →     let a = c.args in
     Carries (inside_row a.w (lookup a.mc.now a.mv.now)
     (product_row a.monoid a.op (lookup a.columns.now a.values.now) a.b.now))
     c.sum_rows-top.result c.keep_inside.new.map c.sum_rows-top.new.sums
@@ -46,7 +46,7 @@ keep_inside-requires c =
 
 pub collect-requires : goal.collect-requires
 collect-requires c =
-    let s = inside c in
+     let s = inside c in
     let ov = c.ov-1.given in
  record {
       fact_1 = s.tracked;
