@@ -248,7 +248,12 @@ def turn(fn, text, env, rootplace, helpers, lemmas, want):
         text = re.sub(r"\((⟦[^⟧]*⟧)\)", r"\1", text)
 
         def gap(m):
-            return "" if m.group(0).startswith("\n") or m.string[:m.start()].endswith("\n") else " "
+            whole = m.group(0)
+            starts = m.start() == 0 or m.string[m.start() - 1] == "\n"
+            ends = whole.endswith("\n")
+            if starts:
+                return "" if ends else whole[:len(whole) - len(whole.lstrip())]
+            return "\n" if ends else " "
 
         def let(m):
             nonlocal changed

@@ -2,4 +2,3 @@
 // their proofs in proofs/; there is no code.
 
 #![tactic(auto)]
-

@@ -1,5 +1,5 @@
-// What C and other languages call: each public call as one function on numbers and slices. The numbers come first, in
-// the order of the wrapped function, then the buffers. A slice is passed as a pointer and the number of its words.
+// What C and other languages call, by the crate `exports_c`: each public call as one function on numbers and slices. The
+// numbers come first, in the order of the wrapped function, then the buffers.
 // `flags`, `has_mask`, `has_accumulator` and `accumulator` are the call's options; a `has_..` is no where it is 0, else
 // yes. Any numbers and any buffers may be passed. Each call answers in one number: the code in the lower word, the
 // entries of what was written or checked, the value of the cell that was read, the number that a matrix was reduced to,

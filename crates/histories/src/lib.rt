@@ -2,4 +2,3 @@
 // theorems are in proofs/; there is no code here.
 
 #![tactic(auto)]
-

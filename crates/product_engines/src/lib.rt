@@ -2,4 +2,3 @@
 // theorems, in specs/ and proofs/. There is no code here.
 
 #![tactic(auto)]
-

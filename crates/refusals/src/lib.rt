@@ -2,4 +2,3 @@
 // code: `requests` has the tests on words.
 
 #![tactic(auto)]
-

@@ -47,8 +47,8 @@ checked s end e n =
 
 -- after `if !slots::fits(..)`
 module _ (s : List ℕ) (k end size : ℕ) {r : Bool} (e : r ≡ leb (end - count_at s k + size) (length s)) where
-  pub no_fit : not r ≡ true → length s < end - count_at s k + size
+  pub no_fit : r ≡ false → length s < end - count_at s k + size
   no_fit t = leb-false _ _ (said_no e t)
 
-  pub fit : not r ≡ false → end - count_at s k + size ≤ length s
+  pub fit : r ≡ true → end - count_at s k + size ≤ length s
   fit t = leb-true _ _ (said_yes e t)

@@ -2,4 +2,3 @@
 // in proofs/; there is no code.
 
 #![tactic(auto)]
-

@@ -1,7 +1,5 @@
 -- `add_unlisted` keeps the old row at the columns that the list does not name: those entries before p are put.
-use Prim.Native.Nat.{◌-◌, ◌<◌}
 use native.Mathlib.Omega.{arith}
-use Rattle.words.specs.Words.{at}
 use Rattle.assign_rows.proofs.Keeping.{keeping_start, keeping_put, keeping_left, keeping_done}
 use Rattle.assign_rows.proofs.add_unlisted.Goals as goal
 use Rattle.assign_rows.proofs.add_unlisted.Goals.{else-inverse-j-eq0, then-inverse-j-eq0}
@@ -38,7 +36,7 @@ bounds-ov-j c = omega (arith, c.requires.fact_2.small c.loop-p.p c.loop-p-test.t
 
 pub mark_column-t-requires : goal.mark_column-t-requires
 mark_column-t-requires c =
- record {
+    record {
       fact_1 = omega (arith, c.requires.fact_2.small c.loop-p.p c.loop-p-test.true, c.requires.fact_1.0);
       fact_2 = c.loop-p.invariant.tracked;
     }
@@ -52,9 +50,12 @@ loop-p-smaller c = omega arith
 pub loop-p-preserved : goal.loop-p-preserved
 loop-p-preserved c =
     let h = c.loop-p.invariant in
-    elim c.if-inverse-j-eq0.branch [ then-inverse-j-eq0 w ↦ rw (w.map-is, w.ov-is, w.t-is)
-    (keeping_put _ _ _ c.requires.fact_2 c.requires.fact_5 h c.loop-p-test.true w.if-inverse-j-eq0.true c.requires.fact_1.1 w.mark_column-t.ensures) | else-inverse-j-eq0 w ↦ rw (w.map-is, w.ov-is, w.t-is)
-    (keeping_left _ _ _ c.requires.fact_2 c.requires.fact_5 h c.loop-p-test.true w.if-inverse-j-eq0.false) ]
+    elim c.if-inverse-j-eq0.branch [
+      | then-inverse-j-eq0 w ↦ rw (w.map-is, w.ov-is, w.t-is)
+          (keeping_put _ _ _ c.requires.fact_2 c.requires.fact_5 h c.loop-p-test.true w.if-inverse-j-eq0.true c.requires.fact_1.1 w.mark_column-t.ensures)
+      | else-inverse-j-eq0 w ↦ rw (w.map-is, w.ov-is, w.t-is)
+          (keeping_left _ _ _ c.requires.fact_2 c.requires.fact_5 h c.loop-p-test.true w.if-inverse-j-eq0.false)
+    ]
 
 pub shape_of-ov : goal.shape_of-ov
 shape_of-ov c = c.loop-p.invariant.long

@@ -1,9 +1,5 @@
 -- `place_listed` puts the entries of A's row at their columns: those before p stand there.
-use Prim.Native.Nat.{◌-◌, ◌<◌}
 use native.Mathlib.Omega.{arith}
-use lib.ListN.{length}
-use Rattle.limits.specs.Limits.{max_cols}
-use Rattle.words.specs.Words.{at}
 use Rattle.assign_rows.proofs.Placing.{placing_start, placing_index, placing_column, placing_step, placing_done}
 use Rattle.assign_rows.proofs.place_listed.Goals as goal
 
@@ -42,7 +38,7 @@ bounds-ov-j c = omega (arith, (c.requires.fact_3 _ (placing_index c.requires.fac
 
 pub mark_column-top-requires : goal.mark_column-top-requires
 mark_column-top-requires c =
- record {
+    record {
       fact_1 = (placing_column c.requires.fact_1 c.requires.fact_2 c.loop-p.invariant c.loop-p-test.true);
       fact_2 = c.loop-p.invariant.tracked;
     }

@@ -36,20 +36,20 @@ returns-then-code-ne0 c = attempted_input _ _ _ _ _ _ _ _ _ c.input_refusal-code
 pub compute-outcome-requires : goal.compute-outcome-requires
 compute-outcome-requires c =
     let h = ready_of _ _ _ _ _ _ _ _ (none_applies c) in
- record {
+    record {
       fact_1 = h.ready;
       fact_2 = h.workspace;
     }
 
 pub commit-requires : goal.commit-requires
 commit-requires c =
-     let h = ready_of _ _ _ _ _ _ _ _ (none_applies_2 c) in
+    let h = ready_of _ _ _ _ _ _ _ _ (none_applies_2 c) in
     let f = rw c.in-Done.is at c.compute-outcome.ensures in
     let x = c.args in
     let fits =
     size_fits x.call x.a.now x.b.now x.mask.now x.c.now x.is.now x.js.now _ f.0
     c.compute-outcome.new.work f.2 in
- record {
+    record {
       fact_1 = h.ready.inputs.output.header;
       fact_2 = f.1;
       fact_3 = fits;
@@ -57,10 +57,10 @@ commit-requires c =
 
 pub returns-in-Full : goal.returns-in-Full
 returns-in-Full c =
-     attempted_full _ _ _ _ _ _ _ _ (none_applies_3 c) (rw c.in-Full.is at c.compute-outcome.ensures)
+    attempted_full _ _ _ _ _ _ _ _ (none_applies_3 c) (rw c.in-Full.is at c.compute-outcome.ensures)
 
 pub returns-in-Done : goal.returns-in-Done
 returns-in-Done c =
-     let f = rw c.in-Done.is at c.compute-outcome.ensures in
+    let f = rw c.in-Done.is at c.compute-outcome.ensures in
     attempted_done _ _ _ _ _ _ _ _ (none_applies_4 c) _ _ _ _ f.0 f.1 f.2
     c.commit.ensures

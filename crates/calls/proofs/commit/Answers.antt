@@ -11,7 +11,7 @@ use Rattle.calls.proofs.commit.Goals as goal
 
 pub returns-then-c-size : goal.returns-then-c-size
 returns-then-c-size c =
-     let l : length c.args.c.now < size_of (rows c.args.c.now) c.args.n = omega arith in
+    let l : length c.args.c.now < size_of (rows c.args.c.now) c.args.n = omega arith in
     record { answer_is = rw (lt-leb _ _ l); words_are = refl }
 
 pub slice_bounds-copy_into-end : goal.slice_bounds-copy_into-end
@@ -22,12 +22,12 @@ copy_into-requires c = simp length-take (omega arith)
 
 pub set_revision-requires : goal.set_revision-requires
 set_revision-requires c =
-     let h = c.requires.fact_1.fits in
+    let h = c.requires.fact_1.fits in
     omega (arith, c.copy_into.auto.dst)
 
 pub returns : goal.returns
 returns c =
-     let v = c.next_revision-revision.ensures ∙ ap next_revision c.revision.ensures in
+    let v = c.next_revision-revision.ensures ∙ ap next_revision c.revision.ensures in
     let l : size_of (rows c.args.c.now) c.args.n ≤ length c.args.c.now = omega arith in
     record {
       answer_is = rw (le-leb _ _ l);

@@ -4,7 +4,7 @@ use Rattle.calls.proofs.operate_with.Goals as goal
 
 pub returns : goal.returns
 returns c =
-     record {
+    record {
       attempted = rw c.decode-call.ensures at c.attempt-answer.ensures;
       cleared = c.clear.ensures ∙ rw c.attempt-answer.auto.work;
     }

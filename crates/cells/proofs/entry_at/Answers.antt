@@ -15,7 +15,7 @@ pub find_entry-requires : goal.find_entry-requires
 find_entry-requires c =
     let h = parts_searchable _ _ c.requires.fact_1 c.requires.fact_2 _ _ c.row_columns.ensures.words
     c.row_values.ensures.words in
- record {
+    record {
       rises_1 = h.0;
       rises_2 = h.1;
       columns_bound = h.2;

@@ -62,7 +62,7 @@ returns-then-words-j c =
 
 pub entry_at-read-requires : goal.entry_at-read-requires
 entry_at-read-requires c =
- record {
+    record {
       fact_1 = facts_3 c;
       fact_2 = c.if-words-i.false;
     }

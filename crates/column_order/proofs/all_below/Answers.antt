@@ -14,11 +14,10 @@ pub loop-k-init : goal.loop-k-init
 loop-k-init c = (omega arith, sym (all_none _))
 
 pub loop-k-preserved : goal.loop-k-preserved
-loop-k-preserved c =
-    (
-      omega arith,
-      elim c.if-bound-columns.branch [ then-bound-columns w ↦ w.below-is ∙ sym (all_not _ _ c.loop-k.k (omega arith) (le-ltb _ _ w.if-bound-columns.true)) | else-bound-columns w ↦ w.below-is ∙ all_kept _ _ _ c.loop-k.invariant.1 (lt-ltb _ _ w.if-bound-columns.false) ],
-    )
+loop-k-preserved c = (
+  omega arith,
+  elim c.if-bound-columns.branch [ then-bound-columns w ↦ w.below-is ∙ sym (all_not _ _ c.loop-k.k (omega arith) (le-ltb _ _ w.if-bound-columns.true)) | else-bound-columns w ↦ w.below-is ∙ all_kept _ _ _ c.loop-k.invariant.1 (lt-ltb _ _ w.if-bound-columns.false) ],
+)
 
 pub returns : goal.returns
 unfolding all_below

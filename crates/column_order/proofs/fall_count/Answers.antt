@@ -19,10 +19,10 @@ loop-k-preserved c =
       omega arith,
       elim c.if-words-k.branch [ then-words-k w ↦ omega arith | else-words-k w ↦ omega arith ],
       elim c.if-words-k.branch [
-        then-words-k w ↦
-          w.falls-is ∙ count_met c.loop-k.k _ (falls_after words) c.loop-k.invariant.2 (le-leb _ _ w.if-words-k.true)
-      | else-words-k w ↦
-          w.falls-is ∙ count_missed c.loop-k.k _ (falls_after words) c.loop-k.invariant.2 (lt-leb _ _ w.if-words-k.false)
+        | then-words-k w ↦
+            w.falls-is ∙ count_met c.loop-k.k _ (falls_after words) c.loop-k.invariant.2 (le-leb _ _ w.if-words-k.true)
+        | else-words-k w ↦
+            w.falls-is ∙ count_missed c.loop-k.k _ (falls_after words) c.loop-k.invariant.2 (lt-leb _ _ w.if-words-k.false)
       ],
     )
 

@@ -8,16 +8,15 @@ pub row_count-total-requires : goal.row_count-total-requires
 row_count-total-requires c = c.requires.prepared_1.inputs.output.header
 
 pub loop-i-init : goal.loop-i-init
-loop-i-init c =
- (
-      progress_start _ _ _ _ _ _ _ _ _ _ _ _ _ _ _ c.requires.prepared_1 c.requires.first_value_1 c.requires.prepared_2 c.row_count-total.ensures c.requires.first_value_2
-          c.requires.row_buffers,
-      (refl, refl, refl, refl, refl),
-    )
+loop-i-init c = (
+  progress_start _ _ _ _ _ _ _ _ _ _ _ _ _ _ _ c.requires.prepared_1 c.requires.first_value_1 c.requires.prepared_2 c.row_count-total.ensures c.requires.first_value_2
+      c.requires.row_buffers,
+  (refl, refl, refl, refl, refl),
+)
 
 pub advance-n-requires : goal.advance-n-requires
 advance-n-requires c =
- record {
+    record {
       fact_1 = c.loop-i.invariant.0;
       fact_2 = c.loop-i-test.true;
     }
@@ -48,7 +47,7 @@ loop-i-smaller c = counter_falls c.loop-i-test.true
 
 pub loop-i-preserved : goal.loop-i-preserved
 loop-i-preserved c =
-     let v = c.loop-i.invariant.1 in
+    let v = c.loop-i.invariant.1 in
     let k = c.advance-n.kept.1.1.1.1.1.1.1.1.1 in
     let t = k.1.1.1.1 in (
       c.advance-n.ensures.more c.if-n.false,
@@ -66,11 +65,11 @@ col_count-requires c = c.loop-i.invariant.0.ready.inputs.output.header
 
 pub finish-requires : goal.finish-requires
 finish-requires c =
-     rw c.col_count.ensures (result_bounds _ _ _ _ _ _ _ c.loop-i.invariant.0 c.loop-i-test.false)
+    rw c.col_count.ensures (result_bounds _ _ _ _ _ _ _ c.loop-i.invariant.0 c.loop-i-test.false)
 
 pub shape_of-work : goal.shape_of-work
 shape_of-work c =
-     result_long c.loop-i.work c.finish.new.work c.finish.auto.work ∙ c.loop-i.invariant.1.0
+    result_long c.loop-i.work c.finish.new.work c.finish.auto.work ∙ c.loop-i.invariant.1.0
 
 pub shape_of-tc : goal.shape_of-tc
 shape_of-tc c = c.loop-i.invariant.1.1
@@ -86,5 +85,5 @@ shape_of-ov c = c.loop-i.invariant.1.4
 
 pub returns : goal.returns
 returns c =
-     progress_done _ _ _ _ _ _ _ c.loop-i.invariant.0 c.loop-i-test.false _
+    progress_done _ _ _ _ _ _ _ c.loop-i.invariant.0 c.loop-i-test.false _
     (rw c.col_count.ensures at c.finish.ensures) c.finish.auto.work

@@ -19,7 +19,7 @@ listed_3 t = sym t.inputs_of-inputs.ensures.1 ∙ t.if-inputs.true
 
 pub invert_lists-requires : goal.invert_lists-requires
 invert_lists-requires c =
- record {
+    record {
       fact_1 = row_indices c.requires.fact_1 (listed c);
       fact_2 = column_indices c.requires.fact_1 (listed c);
       fact_3 = refl;
@@ -27,19 +27,19 @@ invert_lists-requires c =
 
 pub compute_prepared-requires : goal.compute_prepared-requires
 compute_prepared-requires c =
- record {
+    record {
       fact_1 = prepared_listed c.requires.fact_1 (listed_2 c) _ c.invert_lists.ensures;
       fact_2 = c.requires.fact_2;
     }
 
 pub returns-then-inputs : goal.returns-then-inputs
 returns-then-inputs c =
-     computed_listed c.requires.fact_1 (listed_3 c) c.invert_lists.new.out c.compute_prepared.result _
+    computed_listed c.requires.fact_1 (listed_3 c) c.invert_lists.new.out c.compute_prepared.result _
     c.compute_prepared.ensures
 
 pub compute_prepared-requires-2 : goal.compute_prepared-requires-2
 compute_prepared-requires-2 c =
- record {
+    record {
       fact_1 = prepared_lent c.requires.fact_1 (sym c.inputs_of-inputs.ensures.1 ∙ c.if-inputs.false);
       fact_2 = c.requires.fact_2;
     }

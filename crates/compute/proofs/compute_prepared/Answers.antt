@@ -102,25 +102,25 @@ both_long_2 q =
 
 pub orient-requires : goal.orient-requires
 orient-requires c =
- record {
+    record {
       fact_1 = (λ e. c.requires.fact_1.inputs.first);
       fact_2 = omega (arith, region_long max_matrix_words c.args.work.now (omega arith));
     }
 
 pub orient-requires-2 : goal.orient-requires-2
 orient-requires-2 c =
- record {
+    record {
       fact_1 = (λ t. c.requires.fact_1.inputs.second (second_there c.args.call _ c.second_flag-second.ensures t));
       fact_2 = omega (arith, second_lent c);
     }
 
 pub compute_rows-requires : goal.compute_rows-requires
 compute_rows-requires c =
-     let i = c.requires.fact_1.inputs in
+    let i = c.requires.fact_1.inputs in
     let d = both_long c in
- record {
+    record {
       prepared_1 = c.requires.fact_1;
-      prepared_2 = sources_made (work c) (first c) (second c) c.requires.fact_2 (first_long c) (second_long c) _ _ _ _ _ _ _ c.transpose_first-first.ensures c.second_flag-second.ensures             i.first i.second c.orient.ensures c.orient-2.ensures;
+      prepared_2 = sources_made (work c) (first c) (second c) c.requires.fact_2 (first_long c) (second_long c) _ _ _ _ _ _ _ c.transpose_first-first.ensures c.second_flag-second.ensures i.first i.second c.orient.ensures c.orient-2.ensures;
       first_value_1 = (c.transpose_first-first.ensures, c.second_flag-second.ensures);
       first_value_2 = omega arith;
     }

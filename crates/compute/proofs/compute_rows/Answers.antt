@@ -58,14 +58,14 @@ second_source_2 t h =
 
 pub plain_rows-requires : goal.plain_rows-requires
 plain_rows-requires c =
- record {
-      fact_1 = all_inputs c.args.call _ _ c.args.mask.now _ _ _ _ _ c.requires.prepared_1 (first_source c) (second_source c)           c.requires.prepared_1.inverses;
+    record {
+      fact_1 = all_inputs c.args.call _ _ c.args.mask.now _ _ _ _ _ c.requires.prepared_1 (first_source c) (second_source c) c.requires.prepared_1.inverses;
       fact_2 = c.requires.first_value_2;
     }
 
 pub returns-then-is_straight : goal.returns-then-is_straight
 returns-then-is_straight c =
-     computed_same c.plain_rows.result _ _ _
+    computed_same c.plain_rows.result _ _ _
     (plain_same _ _ _ _ _ _ _ _ _ c.requires.prepared_1 (first_source_2 c) (second_source_2 c)
     (straight_plain (write_back_of c.args.call) c.args.first c.args.second (taken c)))
     c.plain_rows.ensures

@@ -113,10 +113,10 @@ second_held_3 q h =
 
 pub row_inside-t-requires : goal.row_inside-t-requires
 row_inside-t-requires c =
-     let p = (start c).requires in record {
+    let p = (start c).requires in record {
       row_inputs = row_inputs _ _ _ _ _ _ _ _ _ p.0 (first_source c) (second_held c) (inverses_held c) _ p.1.1.1.1.0;
       buffers = row_buffers _ _ _ _ _ _ _ _ _ p.0 (first_source c) (second_held c) _ _ _ _ p.1.1.1.1.1;
-      mask_there = mask_there _ _ _ _ _ _ _ _ _ p.0 (first_source c) (second_held c) _ c.write_back_of-w.ensures _             p.1.1.1.1.0;
+      mask_there = mask_there _ _ _ _ _ _ _ _ _ p.0 (first_source c) (second_held c) _ c.write_back_of-w.ensures _ p.1.1.1.1.0;
     }
 
 pub slice_bounds-write_row-end : goal.slice_bounds-write_row-end
@@ -133,15 +133,15 @@ slice_bounds-write_row-end-4 c = let f = row_fits c in simp length-take (omega a
 
 pub write_row-requires : goal.write_row-requires
 write_row-requires c =
-     let p = (start_2 c).requires in
+    let p = (start_2 c).requires in
     let k = p.0.inputs.output.header.col_range.most in
     let b = p.1.1.1.1.1 in record {
-      old_row = old_row _ _ _ _ _ _ _ _ _ p.0 (first_source_2 c) (second_held_2 c) _ _ _ _ p.1.1.1.1.0 _           c.write_back_of-w.ensures c.row_inside-t.ensures;
+      old_row = old_row _ _ _ _ _ _ _ _ _ p.0 (first_source_2 c) (second_held_2 c) _ _ _ _ p.1.1.1.1.0 _ c.write_back_of-w.ensures c.row_inside-t.ensures;
       c_in_bounds = (omega arith, omega arith);
     }
 
 pub returns : goal.returns
 returns c =
-     let p = (start_3 c).requires in
+    let p = (start_3 c).requires in
     final_row _ _ _ _ _ _ _ _ _ p.0 (first_source_3 c) (second_held_3 c) _ _ _ _ p.1.1.1.1.0 _
     c.write_back_of-w.ensures c.row_inside-t.ensures _ _ _ c.write_row.ensures

@@ -4,7 +4,7 @@ use Rattle.compute.proofs.merged_rows.Goals as goal
 
 pub all_rows-requires : goal.all_rows-requires
 all_rows-requires c =
- record {
+    record {
       prepared_1 = c.requires.prepared_1;
       prepared_2 = c.requires.prepared_2;
       first_value_1 = c.requires.first_value_1;

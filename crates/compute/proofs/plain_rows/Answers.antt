@@ -6,5 +6,5 @@ returns-then-n c = c.write_result-n.ensures.full c.if-n.true
 
 pub returns : goal.returns
 returns c =
-     let l = c.if-n.false in
+    let l = c.if-n.false in
     (c.write_result-n.ensures.count l, l, c.write_result-n.ensures.words l)

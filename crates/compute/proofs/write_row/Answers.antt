@@ -5,14 +5,14 @@ use Rattle.compute.proofs.write_row.Goals as goal
 
 pub both_empty-requires : goal.both_empty-requires
 both_empty-requires c =
- record {
+    record {
       fact_1 = c.requires.old_row.matrix.header;
       fact_2 = matrix_span _ c.requires.old_row.matrix _ c.requires.old_row.row;
     }
 
 pub returns-then-both_empty : goal.returns-then-both_empty
 returns-then-both_empty c =
-     let a = c.args in
+    let a = c.args in
     let e = c.both_empty.ensures c.if-both_empty.true in
     quiet_row a.w a.mask.now a.c.now a.tc.now a.tv.now _ _ a.i _ e.0 e.1
 
@@ -27,15 +27,15 @@ mask_values-requires c = c.requires.old_row.mask
 
 pub row_columns-requires : goal.row_columns-requires
 row_columns-requires c =
-     (c.requires.old_row.matrix.header, matrix_span _ c.requires.old_row.matrix _ c.requires.old_row.row)
+    (c.requires.old_row.matrix.header, matrix_span _ c.requires.old_row.matrix _ c.requires.old_row.row)
 
 pub row_values-requires : goal.row_values-requires
 row_values-requires c =
-     (c.requires.old_row.matrix.header, matrix_span _ c.requires.old_row.matrix _ c.requires.old_row.row)
+    (c.requires.old_row.matrix.header, matrix_span _ c.requires.old_row.matrix _ c.requires.old_row.row)
 
 pub merge_row-requires : goal.merge_row-requires
 merge_row-requires c =
-     rw c.col_count.ensures (
+    rw c.col_count.ensures (
       rw (c.mask_columns.ensures, c.mask_values.ensures) (mask_row _ _ _ _ c.requires.old_row.mask c.requires.old_row.mask_cols),
       (
         rw (c.row_columns.ensures.words, c.row_values.ensures.words) (matrix_row _ c.requires.old_row.matrix _ c.requires.old_row.row),
@@ -45,7 +45,7 @@ merge_row-requires c =
 
 pub returns : goal.returns
 returns c =
-     written_row_lem _ _ _ _ _ _ _ _ _ _
+    written_row_lem _ _ _ _ _ _ _ _ _ _
     (rw (
       c.mask_columns.ensures,
       c.mask_values.ensures,

@@ -64,7 +64,7 @@ folded_count-n-requires c = ready c
 
 pub returns-then-n : goal.returns-then-n
 returns-then-n c =
-     rw c.refused-then-n.ensures (fold_many _ _ _ _ (none c) (omega (arith, c.folded_count-n.ensures)))
+    rw c.refused-then-n.ensures (fold_many _ _ _ _ (none c) (omega (arith, c.folded_count-n.ensures)))
 
 pub bounds-base-3 : goal.bounds-base-3
 bounds-base-3 c = let m = (ready_2 c).base_valid in omega (arith, m.header.row_range.most)
@@ -83,11 +83,11 @@ overflow_add-base-3 c = let m = (ready_3 c).base_valid in omega (arith, m.header
 
 pub returns-then-out-base : goal.returns-then-out-base
 returns-then-out-base c =
-     rw c.refused-then-out-base.ensures (fold_short _ _ _ _ (none_2 c) (omega (arith, c.folded_count-n.ensures)) (omega (arith, c.folded_count-n.ensures)))
+    rw c.refused-then-out-base.ensures (fold_short _ _ _ _ (none_2 c) (omega (arith, c.folded_count-n.ensures)) (omega (arith, c.folded_count-n.ensures)))
 
 pub write_folded-requires : goal.write_folded-requires
 write_folded-requires c =
- record {
+    record {
       fact_1 = ready_4 c;
       fact_2 = c.folded_count-n.ensures;
       fact_3 = omega arith;
@@ -96,5 +96,5 @@ write_folded-requires c =
 
 pub returns : goal.returns
 returns c =
-     rw c.accepted.ensures
+    rw c.accepted.ensures
     (fold_done _ _ _ _ (none_3 c) (omega (arith, c.folded_count-n.ensures)) (omega (arith, c.folded_count-n.ensures)) _ _ c.folded_count-n.ensures c.write_folded.ensures)

@@ -40,25 +40,25 @@ is_marked-requires c = shown_vector _ _ _ _ (told c)
 pub section_place-requires : goal.section_place-requires
 section_place-requires c =
     let t = told_2 c in
- record {
+    record {
       fact_1 = (shown_pair _ _ _ _ t).over.day_valid.header;
       fact_2 = day_span _ _ _ _ t;
     }
 
 pub returns-then-is_marked : goal.returns-then-is_marked
 returns-then-is_marked c =
-     c.section_place.ensures
+    c.section_place.ensures
     ∙ placed_day _ _ _ _ _ (told_3 c) (sym c.is_marked.ensures ∙ c.if-is_marked.true)
 
 pub section_place-requires-2 : goal.section_place-requires-2
 section_place-requires-2 c =
     let t = told_4 c in
- record {
+    record {
       fact_1 = (shown_pair _ _ _ _ t).base_valid.header;
       fact_2 = base_span _ _ _ _ t;
     }
 
 pub returns : goal.returns
 returns c =
-     c.section_place-2.ensures
+    c.section_place-2.ensures
     ∙ placed_base _ _ _ _ _ (told_5 c) (sym c.is_marked.ensures ∙ c.if-is_marked.false)

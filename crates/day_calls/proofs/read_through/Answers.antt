@@ -52,7 +52,7 @@ entry_at-found-requires c =
 
 pub returns : goal.returns
 returns c =
-     let a = c.args in
+    let a = c.args in
     c.found.ensures
     ∙ ap found_answer (c.entry_at-found.ensures.fact_1
     ∙ ap (λ (w : List ℕ). entry_at (grid_of w) a.i a.j) c.shown.ensures)

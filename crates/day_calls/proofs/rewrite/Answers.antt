@@ -125,7 +125,7 @@ entry_count-requires c = (ready c).new_valid.header
 pub count_with-n-requires : goal.count_with-n-requires
 count_with-n-requires c =
     let r = ready_2 c in
- record {
+    record {
       fact_1 = r.back.over.day_valid;
       fact_2 = r.back.row;
       fact_3 = omega (arith, c.entry_count.ensures, r.new_valid.header.few);
@@ -153,13 +153,13 @@ overflow_add-day-3 c = let m = (ready_4 c).back.over.day_valid in omega (arith, 
 
 pub returns-then-day-n : goal.returns-then-day-n
 returns-then-day-n c =
-     let e = counted_2 c in
+    let e = counted_2 c in
     rw c.refused-then-day-n.ensures (rewrite_short _ _ _ _ c.requires (omega (arith, e)) (omega (arith, e)))
 
 pub entry_at-found-requires : goal.entry_at-found-requires
 entry_at-found-requires c =
     let v = back_vector (ready_5 c).back in
- record {
+    record {
       fact_1 = v.matrix;
       fact_2 = omega (arith, v.one_row);
     }
@@ -169,7 +169,7 @@ matrix_size-requires c = (ready_6 c).back.over.marks_valid.header
 
 pub overflow_add-matrix_size : goal.overflow_add-matrix_size
 overflow_add-matrix_size c =
-     let m = (ready_7 c).back.over.marks_valid.header in
+    let m = (ready_7 c).back.over.marks_valid.header in
     omega (
       arith,
       c.mark_words.ensures,
@@ -181,7 +181,7 @@ overflow_add-matrix_size c =
 
 pub returns-then-marks-matrix_size : goal.returns-then-marks-matrix_size
 returns-then-marks-matrix_size c =
-     let r = ready_8 c in
+    let r = ready_8 c in
     let e = counted_3 c in
     let k = marks_size (back_vector r.back) c.entry_at-found.ensures.fact_1 in
     rw c.refused-then-marks-matrix_size.ensures
@@ -199,13 +199,13 @@ row_values-requires c =
 
 pub replace_row-requires : goal.replace_row-requires
 replace_row-requires c =
-     let e = counted_4 c in
+    let e = counted_4 c in
     with_replaceable (ready_11 c) _ _ c.row_columns.ensures.words c.row_values.ensures.words
     (omega (arith, e)) (omega (arith, e))
 
 pub put_mark-requires : goal.put_mark-requires
 put_mark-requires c =
- record {
+    record {
       fact_1 = back_vector (ready_12 c).back;
       fact_2 = c.entry_at-found.ensures.fact_1;
       fact_3 = omega (arith, c.mark_words.ensures, c.matrix_size.ensures);
@@ -213,7 +213,7 @@ put_mark-requires c =
 
 pub returns : goal.returns
 returns c =
-     let r = ready_13 c in
+    let r = ready_13 c in
     let e = counted_5 c in
     let k = marks_size (back_vector r.back) c.entry_at-found.ensures.fact_1 in
     let few = c.if-n-gt-MAX_ENTRIES.false in

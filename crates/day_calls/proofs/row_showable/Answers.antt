@@ -10,7 +10,7 @@ returns-then-code-ne0 c = not_showable _ _ _ _ _ c.pair_refusal-code.ensures c.i
 
 pub bounds-base-3 : goal.bounds-base-3
 bounds-base-3 c =
-     let m = (pair_ready _ _ _ (sym c.pair_refusal-code.ensures ∙ c.if-code-ne0.false)).base_valid in
+    let m = (pair_ready _ _ _ (sym c.pair_refusal-code.ensures ∙ c.if-code-ne0.false)).base_valid in
     omega arith
 
 pub returns : goal.returns

@@ -43,23 +43,23 @@ is_marked-requires c = shown_vector _ _ _ _ (told c)
 pub row_section-requires : goal.row_section-requires
 row_section-requires c =
     let t = told_2 c in
- record {
+    record {
       fact_1 = (shown_pair _ _ _ _ t).over.day_valid.header;
       fact_2 = day_span _ _ _ _ t;
     }
 
 pub returns-then-is_marked : goal.returns-then-is_marked
 returns-then-is_marked c =
-     shown_day _ _ _ _ _ _ (told_3 c) (sym c.is_marked.ensures ∙ c.if-is_marked.true) c.row_section.ensures
+    shown_day _ _ _ _ _ _ (told_3 c) (sym c.is_marked.ensures ∙ c.if-is_marked.true) c.row_section.ensures
 
 pub row_section-requires-2 : goal.row_section-requires-2
 row_section-requires-2 c =
     let t = told_4 c in
- record {
+    record {
       fact_1 = (shown_pair _ _ _ _ t).base_valid.header;
       fact_2 = base_span _ _ _ _ t;
     }
 
 pub returns : goal.returns
 returns c =
-     shown_base _ _ _ _ _ _ (told_5 c) (sym c.is_marked.ensures ∙ c.if-is_marked.false) c.row_section-2.ensures
+    shown_base _ _ _ _ _ _ (told_5 c) (sym c.is_marked.ensures ∙ c.if-is_marked.false) c.row_section-2.ensures

@@ -57,7 +57,7 @@ take_mark-requires c = back_vector (ready_3 c)
 
 pub returns : goal.returns
 returns c =
-     let r = ready_4 c in
+    let r = ready_4 c in
     rw c.accepted.ensures
     (back_done _ _ _ (none c) _ _ _ (c.count_with-n.ensures ∙ count_without r)
     (without_written r _ _ _ refl refl c.replace_row.ensures) c.take_mark.ensures)

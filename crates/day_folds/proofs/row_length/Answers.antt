@@ -16,7 +16,7 @@ pub returns : goal.returns
 returns c =
     let e = ap length (c.row_columns-columns.ensures.words
     ∙ ap (λ (w : List ℕ). row_columns w c.args.i) c.shown-source.ensures) in
- record {
+    record {
       fact_1 = e;
       fact_2 = rw e (shown_few c.requires.fact_1 c.args.i c.requires.fact_2);
     }

@@ -16,7 +16,7 @@ loop-i-init c =
 pub stage_row-n-requires : goal.stage_row-n-requires
 stage_row-n-requires c =
     let l = c.loop-i.invariant in
- record {
+    record {
       fact_1 = l.4;
       fact_2 = omega arith;
       fact_3 = l.5;

@@ -11,7 +11,7 @@ use Rattle.day_folds.proofs.Written.{front_held, front_copied}
 use Rattle.day_folds.proofs.write_folded.Goals as goal
 
 -- the words that are copied are the folded grid's
-held_2 : (c : goal.After-staged-5-1) →let a = c.args in
+held_2 : (c : goal.After-staged-5-1) → let a = c.args in
     take (c.row_count-r.result + a.n + a.n + fixed_words)
     c.finish.new.work
     ≡ encode (lent_fold a.base.now a.day.now a.marks.now)
@@ -22,7 +22,7 @@ held_2 c =
     c.stage_rows.ensures c.finish.ensures
 
 -- as many as its size
-held_size : (c : goal.After-staged-5-1) →let a = c.args in
+held_size : (c : goal.After-staged-5-1) → let a = c.args in
     length (take (c.row_count-r.result + a.n + a.n + fixed_words)
     c.finish.new.work)
     ≡ c.row_count-r.result + a.n + a.n + fixed_words
@@ -37,7 +37,7 @@ held_size c =
     )
 
 -- the words that are copied are the folded grid's
-held : (c : goal.After-slice_known-2-1) →let a = c.args in
+held : (c : goal.After-slice_known-2-1) → let a = c.args in
     take (c.row_count-r.result + a.n + a.n + fixed_words)
     c.finish.new.work
     ≡ encode (lent_fold a.base.now a.day.now a.marks.now)

@@ -4,8 +4,8 @@ use Rattle.day_marks.proofs.put_mark.Goals as goal
 
 pub insert_entry-requires : goal.insert_entry-requires
 insert_entry-requires c =
-     let k = c.in_default.is in
- record {
+    let k = c.in_default.is in
+    record {
       fact_1 = in_vector c.requires.fact_1;
       fact_2 = absent_placed c.requires.fact_2 k c.position_of.ensures;
       fact_3 = has_space c.requires.fact_1 k c.requires.fact_3;
@@ -13,7 +13,7 @@ insert_entry-requires c =
 
 pub replace_value-requires : goal.replace_value-requires
 replace_value-requires c =
- record {
+    record {
       fact_1 = in_vector c.requires.fact_1;
       fact_2 = present_placed c.requires.fact_2 c.in-Present.is;
     }

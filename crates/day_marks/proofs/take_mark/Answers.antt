@@ -9,13 +9,13 @@ touch-requires c = omega (arith, c.requires.matrix.header.fits)
 
 pub returns-in_default : goal.returns-in_default
 returns-in_default c =
-     c.touch.ensures
+    c.touch.ensures
     ∙ taken_none c.requires
     (absent_placed c.entry_at-found.ensures.fact_1 c.in_default.is refl)
 
 pub remove_entry-requires : goal.remove_entry-requires
 remove_entry-requires c =
- record {
+    record {
       fact_1 = in_vector c.requires;
       fact_2 = present_placed c.entry_at-found.ensures.fact_1 c.in-Present.is;
     }

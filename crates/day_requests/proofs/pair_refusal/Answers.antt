@@ -56,7 +56,7 @@ returns-then-code-ne0 c = pair_day _ _ _ _ (held c) c.day_refusal-code.ensures c
 
 pub same_shape-requires : goal.same_shape-requires
 same_shape-requires c =
- record {
+    record {
       fact_1 = (matrix_facts _ (held_2 c)).header;
       fact_2 = (matrix_facts _ (day_held _ _ (none c))).header;
     }

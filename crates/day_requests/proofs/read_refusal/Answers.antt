@@ -93,7 +93,7 @@ returns-then-base-j c =
 
 pub same_shape-requires : goal.same_shape-requires
 same_shape-requires c =
- record {
+    record {
       fact_1 = (matrix_facts _ (held_6 c)).header;
       fact_2 = (matrix_facts _ (day_held _ _ (none_3 c))).header;
     }

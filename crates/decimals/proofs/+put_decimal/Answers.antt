@@ -1,24 +1,26 @@
-use Rattle.std.proofs.Common.{rules, ◌+◌, ◌≤◌, length, ◌≡◌, ℕ, ◌-◌, ◌*◌, ◌<◌, ◌/◌, ◌%◌, Bool, true, false, nat_eq, nat_lt, List, [], ◌∷◌, ◌++◌, slice_index_or, slice_set, bit_and, bit_or, Fits, w8, w32, w64, Bor, MutBor}
-use Rattle.append.specs.Appended.{Appended}
-use Rattle.decimals.specs.Decimal.{decimal, signed_decimal}
+-- `put_decimal` appends the digits of n: those of n / 10, and the last digit.
+use Rattle.std.proofs.Common.{arith}
+use Rattle.decimals.proofs.Cases.{small_room, small_appended, front_room, last_room, large_appended}
 use Rattle.decimals.proofs.+put_decimal.Goals as goal
 
 -- src/lib.rt:33:9
 pub put_byte-requires : goal.put_byte-requires
-put_byte-requires t c = ?
+put_byte-requires t c = small_room c.args.at c.args.n c.args.out.now c.if-n-lt10.true c.requires
 
 -- src/lib.rt:33:9
 pub returns-then-n-lt10 : goal.returns-then-n-lt10
-returns-then-n-lt10 t c = ?
+returns-then-n-lt10 t c = small_appended _ _ _ c.if-n-lt10.true c.put_byte.ensures
 
 -- src/lib.rt:35:9
 pub put_decimal-next-requires : goal.put_decimal-next-requires
-put_decimal-next-requires t c = ?
+put_decimal-next-requires t c =
+    (omega arith, front_room c.args.at c.args.n c.args.out.now (omega arith) (omega arith) c.requires)
 
 -- src/lib.rt:36:5
 pub put_byte-requires-2 : goal.put_byte-requires-2
-put_byte-requires-2 t c = ?
+put_byte-requires-2 t c =
+    last_room c.args.at c.args.n c.args.out.now (omega arith) (omega arith) c.requires c.put_decimal-next.ensures
 
 -- src/lib.rt:28:1
 pub returns : goal.returns
-returns t c = ?
+returns t c = large_appended _ _ _ (omega arith) (omega arith) c.put_decimal-next.ensures c.put_byte-2.ensures

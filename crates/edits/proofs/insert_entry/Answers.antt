@@ -12,13 +12,13 @@ raise_words-requires c = later_starts c.requires.fact_1 Absent c.requires.fact_2
 
 pub put_entry-requires : goal.put_entry-requires
 put_entry-requires c =
-     put_bounds c.requires.fact_1 c.requires.fact_2 c.requires.fact_3 c.raise_words.ensures
+    put_bounds c.requires.fact_1 c.requires.fact_2 c.requires.fact_3 c.raise_words.ensures
 
 pub touch-requires : goal.touch-requires
 touch-requires c =
-     omega (arith, c.put_entry.auto.words, c.raise_words.auto.words, c.requires.fact_1.matrix.header.fits)
+    omega (arith, c.put_entry.auto.words, c.raise_words.auto.words, c.requires.fact_1.matrix.header.fits)
 
 pub returns : goal.returns
 returns c =
-     c.touch.ensures ∙ ap touched c.put_entry.ensures
+    c.touch.ensures ∙ ap touched c.put_entry.ensures
     ∙ inserted_written c.requires.fact_1 c.requires.fact_2 c.requires.fact_3 c.raise_words.ensures _

@@ -14,9 +14,9 @@ take_entry-requires c = take_bounds c.requires.fact_1 c.requires.fact_2 c.lower_
 
 pub touch-requires : goal.touch-requires
 touch-requires c =
-     omega (arith, c.take_entry.auto.words, c.lower_words.auto.words, c.requires.fact_1.matrix.header.fits)
+    omega (arith, c.take_entry.auto.words, c.lower_words.auto.words, c.requires.fact_1.matrix.header.fits)
 
 pub returns : goal.returns
 returns c =
-     c.touch.ensures ∙ ap touched c.take_entry.ensures
+    c.touch.ensures ∙ ap touched c.take_entry.ensures
     ∙ removed_written c.requires.fact_1 c.requires.fact_2 c.lower_words.ensures

@@ -6,7 +6,7 @@ use Rattle.formula_steps.proofs.advance.Goals as goal
 
 pub row_of-m-requires : goal.row_of-m-requires
 row_of-m-requires c =
- record {
+    record {
       row_inputs = row_inputs c.requires.fact_1 c.requires.fact_2;
       buffers_1 = row_buffers c.requires.fact_1;
       buffers_2 = omega (arith, c.requires.fact_1.space);
@@ -17,7 +17,7 @@ overflow_add-next c = next_fits c.requires.fact_1 c.requires.fact_2 c.row_of-m.e
 
 pub returns-then-next : goal.returns-then-next
 returns-then-next c =
-     advanced_full c.requires.fact_1 c.requires.fact_2 c.row_of-m.ensures c.if-next.true _ _ _
+    advanced_full c.requires.fact_1 c.requires.fact_2 c.row_of-m.ensures c.if-next.true _ _ _
 
 pub slice_bounds-stage_row-count : goal.slice_bounds-stage_row-count
 slice_bounds-stage_row-count c = omega (arith, c.requires.fact_1.space)
@@ -42,6 +42,6 @@ stage_row-requires c = row_bounds c.requires.fact_1 c.requires.fact_2 c.row_of-m
 
 pub returns : goal.returns
 returns c =
-     let k = c.row_of-m.kept.1.1.1 in
+    let k = c.row_of-m.kept.1.1.1 in
     advanced_more c.requires.fact_1 c.requires.fact_2 c.row_of-m.ensures c.if-next.false _
     c.stage_row.ensures c.stage_row.auto.work k.0 k.1.0

@@ -10,45 +10,45 @@ loop-i-init c = (c.requires, (refl, refl, refl))
 
 pub advance-n-requires : goal.advance-n-requires
 advance-n-requires c =
- record {
+    record {
       fact_1 = staging_own c.loop-i.invariant.0;
       fact_2 = c.loop-i-test.true;
     }
 
 pub shape_of-area-then-n : goal.shape_of-area-then-n
 shape_of-area-then-n c =
-     let v = c.loop-i.invariant in
+    let v = c.loop-i.invariant in
     c.advance-n.auto.area ∙ v.1.0
 
 pub shape_of-tc-then-n : goal.shape_of-tc-then-n
 shape_of-tc-then-n c =
-     let v = c.loop-i.invariant in
+    let v = c.loop-i.invariant in
     c.advance-n.auto.tc ∙ v.1.1
 
 pub shape_of-tv-then-n : goal.shape_of-tv-then-n
 shape_of-tv-then-n c =
-     let v = c.loop-i.invariant in
+    let v = c.loop-i.invariant in
     c.advance-n.auto.tv ∙ v.1.2
 
 pub returns-then-n : goal.returns-then-n
 returns-then-n c =
-     let v = c.loop-i.invariant in
+    let v = c.loop-i.invariant in
     gathered_full (advanced_own v.0 c.advance-n.ensures) c.if-n.true
 
 pub overflow_add-i : goal.overflow_add-i
 overflow_add-i c =
-     let v = c.loop-i.invariant in
+    let v = c.loop-i.invariant in
     counter_fits (staging_own v.0) c.loop-i-test.true
 
 pub loop-i-smaller : goal.loop-i-smaller
 loop-i-smaller c =
-     let v = c.loop-i.invariant in
+    let v = c.loop-i.invariant in
     let h = c.loop-i-test.true in
     omega arith
 
 pub loop-i-preserved : goal.loop-i-preserved
 loop-i-preserved c =
-     let v = c.loop-i.invariant in
+    let v = c.loop-i.invariant in
     let k = c.advance-n.kept.1.1.1.1 in (
       (advanced_own v.0 c.advance-n.ensures).more c.if-n.false,
       (k.0 ∙ v.1.0, k.1.0 ∙ v.1.1, k.1.1.0 ∙ v.1.2),

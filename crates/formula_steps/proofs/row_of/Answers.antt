@@ -7,16 +7,16 @@ use Rattle.formula_steps.proofs.row_of.Goals as goal
 
 pub slice_bounds-result_row-end : goal.slice_bounds-result_row-end
 slice_bounds-result_row-end c =
-     sym (length-take-le max_matrix_words c.args.area.now (omega (arith, c.requires.buffers_2)))
+    sym (length-take-le max_matrix_words c.args.area.now (omega (arith, c.requires.buffers_2)))
 
 pub slice_bounds-result_row-end-3 : goal.slice_bounds-result_row-end-3
 slice_bounds-result_row-end-3 c =
-     sym (length-take-le max_matrix_words c.args.area.now (omega (arith, c.requires.buffers_2)))
+    sym (length-take-le max_matrix_words c.args.area.now (omega (arith, c.requires.buffers_2)))
 
 pub result_row-requires : goal.result_row-requires
 result_row-requires c =
     let p = (c.requires.row_inputs, (c.requires.buffers_1, c.requires.buffers_2)) in
- record {
+    record {
       row_inputs = p.0;
       buffers = p.1.0;
     }

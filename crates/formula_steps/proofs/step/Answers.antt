@@ -12,7 +12,7 @@ slice_bounds-shape_of-end c = omega (arith, c.requires.space)
 
 pub slice_bounds-shape_of-end-2 : goal.slice_bounds-shape_of-end-2
 slice_bounds-shape_of-end-2 c =
-     sym (length-take-le max_matrix_words c.args.area.now (omega (arith, c.requires.space)))
+    sym (length-take-le max_matrix_words c.args.area.now (omega (arith, c.requires.space)))
 
 pub slice_bounds-shape_of-end : goal.slice_bounds-shape_of-end
 slice_bounds-shape_of-end c = omega (arith, c.requires.space)
@@ -26,14 +26,14 @@ needs_of-needs-requires c =
 
 pub returns-then-not-inputs_agree : goal.returns-then-not-inputs_agree
 returns-then-not-inputs_agree c =
-     stepped_disagree c.requires
+    stepped_disagree c.requires
     c.shape_of-first.ensures c.shape_of-second.ensures
     c.needs_of-needs.ensures
     (said_no c.inputs_agree.ensures c.if-not-inputs_agree.true)
 
 pub write_result-requires : goal.write_result-requires
 write_result-requires c =
-     agreeing c.requires
+    agreeing c.requires
     c.shape_of-first.ensures c.shape_of-second.ensures
     c.needs_of-needs.ensures
     (said_yes c.inputs_agree.ensures c.if-not-inputs_agree.false)

@@ -45,17 +45,11 @@ offset_bounds-columns-p c = omega arith
 pub bounds-columns-p : goal.bounds-columns-p
 bounds-columns-p c = omega arith
 
-pub overflow_cast-j : goal.overflow_cast-j
-overflow_cast-j c = omega (arith, c.shared_slice_known-in-loop-p-1.given c.loop-p.p)
-
 pub offset_bounds-marks-j : goal.offset_bounds-marks-j
 offset_bounds-marks-j c = omega (arith, place c)
 
 pub bounds-marks-j : goal.bounds-marks-j
 bounds-marks-j c = place_2 c
-
-pub stamp_once-requires : goal.stamp_once-requires
-stamp_once-requires c = tt
 
 pub offset_bounds-marks-j-in-loop-p : goal.offset_bounds-marks-j-in-loop-p
 offset_bounds-marks-j-in-loop-p c = omega (arith, place_3 c)

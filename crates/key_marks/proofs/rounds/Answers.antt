@@ -9,74 +9,68 @@ use Rattle.key_marks.proofs.rounds.Goals as goal
 
 pub mark_rows-requires : goal.mark_rows-requires
 mark_rows-requires c =
-    locks_stampable c.before.before.before.before.before.before.requires.0 (lent_rounds c.before.before.before.before.before.before.requires.0) (omega arith)
+    locks_stampable c.requires.fact_1 (lent_rounds c.requires.fact_1) (omega arith)
 
 pub loop-n-init : goal.loop-n-init
 loop-n-init c =
     (
-  doors_stamped (lent_rounds c.before.before.before.before.before.before.before.before.before.requires.0)
+  doors_stamped (lent_rounds c.requires.fact_1)
       c.mark_rows.ensures,
   omega arith,
 )
 
-pub count_marks-before-requires : goal.count_marks-before-requires
-count_marks-before-requires c = tt
-
 pub mark_rows-requires-in-loop-n : goal.mark_rows-requires-in-loop-n
 mark_rows-requires-in-loop-n c =
-    cabinets_stampable (start c.before.before.before.before.before).requires.0 c.loop.invariant.0
-
-pub count_marks-requires : goal.count_marks-requires
-count_marks-requires c = tt
+    cabinets_stampable c.requires.fact_1 c.loop-n.invariant.0
 
 pub shape_of-keys-then-count_marks-before : goal.shape_of-keys-then-count_marks-before
 shape_of-keys-then-count_marks-before c =
-    c.mark-rows2.ensures.size ∙ c.loop.invariant.0.keys_size ∙ sym (start c.before.before.before.before.before.before.before.before.before.before.before).requires.0.keys_size
+    c.mark_rows-in-loop-n.ensures.size ∙ c.loop-n.invariant.0.keys_size ∙ sym c.requires.fact_1.keys_size
 
 pub shape_of-doors-then-count_marks-before : goal.shape_of-doors-then-count_marks-before
 shape_of-doors-then-count_marks-before c =
-    c.loop.invariant.0.doors_size ∙ sym (start c.before.before.before.before.before.before.before.before.before.before.before).requires.0.doors_size
+    c.loop-n.invariant.0.doors_size ∙ sym c.requires.fact_1.doors_size
 
 pub returns-then-count_marks-before : goal.returns-then-count_marks-before
 returns-then-count_marks-before c =
-    rounds_settled c.loop.invariant.0
-    (keys_stamped (lent_fitting (start c.before.before.before.before.before.before.before.before.before.before.before).requires.0) c.loop.invariant.0 c.mark-rows2.ensures)
-    (sym c.count_marks.ensures ∙ c.if-count_marks-before.true ∙ c.count-marks.ensures)
-    c.loop-test.true
+    rounds_settled c.loop-n.invariant.0
+    (keys_stamped (lent_fitting c.requires.fact_1) c.loop-n.invariant.0 c.mark_rows-in-loop-n.ensures)
+    (sym c.count_marks.ensures ∙ c.if-count_marks-before.true ∙ c.count_marks-before.ensures)
+    c.loop-n-test.true
 
 pub overflow_add-n : goal.overflow_add-n
 overflow_add-n c =
-    omega (arith, c.loop-test.taken, (start c.before.before.before.before.before.before.before.before.before.before.before).requires.1)
+    omega (arith, c.loop-n-test.true, c.requires.fact_2)
 
 pub overflow_add-n-in-loop-n : goal.overflow_add-n-in-loop-n
 overflow_add-n-in-loop-n c =
-    omega (arith, c.loop-test.taken, (start c.before.before.before.before.before.before.before.before.before.before.before.before).requires.1)
+    omega (arith, c.loop-n-test.true, c.requires.fact_2)
 
 pub mark_rows-requires-in-loop-n-2 : goal.mark_rows-requires-in-loop-n-2
 mark_rows-requires-in-loop-n-2 c =
-    let l = (start c.before.before.before.before.before.before.before.before.before.before.before.before.before).requires.0 in
-    locks_stampable l (keys_stamped (lent_fitting l) c.loop.invariant.0 c.mark-rows2.ensures) (omega arith)
+    let l = c.requires.fact_1 in
+    locks_stampable l (keys_stamped (lent_fitting l) c.loop-n.invariant.0 c.mark_rows-in-loop-n.ensures) (omega arith)
 
 pub loop-n-smaller : goal.loop-n-smaller
-loop-n-smaller c = omega (arith, c.loop-test.taken)
+loop-n-smaller c = omega (arith, c.loop-n-test.true)
 
 pub loop-n-preserved : goal.loop-n-preserved
 loop-n-preserved c =
     (
-      doors_stamped (keys_stamped (lent_fitting (start c.before.before.before.before.before.before.before.before.before.before.before.before.before.before.before.before).requires.0) c.loop.invariant.0 c.mark-rows2.ensures)
+      doors_stamped (keys_stamped (lent_fitting c.requires.fact_1) c.loop-n.invariant.0 c.mark_rows-in-loop-n.ensures)
           c.mark_rows-in-loop-n-2.ensures,
-      omega (arith, c.loop-test.true),
+      omega (arith, c.loop-n-test.true),
     )
 
 pub shape_of-keys : goal.shape_of-keys
-shape_of-keys c = c.loop-n.invariant.0.keys_size ∙ sym (start c.before).requires.0.keys_size
+shape_of-keys c = c.loop-n.invariant.0.keys_size ∙ sym c.requires.fact_1.keys_size
 
 pub shape_of-doors : goal.shape_of-doors
-shape_of-doors c = c.loop-n.invariant.0.doors_size ∙ sym (start c.before).requires.0.doors_size
+shape_of-doors c = c.loop-n.invariant.0.doors_size ∙ sym c.requires.fact_1.doors_size
 
 pub returns : goal.returns
 returns c =
-    let a = (start c.before).args in
+    let a = c.args in
     subst
     (λ (i : ℕ). Rounds (grid_of a.locks.now) (grid_of a.cabinets.now) (held a.keys.now) i (i + 1)
     c.loop-n.keys c.loop-n.doors)

@@ -4,7 +4,7 @@ use Rattle.mask_rows.proofs.keep_inside.Goals as goal
 
 pub mark_mask-requires : goal.mark_mask-requires
 mark_mask-requires c =
- record {
+    record {
       fact_1 = c.requires.fact_1.row;
       fact_2 = unmarked_new;
     }

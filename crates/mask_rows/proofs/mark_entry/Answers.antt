@@ -1,6 +1,5 @@
 -- `mark_entry` marks the column of an entry that counts.
 use mathlib.Core.Path.{sym, ◌∙◌}
-use borrow.Author.Tests.{not-true, not-false}
 use Rattle.mask_rows.proofs.Masks.{entry_left, entry_taken_lem}
 use Rattle.mask_rows.proofs.mark_entry.Goals as goal
 

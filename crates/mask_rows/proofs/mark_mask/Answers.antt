@@ -1,8 +1,5 @@
 -- `mark_mask`: the entries before p have their marks.
-use Prim.Native.Nat.{◌-◌, ◌<◌}
 use native.Mathlib.Omega.{arith}
-use Rattle.limits.specs.Limits.{max_cols}
-use Rattle.words.specs.Words.{at}
 use Rattle.mask_rows.proofs.Masks.{masking_start, masking_step, masking_done}
 use Rattle.mask_rows.proofs.mark_mask.Goals as goal
 
@@ -26,7 +23,7 @@ bounds-values-p c = omega (arith, c.requires.fact_1.even)
 
 pub mark_entry-top-requires : goal.mark_entry-top-requires
 mark_entry-top-requires c =
- record {
+    record {
       fact_1 = (c.requires.fact_1.small c.loop-p.p c.loop-p-test.true);
       fact_2 = c.loop-p.invariant.tracked;
     }

@@ -15,13 +15,13 @@ returns-then-not-has_mask c = inside_all c.result_row.ensures
 
 pub returns-then-none_inside : goal.returns-then-none_inside
 returns-then-none_inside c =
-     let a = c.args in
+    let a = c.args in
     inside_no _ a.mc.now a.mv.now _ _ _ _ (has_mask c) (c.none_inside.ensures c.if-none_inside.true)
 
 pub row_by_entries-requires : goal.row_by_entries-requires
 row_by_entries-requires c =
-     let m = has_mask_2 c in
- record {
+    let m = has_mask_2 c in
+    record {
       row_inputs = c.requires.row_inputs;
       buffers = c.requires.buffers;
       under_mask = record { has = m; row = c.requires.mask_known m };

@@ -5,8 +5,8 @@ use Rattle.masked_rows.proofs.row_by_entries.Goals as goal
 
 pub masked_product-requires : goal.masked_product-requires
 masked_product-requires c =
-     let e = c.in-Mxm.is in
- record {
+    let e = c.in-Mxm.is in
+    record {
       product_inputs_1 = product_inputs _ _ _ _ _ _ _ _ (rw e at c.requires.row_inputs);
       product_inputs_2 = c.requires.under_mask;
       b_in_bounds = buffers (rw e at c.requires.buffers);

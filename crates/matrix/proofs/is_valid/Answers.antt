@@ -41,7 +41,7 @@ returns-then-not-starts_valid c =
 
 pub rows_valid-requires : goal.rows_valid-requires
 rows_valid-requires c =
- record {
+    record {
       fact_1 = header_facts _ (header_held_3 c);
       fact_2 = starts_facts _ (starts_held c);
     }

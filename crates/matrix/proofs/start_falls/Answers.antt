@@ -14,7 +14,7 @@ loop-i-init c = (omega arith, omega arith, omega arith, sym (count_none _))
 
 pub falls_at_start-requires : goal.falls_at_start-requires
 falls_at_start-requires c =
- record {
+    record {
       fact_1 = c.requires.fact_1;
       fact_2 = row_span _ c.requires.fact_2 c.loop-i.i (omega arith);
     }

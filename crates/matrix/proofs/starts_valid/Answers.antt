@@ -19,12 +19,11 @@ pub loop-i-init : goal.loop-i-init
 loop-i-init c = (omega arith, omega arith, sym (all_none _))
 
 pub loop-i-preserved : goal.loop-i-preserved
-loop-i-preserved c =
-    (
-      omega arith,
-      omega arith,
-      elim c.if-words-i.branch [ then-words-i w ↦ w.climb-is ∙ sym (all_not _ _ c.loop-i.i (omega arith) (lt-leb _ _ w.if-words-i.true)) | else-words-i w ↦ w.climb-is ∙ all_kept _ _ _ c.loop-i.invariant.2 (le-leb _ _ w.if-words-i.false) ],
-    )
+loop-i-preserved c = (
+  omega arith,
+  omega arith,
+  elim c.if-words-i.branch [ then-words-i w ↦ w.climb-is ∙ sym (all_not _ _ c.loop-i.i (omega arith) (lt-leb _ _ w.if-words-i.true)) | else-words-i w ↦ w.climb-is ∙ all_kept _ _ _ c.loop-i.invariant.2 (le-leb _ _ w.if-words-i.false) ],
+)
 
 pub returns : goal.returns
 returns c =

@@ -11,18 +11,17 @@ row_count-total-requires c = c.requires.inputs.output.header
 
 pub skip_rows-i-requires : goal.skip_rows-i-requires
 skip_rows-i-requires c =
- record {
+    record {
       inputs = c.requires.inputs;
       from_bound_1 = (omega arith, omega arith);
       from_bound_2 = c.requires.space.starts;
     }
 
 pub loop-i-init : goal.loop-i-init
-loop-i-init c =
- (
-      passed_skip _ _ _ _ _ _ (passed_none _ _ _ _ _ _ c.requires.inputs c.requires.space c.row_count-total.ensures) c.skip_rows-i.ensures,
-      (refl, refl, refl),
-    )
+loop-i-init c = (
+  passed_skip _ _ _ _ _ _ (passed_none _ _ _ _ _ _ c.requires.inputs c.requires.space c.row_count-total.ensures) c.skip_rows-i.ensures,
+  (refl, refl, refl),
+)
 
 pub result_row-n-requires : goal.result_row-n-requires
 result_row-n-requires c = row_needs_lem _ _ _ _ _ _ c.loop-i.invariant.0 c.loop-i-test.true
@@ -32,34 +31,34 @@ overflow_add-n c = sum_fits _ _ _ _ _ _ c.loop-i.invariant.0 c.result_row-n.ensu
 
 pub shape_of-starts-then-n : goal.shape_of-starts-then-n
 shape_of-starts-then-n c =
-     length-set c.loop-i.starts c.loop-i.i c.loop-i.n ∙ c.loop-i.invariant.1.0
+    length-set c.loop-i.starts c.loop-i.i c.loop-i.n ∙ c.loop-i.invariant.1.0
     ∙ c.skip_rows-i.ensures.size
 
 pub shape_of-oc-then-n : goal.shape_of-oc-then-n
 shape_of-oc-then-n c =
-     let v = c.loop-i.invariant in
+    let v = c.loop-i.invariant in
     back_length c.loop-i.n c.loop-i.oc c.result_row-n.last.1.1.1.1.1.1.1.1.0
     (columns_room _ _ _ _ _ _ v.0) c.result_row-n.auto.oc ∙ v.1.1
 
 pub shape_of-ov-then-n : goal.shape_of-ov-then-n
 shape_of-ov-then-n c =
-     let v = c.loop-i.invariant in
+    let v = c.loop-i.invariant in
     back_length c.loop-i.n c.loop-i.ov c.result_row-n.last.1.1.1.1.1.1.1.1.1.0
     (values_room _ _ _ _ _ _ v.0) c.result_row-n.auto.ov ∙ v.1.2
 
 pub returns-then-n : goal.returns-then-n
 returns-then-n c =
-     passed_full _ _ _ _ _ _ c.loop-i.invariant.0 c.result_row-n.ensures c.loop-i-test.true c.if-n.true _ _ _
+    passed_full _ _ _ _ _ _ c.loop-i.invariant.0 c.result_row-n.ensures c.loop-i-test.true c.if-n.true _ _ _
 
 pub overflow_add-i : goal.overflow_add-i
 overflow_add-i c = counter_fits _ _ _ _ _ _ c.loop-i.invariant.0 c.loop-i-test.true
 
 pub skip_rows-i-requires-in-loop-i : goal.skip_rows-i-requires-in-loop-i
 skip_rows-i-requires-in-loop-i c =
-     let k = c.result_row-n.kept.1.1.1.1.1.1.1.1 in
+    let k = c.result_row-n.kept.1.1.1.1.1.1.1.1 in
     let m = passed_next _ _ _ _ _ _ c.loop-i.invariant.0 c.result_row-n.ensures c.loop-i-test.true
     c.if-n.false k.0 k.1.0 in
- record {
+    record {
       inputs = m.inputs;
       from_bound_1 = (omega (arith, m.within, m.rows_are), m.few);
       from_bound_2 = m.space.starts;
@@ -67,12 +66,12 @@ skip_rows-i-requires-in-loop-i c =
 
 pub loop-i-smaller : goal.loop-i-smaller
 loop-i-smaller c =
-     let h = c.loop-i-test.true in
+    let h = c.loop-i-test.true in
     omega (arith, c.skip_rows-i-in-loop-i.ensures.rises)
 
 pub loop-i-preserved : goal.loop-i-preserved
 loop-i-preserved c =
-     let v = c.loop-i.invariant in
+    let v = c.loop-i.invariant in
     let x = c.result_row-n.last.1.1.1.1.1.1.1.1 in
     let k = c.result_row-n.kept.1.1.1.1.1.1.1.1 in
     let m = passed_next _ _ _ _ _ _ v.0 c.result_row-n.ensures c.loop-i-test.true c.if-n.false k.0

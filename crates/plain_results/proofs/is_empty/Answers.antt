@@ -20,7 +20,7 @@ returns-then-not-has_none c = absurd (false≢true e)
 
 pub has_none-requires-in-EwiseAdd-2 : goal.has_none-requires-in-EwiseAdd-2
 has_none-requires-in-EwiseAdd-2 c =
-     let h = add_inputs _ _ _ _ _ _ _ (row_matched c.in-EwiseAdd.is c.requires) in
+    let h = add_inputs _ _ _ _ _ _ _ (row_matched c.in-EwiseAdd.is c.requires) in
     spanned h.second (omega (arith, h.row, h.same_rows))
 
 pub has_none-requires-in-Apply : goal.has_none-requires-in-Apply
@@ -43,7 +43,7 @@ returns-in-EwiseMult c =
 
 pub returns-else-not-has_none : goal.returns-else-not-has_none
 returns-else-not-has_none c =
-     let x = c.args in
+    let x = c.args in
     add_none x.a.now x.b.now x.c.now x.is.now x.js.now x.i
     (c.has_none-in-EwiseAdd.ensures c.if-not-has_none.false) (c.has_none-in-EwiseAdd-2.ensures e)
     c.in-EwiseAdd.is

@@ -39,9 +39,9 @@ starts_fit_3 q =
 
 pub all_rows-n-requires : goal.all_rows-n-requires
 all_rows-n-requires c =
- record {
+    record {
       inputs = c.requires.fact_1;
-      space = space_fresh _ _ c.args.work.now c.row_count-total.ensures           c.requires.fact_1.output.header.row_range.most c.requires.fact_2;
+      space = space_fresh _ _ c.args.work.now c.row_count-total.ensures c.requires.fact_1.output.header.row_range.most c.requires.fact_2;
     }
 
 pub returns-then-n : goal.returns-then-n
@@ -52,15 +52,15 @@ slice_bounds-join-end c = sym (length-take-le c.row_count-total.result _ (starts
 
 pub slice_bounds-join-end-2 : goal.slice_bounds-join-end-2
 slice_bounds-join-end-2 c =
-     sym (length-take-le c.all_rows-n.result _ (values_fit _ _ _ _ _ _ c.requires.fact_1 _ _ _ _ c.all_rows-n.ensures (few c)))
+    sym (length-take-le c.all_rows-n.result _ (values_fit _ _ _ _ _ _ c.requires.fact_1 _ _ _ _ c.all_rows-n.ensures (few c)))
 
 pub join-requires : goal.join-requires
 join-requires c =
-     bounds _ _ _ _ _ _ c.requires.fact_1 _ _ _ _ c.all_rows-n.ensures (few c) c.args.work.now c.requires.fact_2 _ _
+    bounds _ _ _ _ _ _ c.requires.fact_1 _ _ _ _ c.all_rows-n.ensures (few c) c.args.work.now c.requires.fact_2 _ _
     c.row_count-total.ensures c.col_count-cols.ensures (starts_fit_2 c) c.all_rows-n.auto.oc
 
 pub returns : goal.returns
 returns c =
-     written_joined _ _ _ _ _ _ c.requires.fact_1 _ _ _ _ c.all_rows-n.ensures (few_2 c) c.args.work.now
+    written_joined _ _ _ _ _ _ c.requires.fact_1 _ _ _ _ c.all_rows-n.ensures (few_2 c) c.args.work.now
     c.requires.fact_2 _ _ c.row_count-total.ensures c.col_count-cols.ensures (starts_fit_3 c)
     c.all_rows-n.auto.oc _ c.join.ensures

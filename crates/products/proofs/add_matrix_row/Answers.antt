@@ -4,7 +4,7 @@ use Rattle.products.proofs.add_matrix_row.Goals as goal
 
 pub add_row-requires : goal.add_row-requires
 add_row-requires c =
- record {
+    record {
       fact_1 = rw (c.row_columns.ensures.words, c.row_values.ensures.words) c.requires.header_3;
       fact_2 = c.requires.sized;
     }

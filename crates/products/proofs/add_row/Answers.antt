@@ -87,7 +87,7 @@ loop-p-smaller c = omega (arith, c.loop-p-test.true)
 
 pub loop-p-preserved : goal.loop-p-preserved
 loop-p-preserved c =
-     adding_step c.requires.fact_1 c.loop-p.invariant c.loop-p-test.true
+    adding_step c.requires.fact_1 c.loop-p.invariant c.loop-p-test.true
     c.apply_binary-product.ensures c.add_product-sum.ensures
 
 pub returns : goal.returns

@@ -32,7 +32,7 @@ bounds-values-p c = omega (arith, c.requires.row_1.even)
 
 pub add_matrix_row-requires : goal.add_matrix_row-requires
 add_matrix_row-requires c =
- record {
+    record {
       header_1 = c.requires.row_2.header;
       header_2 = row_span _ c.requires.row_2.starts _ (named c);
       header_3 = matrix_row _ c.requires.row_2 _ (named c);
@@ -47,7 +47,7 @@ loop-p-smaller c = omega arith
 
 pub loop-p-preserved : goal.loop-p-preserved
 loop-p-preserved c =
-     summing_step c.requires.row_1 c.loop-p.invariant c.loop-p-test.true
+    summing_step c.requires.row_1 c.loop-p.invariant c.loop-p-test.true
     c.add_matrix_row.ensures
 
 pub returns : goal.returns

@@ -11,7 +11,7 @@ returns-then-columns-eq0 c =
 
 pub add_rows-requires : goal.add_rows-requires
 add_rows-requires c =
- record {
+    record {
       row_1 = c.requires.row_1;
       row_2 = c.requires.row_2;
       spread = spread_none;

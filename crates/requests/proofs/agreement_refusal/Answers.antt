@@ -3,6 +3,8 @@ use mathlib.Core.Path.{◌≡◌}
 use mathlib.Core.Bool.{true}
 use Rattle.conditions.proofs.Tests.{said_no, said_yes}
 use Rattle.matrix.specs.Layout.{grid_of}
+use Rattle.limits.specs.Limits.{max_cols}
+use Rattle.operations.specs.Lists.{Small}
 use Rattle.operations.specs.Calls.{indexes_valid, shapes_agree}
 use Rattle.requests.proofs.Lists.{inputs_small, lists_within}
 use Rattle.requests.proofs.Refusals.{lists_tested, shapes_tested, index_refused, shape_refused, workspace_refused, all_agree}
@@ -48,7 +50,9 @@ shapes_held_2 c =
 
 pub needs_of-needs-requires : goal.needs_of-needs-requires
 needs_of-needs-requires c =
-    inputs_small _ _ _ _ _ c.args.is.now c.args.js.now c.requires _ c.shapes_of-shapes.ensures
+    let h : Small max_cols c.shapes_of-shapes.result.first × Small max_cols c.shapes_of-shapes.result.second =
+    inputs_small _ _ _ _ _ c.args.is.now c.args.js.now c.requires _ c.shapes_of-shapes.ensures in
+    record { fact_1 = h.0; fact_2 = h.1 }
 
 pub indexes_valid-requires : goal.indexes_valid-requires
 indexes_valid-requires c =

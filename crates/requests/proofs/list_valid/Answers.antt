@@ -14,7 +14,7 @@ returns-then-list-gt-MAX_LIST c = sym (refuted _ (λ h. let f = list_facts _ _ h
 
 pub indexes_distinct-requires : goal.indexes_distinct-requires
 indexes_distinct-requires c =
- record {
+    record {
       fact_1 = c.requires;
       fact_2 = seen_none _;
     }

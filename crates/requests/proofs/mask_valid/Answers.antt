@@ -1,6 +1,5 @@
 -- `mask_valid` is the validity of a mask that is there.
 use mathlib.Core.Path.{◌∙◌}
-use borrow.Author.Tests.{not-true, not-false}
 use Rattle.requests.proofs.mask_valid.Goals as goal
 
 pub returns-then-not-has_mask : goal.returns-then-not-has_mask

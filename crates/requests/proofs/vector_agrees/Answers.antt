@@ -1,5 +1,4 @@
 -- `vector_agrees` looks at the rows only where a vector is due.
-use borrow.Author.Tests.{not-true, not-false}
 use Rattle.requests.proofs.vector_agrees.Goals as goal
 
 pub returns-then-not-vector_first : goal.returns-then-not-vector_first

@@ -9,49 +9,49 @@ bounds-b-i c = omega (arith, place_within c.requires.assign_inputs)
 
 pub row_columns-requires : goal.row_columns-requires
 row_columns-requires c =
-     (c.requires.assign_inputs.output.header, matrix_span _ c.requires.assign_inputs.output _ c.requires.assign_inputs.row)
+    (c.requires.assign_inputs.output.header, matrix_span _ c.requires.assign_inputs.output _ c.requires.assign_inputs.row)
 
 pub row_values-requires : goal.row_values-requires
 row_values-requires c =
-     (c.requires.assign_inputs.output.header, matrix_span _ c.requires.assign_inputs.output _ c.requires.assign_inputs.row)
+    (c.requires.assign_inputs.output.header, matrix_span _ c.requires.assign_inputs.output _ c.requires.assign_inputs.row)
 
 pub unlisted_row-requires : goal.unlisted_row-requires
 unlisted_row-requires c =
-     rw (c.col_count.ensures, c.row_columns.ensures.words, c.row_values.ensures.words)
- record {
+    rw (c.col_count.ensures, c.row_columns.ensures.words, c.row_values.ensures.words)
+    record {
       row = matrix_row _ c.requires.assign_inputs.output _ c.requires.assign_inputs.row;
       places_in_bounds = c.requires.c_in_bounds;
     }
 
 pub returns-then-place-eq0 : goal.returns-then-place-eq0
 returns-then-place-eq0 c =
-     rw (← c.col_count.ensures)
+    rw (← c.col_count.ensures)
     (unlisted_holds c.requires.assign_inputs c.args.accumulator c.if-place-eq0.true
     (rw (← c.row_columns.ensures.words, ← c.row_values.ensures.words) c.unlisted_row.ensures))
 
 pub overflow_cast-row : goal.overflow_cast-row
 overflow_cast-row c =
- omega (arith, (named c.requires.assign_inputs c.if-place-eq0.false).below, c.requires.assign_inputs.rows_listed.indices.few)
+    omega (arith, (named c.requires.assign_inputs c.if-place-eq0.false).below, c.requires.assign_inputs.rows_listed.indices.few)
 
 pub row_columns-requires-2 : goal.row_columns-requires-2
 row_columns-requires-2 c =
-     (c.requires.assign_inputs.first.header, matrix_span _ c.requires.assign_inputs.first _ (named c.requires.assign_inputs c.if-place-eq0.false).first)
+    (c.requires.assign_inputs.first.header, matrix_span _ c.requires.assign_inputs.first _ (named c.requires.assign_inputs c.if-place-eq0.false).first)
 
 pub row_values-requires-2 : goal.row_values-requires-2
 row_values-requires-2 c =
-     (c.requires.assign_inputs.first.header, matrix_span _ c.requires.assign_inputs.first _ (named c.requires.assign_inputs c.if-place-eq0.false).first)
+    (c.requires.assign_inputs.first.header, matrix_span _ c.requires.assign_inputs.first _ (named c.requires.assign_inputs c.if-place-eq0.false).first)
 
 pub row_columns-requires-3 : goal.row_columns-requires-3
 row_columns-requires-3 c =
-     (c.requires.assign_inputs.output.header, matrix_span _ c.requires.assign_inputs.output _ c.requires.assign_inputs.row)
+    (c.requires.assign_inputs.output.header, matrix_span _ c.requires.assign_inputs.output _ c.requires.assign_inputs.row)
 
 pub row_values-requires-3 : goal.row_values-requires-3
 row_values-requires-3 c =
-     (c.requires.assign_inputs.output.header, matrix_span _ c.requires.assign_inputs.output _ c.requires.assign_inputs.row)
+    (c.requires.assign_inputs.output.header, matrix_span _ c.requires.assign_inputs.output _ c.requires.assign_inputs.row)
 
 pub assign_row-requires : goal.assign_row-requires
 assign_row-requires c =
-     rw (
+    rw (
       c.col_count-2.ensures,
       c.row_columns-2.ensures.words,
       c.row_values-2.ensures.words,
@@ -67,7 +67,7 @@ assign_row-requires c =
 
 pub returns : goal.returns
 returns c =
-     rw (← c.col_count-2.ensures)
+    rw (← c.col_count-2.ensures)
     (listed_holds c.requires.assign_inputs c.args.accumulator (named c.requires.assign_inputs c.if-place-eq0.false)
     (rw (
       ← c.row_columns-2.ensures.words,

@@ -10,23 +10,23 @@ col_count-requires c = c.requires.pair_inputs.first.header
 
 pub row_columns-requires : goal.row_columns-requires
 row_columns-requires c =
-     (c.requires.pair_inputs.first.header, matrix_span _ c.requires.pair_inputs.first _ c.requires.pair_inputs.row)
+    (c.requires.pair_inputs.first.header, matrix_span _ c.requires.pair_inputs.first _ c.requires.pair_inputs.row)
 
 pub row_values-requires : goal.row_values-requires
 row_values-requires c =
-     (c.requires.pair_inputs.first.header, matrix_span _ c.requires.pair_inputs.first _ c.requires.pair_inputs.row)
+    (c.requires.pair_inputs.first.header, matrix_span _ c.requires.pair_inputs.first _ c.requires.pair_inputs.row)
 
 pub row_columns-requires-2 : goal.row_columns-requires-2
 row_columns-requires-2 c =
-     (c.requires.pair_inputs.second.header, matrix_span _ c.requires.pair_inputs.second _ (omega (arith, c.requires.pair_inputs.row, c.requires.pair_inputs.same_rows)))
+    (c.requires.pair_inputs.second.header, matrix_span _ c.requires.pair_inputs.second _ (omega (arith, c.requires.pair_inputs.row, c.requires.pair_inputs.same_rows)))
 
 pub row_values-requires-2 : goal.row_values-requires-2
 row_values-requires-2 c =
-     (c.requires.pair_inputs.second.header, matrix_span _ c.requires.pair_inputs.second _ (omega (arith, c.requires.pair_inputs.row, c.requires.pair_inputs.same_rows)))
+    (c.requires.pair_inputs.second.header, matrix_span _ c.requires.pair_inputs.second _ (omega (arith, c.requires.pair_inputs.row, c.requires.pair_inputs.same_rows)))
 
 pub merge_row-requires : goal.merge_row-requires
 merge_row-requires c =
-     rw c.col_count.ensures (
+    rw c.col_count.ensures (
       empty_row _,
       (
         rw (c.row_columns.ensures.words, c.row_values.ensures.words) (matrix_row _ c.requires.pair_inputs.first _ c.requires.pair_inputs.row),
@@ -41,7 +41,7 @@ merge_row-requires c =
 pub returns : goal.returns
 unfolding cell_of lookup
 returns c =
-     rw (
+    rw (
       ← c.row_columns.ensures.words,
       ← c.row_values.ensures.words,
       ← c.row_columns-2.ensures.words,

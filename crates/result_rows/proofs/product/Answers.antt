@@ -4,22 +4,22 @@ use Rattle.result_rows.proofs.product.Goals as goal
 
 pub row_columns-requires : goal.row_columns-requires
 row_columns-requires c =
-     (c.requires.product_inputs.first.header, matrix_span _ c.requires.product_inputs.first _ c.requires.product_inputs.row)
+    (c.requires.product_inputs.first.header, matrix_span _ c.requires.product_inputs.first _ c.requires.product_inputs.row)
 
 pub row_values-requires : goal.row_values-requires
 row_values-requires c =
-     (c.requires.product_inputs.first.header, matrix_span _ c.requires.product_inputs.first _ c.requires.product_inputs.row)
+    (c.requires.product_inputs.first.header, matrix_span _ c.requires.product_inputs.first _ c.requires.product_inputs.row)
 
 pub product_row_by-requires : goal.product_row_by-requires
 product_row_by-requires c =
- record {
-      row = rw (c.row_columns.ensures.words, c.row_values.ensures.words, ← c.requires.product_inputs.inner)           (matrix_row _ c.requires.product_inputs.first _ c.requires.product_inputs.row);
+    record {
+      row = rw (c.row_columns.ensures.words, c.row_values.ensures.words, ← c.requires.product_inputs.inner) (matrix_row _ c.requires.product_inputs.first _ c.requires.product_inputs.row);
       b_in_bounds = (c.requires.product_inputs.second, c.requires.b_in_bounds);
     }
 
 pub returns : goal.returns
 returns c =
-     rw (
+    rw (
       c.requires.product_inputs.inner,
       cell_row c.args.a.now c.args.i,
       ← c.row_columns.ensures.words,

@@ -5,33 +5,33 @@ use Rattle.result_rows.proofs.result_row.Goals as goal
 
 pub product-requires : goal.product-requires
 product-requires c =
-     let e = c.in-Mxm.is in
- record {
+    let e = c.in-Mxm.is in
+    record {
       product_inputs = product_inputs _ _ _ _ _ _ _ _ (rw e at c.requires.row_inputs);
       b_in_bounds = buffers (rw e at c.requires.buffers);
     }
 
 pub pair-requires : goal.pair-requires
 pair-requires c =
-     let e = c.in-EwiseMult.is in
- record {
+    let e = c.in-EwiseMult.is in
+    record {
       pair_inputs = mult_inputs _ _ _ _ _ _ _ (rw e at c.requires.row_inputs);
       a_in_bounds = buffers (rw e at c.requires.buffers);
     }
 
 pub pair-requires-in-EwiseAdd : goal.pair-requires-in-EwiseAdd
 pair-requires-in-EwiseAdd c =
-     let e = c.in-EwiseAdd.is in
- record {
+    let e = c.in-EwiseAdd.is in
+    record {
       pair_inputs = add_inputs _ _ _ _ _ _ _ (rw e at c.requires.row_inputs);
       a_in_bounds = buffers (rw e at c.requires.buffers);
     }
 
 pub applied-requires : goal.applied-requires
 applied-requires c =
-     let e = c.in-Apply.is in
+    let e = c.in-Apply.is in
     let h = rw e at c.requires.row_inputs in
- record {
+    record {
       matrix_1 = h.first;
       matrix_2 = h.row;
       a_in_bounds = buffers (rw e at c.requires.buffers);
@@ -39,17 +39,17 @@ applied-requires c =
 
 pub extracted-requires : goal.extracted-requires
 extracted-requires c =
-     let e = c.in-Extract.is in
- record {
+    let e = c.in-Extract.is in
+    record {
       list_inputs = list_inputs _ _ _ _ _ _ (rw e at c.requires.row_inputs);
       js_in_bounds = buffers (rw e at c.requires.buffers);
     }
 
 pub selected-requires : goal.selected-requires
 selected-requires c =
-     let e = c.in-Select.is in
+    let e = c.in-Select.is in
     let h = rw e at c.requires.row_inputs in
- record {
+    record {
       matrix_1 = h.first;
       matrix_2 = h.row;
       a_in_bounds = buffers (rw e at c.requires.buffers);
@@ -57,25 +57,25 @@ selected-requires c =
 
 pub reduce_rows-requires : goal.reduce_rows-requires
 reduce_rows-requires c =
-     let e = c.in-ReduceRows.is in
+    let e = c.in-ReduceRows.is in
     let h = rw e at c.requires.row_inputs in
- record {
+    record {
       fact_1 = h.first;
       fact_2 = buffers (rw e at c.requires.buffers);
     }
 
 pub assigned-requires : goal.assigned-requires
 assigned-requires c =
-     let e = c.in-Assign.is in
- record {
+    let e = c.in-Assign.is in
+    record {
       assign_inputs = assign_inputs _ _ _ _ _ _ _ (rw e at c.requires.row_inputs);
       c_in_bounds = buffers (rw e at c.requires.buffers);
     }
 
 pub blocks-requires : goal.blocks-requires
 blocks-requires c =
-     let e = c.in-Kronecker.is in
- record {
+    let e = c.in-Kronecker.is in
+    record {
       block_inputs = block_inputs _ _ _ _ _ _ _ (rw e at c.requires.row_inputs);
       b_in_bounds = buffers (rw e at c.requires.buffers);
     }

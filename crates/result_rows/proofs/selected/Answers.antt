@@ -14,7 +14,7 @@ row_values-requires c = (c.requires.matrix_1.header, matrix_span _ c.requires.ma
 
 pub select_row-requires : goal.select_row-requires
 select_row-requires c =
-     rw c.col_count.ensures (
+    rw c.col_count.ensures (
       rw (c.row_columns.ensures.words, c.row_values.ensures.words) (matrix_row _ c.requires.matrix_1 _ c.requires.matrix_2),
       c.requires.a_in_bounds,
     )
@@ -22,7 +22,7 @@ select_row-requires c =
 pub returns : goal.returns
 unfolding cell_of
 returns c =
-     rw (
+    rw (
       ← c.row_columns.ensures.words,
       ← c.row_values.ensures.words,
       ← c.col_count.ensures,

@@ -29,7 +29,7 @@ overflow_cast-b-2 c =
 
 pub shift_starts-requires : goal.shift_starts-requires
 shift_starts-requires c =
- record {
+    record {
       fact_1 = starts_bounded c.requires;
       fact_2 = row_few c.requires;
     }

@@ -61,7 +61,7 @@ row_columns-listed-requires c = ((matrix_facts _ (held c).first).header, span_fi
 pub section_place-requires : goal.section_place-requires
 section_place-requires c =
     let h = held_2 c in
- record {
+    record {
       fact_1 = (matrix_facts _ h.second).header;
       fact_2 = span_second _ _ _ h;
     }
@@ -74,7 +74,7 @@ returns-then-listed-eq0 c =
 pub section_place-requires-2 : goal.section_place-requires-2
 section_place-requires-2 c =
     let h = held_4 c in
- record {
+    record {
       fact_1 = (matrix_facts _ h.first).header;
       fact_2 = span_first _ _ _ h;
     }

@@ -64,7 +64,7 @@ row_columns-columns-requires c = ((matrix_facts _ (held c).first).header, span_f
 pub row_section-requires : goal.row_section-requires
 row_section-requires c =
     let h = held_2 c in
- record {
+    record {
       fact_1 = (matrix_facts _ h.second).header;
       fact_2 = span_second _ _ _ h;
     }
@@ -78,7 +78,7 @@ returns-then-columns-eq0 c =
 pub row_section-requires-2 : goal.row_section-requires-2
 row_section-requires-2 c =
     let h = held_4 c in
- record {
+    record {
       fact_1 = (matrix_facts _ h.first).header;
       fact_2 = span_first _ _ _ h;
     }

@@ -4,7 +4,7 @@ use Rattle.rows.proofs.find_column.Goals as goal
 
 pub look_at-requires : goal.look_at-requires
 look_at-requires c =
- record {
+    record {
       fact_1 = c.requires;
       fact_2 = c.lower_bound-bound.ensures.fact_1;
       fact_3 = rw c.lower_bound-bound.ensures.fact_2 (looks_few c.args.j c.args.columns.now);
@@ -12,7 +12,7 @@ look_at-requires c =
 
 pub returns : goal.returns
 returns c =
- record {
+    record {
       fact_1 = c.look_at.ensures.fact_1;
       fact_2 = looks_all c.args.j c.args.columns.now c.lower_bound-bound.ensures.fact_1 c.lower_bound-bound.ensures.fact_2 c.look_at.ensures.fact_2;
     }

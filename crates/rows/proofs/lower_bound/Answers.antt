@@ -14,8 +14,7 @@ abbrev mid_2 : goal.Else-seen-j → ℕ
 mid_2 q = q.loop-low.low + (q.loop-low.high - q.loop-low.low) / 2
 
 pub loop-low-init : goal.loop-low-init
-loop-low-init c =
-    (
+loop-low-init c = (
   omega arith,
   omega arith,
   c.requires,
@@ -52,7 +51,7 @@ loop-low-preserved c =
 pub returns : goal.returns
 returns c =
     let v = c.loop-low.invariant in
- record {
+    record {
       fact_1 = position_found _ _ _ (omega arith) v.3 (λ k h. v.4 k (omega arith));
       fact_2 = left_end v.5 (omega arith);
     }

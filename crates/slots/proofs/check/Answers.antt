@@ -18,10 +18,10 @@ zeros_from-requires c = end_inside _ _ c.sections_end-end.ensures c.if-end-eq0.f
 
 pub returns-then-not-zeros_from : goal.returns-then-not-zeros_from
 returns-then-not-zeros_from c =
-     zeros_fail _ _ c.sections_end-end.ensures c.if-end-eq0.false
+    zeros_fail _ _ c.sections_end-end.ensures c.if-end-eq0.false
     (said_no c.zeros_from.ensures c.if-not-zeros_from.true)
 
 pub returns : goal.returns
 returns c =
-     all_hold_lem _ _ c.sections_end-end.ensures c.if-end-eq0.false (omega arith) (omega arith)
+    all_hold_lem _ _ c.sections_end-end.ensures c.if-end-eq0.false (omega arith) (omega arith)
     (said_yes c.zeros_from.ensures c.if-not-zeros_from.false)

@@ -54,7 +54,7 @@ slice_bounds-result-end c = let f = section_3 c in omega arith
 
 pub returns : goal.returns
 returns c =
-     record {
+    record {
       place = record {
         memory = refl;
         offset = omega arith;

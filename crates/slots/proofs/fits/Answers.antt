@@ -37,5 +37,5 @@ overflow_sub-result c = let f = section_3 c in omega arith
 
 pub returns : goal.returns
 returns c =
-     let a = c.args in
+    let a = c.args in
     ap (λ (i : ℕ). leb (a.end - at a.store.now i + a.size) (length a.store.now)) c.find-at.ensures

@@ -34,7 +34,7 @@ shape_of-tail-then-old-size c = up_length c
 
 pub returns-then-old-size : goal.returns-then-old-size
 returns-then-old-size c =
-     grown c.args.tail.now c.args.end c.args.size c.requires _ c.move_up.ensures (omega arith)
+    grown c.args.tail.now c.args.end c.args.size c.requires _ c.move_up.ensures (omega arith)
 
 pub move_down-requires : goal.move_down-requires
 move_down-requires c = (omega arith, simp length-set (omega arith))
@@ -47,5 +47,5 @@ shape_of-tail c = search (rules, down_length_2 c)
 
 pub returns : goal.returns
 returns c =
-     shrunk c.args.tail.now c.args.end c.args.size c.requires _ c.move_down.ensures _ (omega arith)
+    shrunk c.args.tail.now c.args.end c.args.size c.requires _ c.move_down.ensures _ (omega arith)
     c.clear.ensures

@@ -85,7 +85,7 @@ returns-then-not-fits c = filled_not (filling c) c.args.held.now (said_no c.fits
 
 pub overflow_add-from : goal.overflow_add-from
 overflow_add-from c =
-     let w = within c in
+    let w = within c in
     let m = (filling_2 c).most in
     omega arith
 
@@ -94,11 +94,11 @@ resize-requires c = resizable (filling_3 c) c.args.held.now (room c)
 
 pub copy_into-requires : goal.copy_into-requires
 copy_into-requires c =
-     let w = within_2 c in
+    let w = within_2 c in
     let k = c.resize.auto.store in
     omega arith
 
 pub returns : goal.returns
 returns c =
-     filled (filling_4 c) c.args.held.now (room_2 c) _ _ _ (ap (λ (a : ℕ). a + 1) c.find-from.ensures)
+    filled (filling_4 c) c.args.held.now (room_2 c) _ _ _ (ap (λ (a : ℕ). a + 1) c.find-from.ensures)
     c.resize.ensures c.copy_into.ensures

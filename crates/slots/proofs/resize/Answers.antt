@@ -26,10 +26,10 @@ overflow_sub-end c = let f = section_2 c in let e = c.requires.ends in omega ari
 
 pub make_room-requires : goal.make_room-requires
 make_room-requires c =
-     tail_room c.args.store.now c.args.slot c.args.end c.args.size _ c.requires
+    tail_room c.args.store.now c.args.slot c.args.end c.args.size _ c.requires
     c.find-at.ensures
 
 pub returns : goal.returns
 returns c =
-     resized_words c.args.store.now c.args.slot c.args.end c.args.size _ c.requires c.find-at.ensures _
+    resized_words c.args.store.now c.args.slot c.args.end c.args.size _ c.requires c.find-at.ensures _
     c.make_room.ensures

@@ -46,7 +46,7 @@ loop-k-init c = walk_start _
 
 pub returns-then-not-section_valid : goal.returns-then-not-section_valid
 returns-then-not-section_valid c =
-     walk_stop c.loop-k.invariant (omega arith) (said_no c.section_valid.ensures c.if-not-section_valid.true)
+    walk_stop c.loop-k.invariant (omega arith) (said_no c.section_valid.ensures c.if-not-section_valid.true)
 
 pub overflow_add-end : goal.overflow_add-end
 overflow_add-end c = let f = inside c in omega arith

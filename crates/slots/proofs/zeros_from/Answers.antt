@@ -12,4 +12,4 @@ loop-i-preserved c = (omega arith, omega arith, collected_turn c.loop-i.invarian
 
 pub returns : goal.returns
 returns c =
-     collected_end c.loop-i.invariant.2 c.loop-i.invariant.0 c.loop-i.invariant.1 (omega arith)
+    collected_end c.loop-i.invariant.2 c.loop-i.invariant.0 c.loop-i.invariant.1 (omega arith)

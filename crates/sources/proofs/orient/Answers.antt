@@ -4,7 +4,7 @@ use Rattle.sources.proofs.orient.Goals as goal
 
 pub transpose-requires : goal.transpose-requires
 transpose-requires c =
- record {
+    record {
       fact_1 = c.requires.fact_1 c.if-flag.true;
       fact_2 = c.requires.fact_2;
     }

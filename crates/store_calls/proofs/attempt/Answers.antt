@@ -84,7 +84,7 @@ held_3 q = holding_of _ _ _ (found_6 q).store (none_applies_3 q)
 
 pub returns-then-end-eq0 : goal.returns-then-end-eq0
 returns-then-end-eq0 c =
-     operated_by _ (operation c) _ _ _ c.refused.ensures
+    operated_by _ (operation c) _ _ _ c.refused.ensures
     (operated_no_store _ (operation c) (no_store _ _ c.check-end.ensures c.if-end-eq0.true))
 
 pub roles_refusal-code-requires : goal.roles_refusal-code-requires
@@ -92,21 +92,21 @@ roles_refusal-code-requires c = (found c).store
 
 pub returns-then-code-ne0 : goal.returns-then-code-ne0
 returns-then-code-ne0 c =
-     let o = operation_2 c in
+    let o = operation_2 c in
     operated_by _ o _ _ _ c.refused-then-code-ne0.ensures
     (operated_refused _ o (found_2 c).valid _ (roles_first _ o _ _ c.roles_refusal-code.ensures c.if-code-ne0.true)
     c.if-code-ne0.true)
 
 pub evaluate-outcome-requires : goal.evaluate-outcome-requires
 evaluate-outcome-requires c =
- record {
+    record {
       fact_1 = (found_3 c).store;
       fact_2 = held c;
     }
 
 pub commit-requires : goal.commit-requires
 commit-requires c =
-     let d = rw c.in-Done.is at c.evaluate-outcome.ensures in
+    let d = rw c.in-Done.is at c.evaluate-outcome.ensures in
     let h = held_2 c in
     let f = found_4 c in
     record {
@@ -120,11 +120,11 @@ commit-requires c =
 
 pub returns-in-Refused : goal.returns-in-Refused
 returns-in-Refused c =
-     let d = rw c.in-Refused.is at c.evaluate-outcome.ensures in
+    let d = rw c.in-Refused.is at c.evaluate-outcome.ensures in
     let o = operation_4 c in
     operated_by _ o _ _ _ c.refused-in-Refused.ensures (operated_evaluated _ o (found_5 c).valid (none_applies_2 c) _ d)
 
 pub returns-in-Done : goal.returns-in-Done
 returns-in-Done c =
-     let d = rw c.in-Done.is at c.evaluate-outcome.ensures in
+    let d = rw c.in-Done.is at c.evaluate-outcome.ensures in
     operated_done _ (operation_5 c) (found_6 c).valid (none_applies_3 c) (held_3 c) _ _ d _ _ c.commit.ensures

@@ -61,9 +61,9 @@ slice_bounds-put-end c = sym (length-take-le (size c) c.args.work.now (size_ther
 
 pub put-requires : goal.put-requires
 put-requires c =
-     let t = length-take-le (size c) c.args.work.now (size_there c) in
+    let t = length-take-le (size c) c.args.work.now (size_there c) in
     let m = size_most _ _ _ c.requires.held c.requires.few (size_is c) in
- record {
+    record {
       sections_1 = c.requires.store.sections;
       sections_2 = c.requires.slot;
       end_value_1 = c.requires.ends;
@@ -73,7 +73,7 @@ put-requires c =
 
 pub returns-then-not-put : goal.returns-then-not-put
 returns-then-not-put c =
-     committed_refused _ _ _ _ _ (size_is_2 c) (size_there_2 c) c.put.ensures _ c.if-not-put.true
+    committed_refused _ _ _ _ _ (size_is_2 c) (size_there_2 c) c.put.ensures _ c.if-not-put.true
     c.refused.ensures
 
 pub returns : goal.returns

@@ -197,7 +197,7 @@ agreement_refusal-code-requires c = all_valid _ _ _ _ _ _ _ c.requires.fact_2 (l
 
 pub returns-then-code-ne0 : goal.returns-then-code-ne0
 returns-then-code-ne0 c =
-     evaluated_refused _ (operation c) _ _ _ _ c.requires.fact_2 (lent_2 c) _ c.agreement_refusal-code.ensures
+    evaluated_refused _ (operation c) _ _ _ _ c.requires.fact_2 (lent_2 c) _ c.agreement_refusal-code.ensures
     c.if-code-ne0.true
 
 pub compute-requires : goal.compute-requires
@@ -212,16 +212,16 @@ revision-requires c = rw c.contents-c.ensures.words c.requires.fact_2.output.mat
 
 pub set_revision-requires : goal.set_revision-requires
 set_revision-requires c =
-     let h = (checks_2 c).workspace in
+    let h = (checks_2 c).workspace in
     omega (arith, c.compute.auto.work)
 
 pub returns-in-Full : goal.returns-in-Full
 returns-in-Full c =
-     evaluated_full _ (operation_2 c) _ _ _ _ c.requires.fact_2 (lent_3 c) (none_applies c)
+    evaluated_full _ (operation_2 c) _ _ _ _ c.requires.fact_2 (lent_3 c) (none_applies c)
     (rw c.in-Full.is at c.compute.ensures)
 
 pub returns-in-Done : goal.returns-in-Done
 returns-in-Done c =
-     let f = computed_done _ _ _ c.in-Done.is c.compute.ensures in
+    let f = computed_done _ _ _ c.in-Done.is c.compute.ensures in
     evaluated_done _ (operation_3 c) _ _ _ _ c.requires.fact_2 (lent_4 c) (none_applies_2 c) _ _ _ _ f.0 f.1 f.2
     c.set_revision.ensures (c.next_revision.ensures ∙ ap next_revision c.revision.ensures)

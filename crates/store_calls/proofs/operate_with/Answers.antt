@@ -18,7 +18,7 @@ asked p = record {
 
 pub returns : goal.returns
 returns c =
- record {
-      fact_1 = performed_run _ (asked c) _ _ _ _ c.decode-call.ensures           c.roles_of-roles.ensures c.attempt-answer.ensures;
+    record {
+      fact_1 = performed_run _ (asked c) _ _ _ _ c.decode-call.ensures c.roles_of-roles.ensures c.attempt-answer.ensures;
       fact_2 = c.clear.ensures ∙ rw c.attempt-answer.auto.work;
     }

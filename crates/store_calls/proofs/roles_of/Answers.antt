@@ -4,6 +4,6 @@ use Rattle.store_calls.proofs.roles_of.Goals as goal
 
 pub returns : goal.returns
 returns c =
-     let x = c.args in
+    let x = c.args in
     roles_made x.call x.named _ _ _
     c.has_second.ensures c.choose.ensures c.choose-2.ensures

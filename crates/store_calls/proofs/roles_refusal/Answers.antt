@@ -19,12 +19,12 @@ returns-then-past-ne0 c = slot_refused _ _ _ _ c.slots_refusal-past.ensures c.if
 
 pub vacancy_refusal-vacancy-requires : goal.vacancy_refusal-vacancy-requires
 vacancy_refusal-vacancy-requires c =
- record {
+    record {
       fact_1 = c.requires;
       fact_2 = in_store _ (slots_are c);
     }
 
 pub returns : goal.returns
 returns c =
-     numbers_first _ _ _ (slots_are_2 c) _ _ _ c.numbers_refusal-number.ensures c.vacancy_refusal-vacancy.ensures
+    numbers_first _ _ _ (slots_are_2 c) _ _ _ c.numbers_refusal-number.ensures c.vacancy_refusal-vacancy.ensures
     c.first_of.ensures

@@ -9,19 +9,19 @@ returns-then-first-ge-SLOTS c = first_role invalid_store past c.args.roles (le-l
 
 pub returns-then-second-ge-SLOTS : goal.returns-then-second-ge-SLOTS
 returns-then-second-ge-SLOTS c =
-     second_role invalid_store past c.args.roles (lt-leb _ _ c.if-first-ge-SLOTS.false) (le-leb _ _ c.if-second-ge-SLOTS.true)
+    second_role invalid_store past c.args.roles (lt-leb _ _ c.if-first-ge-SLOTS.false) (le-leb _ _ c.if-second-ge-SLOTS.true)
 
 pub returns-then-mask-ge-SLOTS : goal.returns-then-mask-ge-SLOTS
 returns-then-mask-ge-SLOTS c =
-     mask_role invalid_store past c.args.roles (lt-leb _ _ c.if-first-ge-SLOTS.false) (lt-leb _ _ c.if-second-ge-SLOTS.false)
+    mask_role invalid_store past c.args.roles (lt-leb _ _ c.if-first-ge-SLOTS.false) (lt-leb _ _ c.if-second-ge-SLOTS.false)
     (le-leb _ _ c.if-mask-ge-SLOTS.true)
 
 pub returns-then-output-ge-SLOTS : goal.returns-then-output-ge-SLOTS
 returns-then-output-ge-SLOTS c =
-     output_role invalid_store past c.args.roles (lt-leb _ _ c.if-first-ge-SLOTS.false) (lt-leb _ _ c.if-second-ge-SLOTS.false)
+    output_role invalid_store past c.args.roles (lt-leb _ _ c.if-first-ge-SLOTS.false) (lt-leb _ _ c.if-second-ge-SLOTS.false)
     (lt-leb _ _ c.if-mask-ge-SLOTS.false) (le-leb _ _ c.if-output-ge-SLOTS.true)
 
 pub returns : goal.returns
 returns c =
-     no_role invalid_store past c.args.roles (lt-leb _ _ c.if-first-ge-SLOTS.false) (lt-leb _ _ c.if-second-ge-SLOTS.false)
+    no_role invalid_store past c.args.roles (lt-leb _ _ c.if-first-ge-SLOTS.false) (lt-leb _ _ c.if-second-ge-SLOTS.false)
     (lt-leb _ _ c.if-mask-ge-SLOTS.false) (lt-leb _ _ c.if-output-ge-SLOTS.false)

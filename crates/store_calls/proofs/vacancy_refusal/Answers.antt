@@ -41,24 +41,24 @@ returns-then-contents-eq0 c =
 
 pub returns-then-contents-eq0-2 : goal.returns-then-contents-eq0-2
 returns-then-contents-eq0-2 c =
-     let x = c.args in
+    let x = c.args in
     second_role empty_slot (empty x.store.now) x.roles (first_held c)
     (found_empty _ _ _ c.contents-2.ensures.words c.if-contents-eq0-2.true)
 
 pub returns-then-contents-eq0-3 : goal.returns-then-contents-eq0-3
 returns-then-contents-eq0-3 c =
-     let x = c.args in
+    let x = c.args in
     mask_role empty_slot (empty x.store.now) x.roles (first_held_2 c) (second_held c)
     (found_empty _ _ _ c.contents-3.ensures.words c.if-contents-eq0-3.true)
 
 pub returns-then-contents-eq0-4 : goal.returns-then-contents-eq0-4
 returns-then-contents-eq0-4 c =
-     let x = c.args in
+    let x = c.args in
     output_role empty_slot (empty x.store.now) x.roles (first_held_3 c) (second_held_2 c)
     (mask_held c) (found_empty _ _ _ c.contents-4.ensures.words c.if-contents-eq0-4.true)
 
 pub returns : goal.returns
 returns c =
-     let x = c.args in
+    let x = c.args in
     no_role empty_slot (empty x.store.now) x.roles (first_held_4 c) (second_held_3 c) (mask_held_2 c)
     (found_held _ _ _ c.contents-4.ensures.words c.if-contents-eq0-4.false)

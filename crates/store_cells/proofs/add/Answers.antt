@@ -50,7 +50,8 @@ fits_2 c =
           c.fits.ensures c.if-not-fits.false;
     }
 
-inside : (c : goal.After-find-from) →     c.find-from.result + 1 + (length c.contents-words.result.now + 2) ≤ length c.args.store.now
+inside : (c : goal.After-find-from) →
+    c.find-from.result + 1 + (length c.contents-words.result.now + 2) ≤ length c.args.store.now
 inside c = fits_inside (fits_2 c) c.find-from.result c.find-from.ensures
 
 fits : (c : goal.After-resize-arg-1) → let p = c.args in
@@ -79,7 +80,8 @@ fits_3 c =
           c.fits.ensures c.if-not-fits.false;
     }
 
-inside_2 : (c : goal.After-slice_known-2-1) →     c.find-from.result + 1 + (length c.contents-words.result.now + 2) ≤ length c.args.store.now
+inside_2 : (c : goal.After-slice_known-2-1) →
+    c.find-from.result + 1 + (length c.contents-words.result.now + 2) ≤ length c.args.store.now
 inside_2 c = fits_inside (fits_3 c) c.find-from.result c.find-from.ensures
 
 count_5 : (c : goal.After-insert_entry-arg-1)
@@ -113,7 +115,7 @@ fits_4 c =
 
 -- the slot is resized
 adding : (c : goal.After-insert_entry-arg-1) →
-let p = c.args in
+    let p = c.args in
     Adding p.store.now p.slot p.i p.j p.p p.end (length c.contents-words.result.now)
     (c.find-from.result + 1) c.resize.new.store
 adding c =
@@ -169,7 +171,7 @@ fits_5 c =
 
 -- the slot is resized
 adding_2 : (c : goal.After-accepted) →
-let p = c.args in
+    let p = c.args in
     Adding p.store.now p.slot p.i p.j p.p p.end (length c.contents-words.result.now)
     (c.find-from.result + 1) c.resize.new.store
 adding_2 c =
@@ -188,17 +190,17 @@ entry_count-n-requires c = rw c.contents-words.ensures.words c.requires.cell_of_
 
 pub returns-then-n-eq-MAX_ENTRIES : goal.returns-then-n-eq-MAX_ENTRIES
 returns-then-n-eq-MAX_ENTRIES c =
-     let m = count c in
+    let m = count c in
     rw c.refused.ensures (add_many c.requires.cell_of_1 c.args.p c.args.value c.requires.absent_at (omega arith))
 
 pub fits-requires : goal.fits-requires
 fits-requires c =
-     let m = c.requires.cell_of_1.held.matrix.header in
+    let m = c.requires.cell_of_1.held.matrix.header in
     let l = long c in
     let w = c.requires.cell_of_1.held.whole in
     let r = m.row_range.most in
     let n = m.few in
- record {
+    record {
       sections_1 = c.requires.cell_of_1.store.sections;
       sections_2 = c.requires.cell_of_1.slot;
       end_value_1 = c.requires.cell_of_2;
@@ -208,7 +210,7 @@ fits-requires c =
 
 pub returns-then-not-fits : goal.returns-then-not-fits
 returns-then-not-fits c =
-     let a = c.args in
+    let a = c.args in
     let n = length c.contents-words.result.now in
     rw c.refused-then-not-fits.ensures
     (add_no_room c.requires.cell_of_1 a.p a.value c.requires.absent_at a.end n (few c) c.requires.cell_of_2 (long_2 c)
@@ -239,12 +241,12 @@ insert_entry-requires c =
 
 pub overflow_add-n : goal.overflow_add-n
 overflow_add-n c =
-     let n = count_2 c in
+    let n = count_2 c in
     let f = few_2 c in
     omega arith
 
 pub returns : goal.returns
 returns c =
-     rw c.accepted.ensures
+    rw c.accepted.ensures
     (added_placed (adding_2 c) c.args.value _ _ (ap (λ (n : ℕ). n + 1) (count_3 c))
     c.insert_entry.ensures)

@@ -107,23 +107,23 @@ bounds-words-3 c =
 
 pub returns-then-words-i : goal.returns-then-words-i
 returns-then-words-i c =
-     let r = rows_are c in
+    let r = rows_are c in
     row_refused _ _ _ _ (omega arith) (some_words c) (omega arith)
 
 pub bounds-words-4 : goal.bounds-words-4
 bounds-words-4 c =
-     let h = held_2 c in
+    let h = held_2 c in
     let w = ap length (words_are_3 c) in
     omega arith
 
 pub returns-then-words-j : goal.returns-then-words-j
 returns-then-words-j c =
-     let r = rows_are_2 c in
+    let r = rows_are_2 c in
     let q = cols_are c in
     col_refused _ _ _ _ (omega arith) (some_words_2 c) (omega arith) (omega arith)
 
 pub returns : goal.returns
 returns c =
-     let r = rows_are_3 c in
+    let r = rows_are_3 c in
     let q = cols_are_2 c in
     cell_there _ _ _ _ (omega arith) (some_words_3 c) (omega arith) (omega arith)

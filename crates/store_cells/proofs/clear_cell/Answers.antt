@@ -80,7 +80,7 @@ cell_refusal-code-requires c = (store c).store
 
 pub returns-then-code-ne0 : goal.returns-then-code-ne0
 returns-then-code-ne0 c =
-     rw c.refused-then-code-ne0.ensures
+    rw c.refused-then-code-ne0.ensures
     (clear_refused _ _ _ _ (store_2 c).valid _ c.cell_refusal-code.ensures c.if-code-ne0.true)
 
 pub contents-requires : goal.contents-requires
@@ -93,14 +93,14 @@ contents-requires c =
 pub entry_at-found-requires : goal.entry_at-found-requires
 entry_at-found-requires c =
     let h = (there_2 c).cell in
-    rw c.contents.ensures.words (h.held.matrix, h.row)
+    rw c.contents.ensures.words record { fact_1 = h.held.matrix; fact_2 = h.row }
 
 pub touch-requires : goal.touch-requires
 touch-requires c =
-     let h = there_3 c in
+    let h = there_3 c in
     let e = absent_found h.cell c.contents.ensures.words c.entry_at-found.ensures.fact_1
     c.in_default.is c.position_of.ensures in
- record {
+    record {
       fact_1 = h.cell;
       fact_2 = e;
     }
@@ -110,9 +110,9 @@ returns-in_default c = clear_performed (there_4 c) _ _ c.touch.ensures
 
 pub take-requires : goal.take-requires
 take-requires c =
-     let h = there_5 c in
+    let h = there_5 c in
     let e = present_in h.cell c.contents.ensures.words c.entry_at-found.ensures.fact_1 c.in-Present.is in
- record {
+    record {
       cell_of_1 = h.cell;
       cell_of_2 = h.checked.ends;
       present_at = e;

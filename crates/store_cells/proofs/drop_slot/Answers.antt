@@ -37,6 +37,6 @@ resize-requires c =
 
 pub returns : goal.returns
 returns c =
-     let p = c.args in
+    let p = c.args in
     rw c.accepted.ensures
     (drop_performed (store_3 c).valid _ (omega arith) (c.resize.ensures ∙ none_resized p.store.now p.slot))

@@ -38,9 +38,9 @@ slice_bounds-put-end c = sym (held_size c)
 
 pub put-requires : goal.put-requires
 put-requires c =
-     let l = held_size c in
+    let l = held_size c in
     let r = c.requires.rows in
- record {
+    record {
       sections_1 = c.requires.store.sections;
       sections_2 = c.requires.slot;
       end_value_1 = c.requires.ends;

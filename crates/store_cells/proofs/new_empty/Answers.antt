@@ -43,7 +43,7 @@ returns-then-end-eq0 c =
 
 pub returns-then-code-ne0 : goal.returns-then-code-ne0
 returns-then-code-ne0 c =
-     rw c.refused-then-code-ne0.ensures
+    rw c.refused-then-code-ne0.ensures
     (lay_refused _ _ _ _ (store c).valid _ c.shape_refusal-code.ensures c.if-code-ne0.true)
 
 pub lay-requires : goal.lay-requires
@@ -51,10 +51,10 @@ lay-requires c = layable _ _ _ _ _ (store_2 c) (shaped c)
 
 pub returns-then-not-lay : goal.returns-then-not-lay
 returns-then-not-lay c =
-     rw c.refused-then-not-lay.ensures
+    rw c.refused-then-not-lay.ensures
     (lay_no_room _ _ _ _ (store_3 c) (shaped_2 c) c.if-not-lay.true c.lay.ensures)
 
 pub returns : goal.returns
 returns c =
-     rw c.accepted.ensures
+    rw c.accepted.ensures
     (lay_performed _ _ _ _ (store_4 c) (shaped_3 c) c.if-not-lay.false c.lay.ensures)

@@ -56,7 +56,7 @@ cell_refusal-code-requires c = (store c).store
 
 pub returns-then-code-ne0 : goal.returns-then-code-ne0
 returns-then-code-ne0 c =
-     ap found c.refused-then-code-ne0.ensures
+    ap found c.refused-then-code-ne0.ensures
     ∙ read_refused _ _ _ _ (store_2 c).valid _ c.cell_refusal-code.ensures c.if-code-ne0.true
 
 pub contents-requires : goal.contents-requires
@@ -67,11 +67,11 @@ contents-requires c =
     }
 
 pub entry_at-found-requires : goal.entry_at-found-requires
-entry_at-found-requires c = let h = (there_2 c).cell in rw c.contents.ensures.words (h.held.matrix, h.row)
+entry_at-found-requires c = let h = (there_2 c).cell in rw c.contents.ensures.words record { fact_1 = h.held.matrix; fact_2 = h.row }
 
 pub returns : goal.returns
 returns c =
-     let p = c.args in
+    let p = c.args in
     ap found (c.found.ensures ∙ ap found_answer (c.entry_at-found.ensures.fact_1
     ∙ ap (λ (x : List ℕ). entry_at (grid_of x) p.i p.j) c.contents.ensures.words))
     ∙ read_found _ _ _ _ (there_3 c)

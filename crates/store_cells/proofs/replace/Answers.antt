@@ -44,11 +44,11 @@ slice_bounds-replace_value-end c = let i = inside c in omega arith
 
 pub replace_value-requires : goal.replace_value-requires
 replace_value-requires c =
-     rw (slot_lent c.requires.fact_1 _ _ (ap (λ (a : ℕ). a + 1) c.find-from.ensures) (long c)) (slot_in c.requires.fact_1, c.requires.fact_2)
+    rw (slot_lent c.requires.fact_1 _ _ (ap (λ (a : ℕ). a + 1) c.find-from.ensures) (long c)) record { fact_1 = slot_in c.requires.fact_1; fact_2 = c.requires.fact_2 }
 
 pub returns : goal.returns
 returns c =
-     rw c.accepted.ensures
+    rw c.accepted.ensures
     (replaced_placed c.requires.fact_1 c.args.p c.args.value c.requires.fact_2 _ _ _ _
     (ap (λ (a : ℕ). a + 1) c.find-from.ensures) (long_2 c)
     (c.entry_count-n.ensures ∙ ap entries c.contents-words.ensures.words) c.replace_value.ensures)

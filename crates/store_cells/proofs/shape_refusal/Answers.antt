@@ -24,8 +24,8 @@ returns-then-not-in_range c = rows_refused _ _ _ (omega arith) (said_no c.in_ran
 
 pub returns-then-not-in_range-2 : goal.returns-then-not-in_range-2
 returns-then-not-in_range-2 c =
-     cols_refused _ _ _ (omega arith) (rows_held c) (said_no c.in_range-2.ensures c.if-not-in_range-2.true)
+    cols_refused _ _ _ (omega arith) (rows_held c) (said_no c.in_range-2.ensures c.if-not-in_range-2.true)
 
 pub returns : goal.returns
 returns c =
-     shape_there _ _ _ (omega arith) (rows_held_2 c) (said_yes c.in_range-2.ensures c.if-not-in_range-2.false)
+    shape_there _ _ _ (omega arith) (rows_held_2 c) (said_yes c.in_range-2.ensures c.if-not-in_range-2.false)

@@ -32,7 +32,7 @@ long_2 c = ap length c.contents-words.ensures.words
 
 -- the entry is removed
 removed : (c : goal.After-resize-arg-1) →
-let p = c.args in
+    let p = c.args in
     Removed p.store.now p.slot p.i p.j p.p p.end (length c.contents-words.result.now)
     (c.find-from.result + 1) c.remove_entry.new.words
 removed c =
@@ -62,7 +62,7 @@ long_4 c = ap length c.contents-words.ensures.words
 
 -- the entry is removed
 removed_2 : (c : goal.After-accepted) →
-let p = c.args in
+    let p = c.args in
     Removed p.store.now p.slot p.i p.j p.p p.end (length c.contents-words.result.now)
     (c.find-from.result + 1) c.remove_entry.new.words
 removed_2 c =
@@ -92,11 +92,11 @@ slice_bounds-remove_entry-end c = let i = inside c in omega arith
 
 pub remove_entry-requires : goal.remove_entry-requires
 remove_entry-requires c =
-     rw (slot_lent c.requires.cell_of_1 _ _ (ap (λ (a : ℕ). a + 1) c.find-from.ensures) (long c)) (slot_in c.requires.cell_of_1, c.requires.present_at)
+    rw (slot_lent c.requires.cell_of_1 _ _ (ap (λ (a : ℕ). a + 1) c.find-from.ensures) (long c)) record { fact_1 = slot_in c.requires.cell_of_1; fact_2 = c.requires.present_at }
 
 pub overflow_sub-size : goal.overflow_sub-size
 overflow_sub-size c =
-     let l = long_2 c in
+    let l = long_2 c in
     let w = c.requires.cell_of_1.held.whole in
     omega arith
 
@@ -105,13 +105,13 @@ resize-requires c = taken_fits (removed c)
 
 pub overflow_sub-n : goal.overflow_sub-n
 overflow_sub-n c =
-     let m = count c in
+    let m = count c in
     let t = taken_count (slot_in c.requires.cell_of_1) _ c.requires.present_at in
     omega arith
 
 pub returns : goal.returns
 returns c =
-     let m = count_2 c in
+    let m = count_2 c in
     let t = taken_count (slot_in c.requires.cell_of_1) c.args.p c.requires.present_at in
     record {
       answer_is = c.accepted.ensures ∙ ap accepted (omega arith);

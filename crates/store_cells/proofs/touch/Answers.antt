@@ -45,11 +45,11 @@ slice_bounds-touch-end c = let i = inside c in omega arith
 
 pub touch-requires : goal.touch-requires
 touch-requires c =
-     let w = c.requires.fact_1.held.whole in
+    let w = c.requires.fact_1.held.whole in
     rw (slot_lent c.requires.fact_1 _ _ (ap (λ (a : ℕ). a + 1) c.find-from.ensures) (long c)) (omega arith)
 
 pub returns : goal.returns
 returns c =
-     cleared_put c.requires.fact_1 c.args.p _ _ _ _ c.requires.fact_2 c.accepted.ensures
+    cleared_put c.requires.fact_1 c.args.p _ _ _ _ c.requires.fact_2 c.accepted.ensures
     (c.entry_count-n.ensures ∙ ap entries c.contents-words.ensures.words)
     (ap (λ (a : ℕ). a + 1) c.find-from.ensures) (long_2 c) c.touch.ensures

@@ -40,7 +40,8 @@ call_3 p =
     asked p.args.target p.args.monoid p.args.op p.args.text.now (length p.args.stack.now)
 
 -- past the second none of the early refusals applies
-early : (q : goal.After-evaluate-arg-1) →     first_applying (early_cases (model_of q.args.store.now) (call_3 q)) ≡ 0
+early : (q : goal.After-evaluate-arg-1) →
+    first_applying (early_cases (model_of q.args.store.now) (call_3 q)) ≡ 0
 early q = sym q.early_refusal-code.ensures ∙ q.if-code-ne0.false
 
 -- past the first test the words are a store
@@ -54,7 +55,8 @@ call_4 p =
     asked p.args.target p.args.monoid p.args.op p.args.text.now (length p.args.stack.now)
 
 -- past the second none of the early refusals applies
-early_2 : (q : goal.After-commit-arg-1) →     first_applying (early_cases (model_of q.args.store.now) (call_4 q)) ≡ 0
+early_2 : (q : goal.After-commit-arg-1) →
+    first_applying (early_cases (model_of q.args.store.now) (call_4 q)) ≡ 0
 early_2 q = sym q.early_refusal-code.ensures ∙ q.if-code-ne0.false
 
 -- past the first test the words are a store
@@ -68,7 +70,8 @@ call_5 p =
     asked p.args.target p.args.monoid p.args.op p.args.text.now (length p.args.stack.now)
 
 -- past the second none of the early refusals applies
-early_3 : (q : goal.After-slice_known-in-Ends-1) →     first_applying (early_cases (model_of q.args.store.now) (call_5 q)) ≡ 0
+early_3 : (q : goal.After-slice_known-in-Ends-1) →
+    first_applying (early_cases (model_of q.args.store.now) (call_5 q)) ≡ 0
 early_3 q = sym q.early_refusal-code.ensures ∙ q.if-code-ne0.false
 
 -- past the first test the words are a store
@@ -82,12 +85,13 @@ call_6 p =
     asked p.args.target p.args.monoid p.args.op p.args.text.now (length p.args.stack.now)
 
 -- past the second none of the early refusals applies
-early_4 : (q : goal.After-refused-in-Refused) →     first_applying (early_cases (model_of q.args.store.now) (call_6 q)) ≡ 0
+early_4 : (q : goal.After-refused-in-Refused) →
+    first_applying (early_cases (model_of q.args.store.now) (call_6 q)) ≡ 0
 early_4 q = sym q.early_refusal-code.ensures ∙ q.if-code-ne0.false
 
 pub returns-then-end-eq0 : goal.returns-then-end-eq0
 returns-then-end-eq0 c =
-     formula_by c.args.store.now (call c) _ _ _ c.refused.ensures
+    formula_by c.args.store.now (call c) _ _ _ c.refused.ensures
     (formula_no_store c.args.store.now (call c) (unchecked _ _ c.check-end.ensures c.if-end-eq0.true))
 
 pub early_refusal-code-requires : goal.early_refusal-code-requires
@@ -95,19 +99,19 @@ early_refusal-code-requires c = (found c).store
 
 pub returns-then-code-ne0 : goal.returns-then-code-ne0
 returns-then-code-ne0 c =
-     let f = found_2 c in
+    let f = found_2 c in
     formula_by c.args.store.now (call_2 c) _ _ _ c.refused-then-code-ne0.ensures
     (formula_early c.args.store.now (call_2 c) f.valid _ c.early_refusal-code.ensures c.if-code-ne0.true)
 
 pub evaluate-outcome-requires : goal.evaluate-outcome-requires
 evaluate-outcome-requires c =
-     let f = found_3 c in
+    let f = found_3 c in
     let z = early c in
     evaluable c.args.store.now (call_3 c) f.valid z c.args.stack.now refl
 
 pub commit-requires : goal.commit-requires
 commit-requires c =
-     let f = found_4 c in
+    let f = found_4 c in
     let z = early_2 c in
     let d = rw c.in-Ends.is at
     c.evaluate-outcome.ensures in
@@ -120,7 +124,7 @@ commit-requires c =
 
 pub returns-in-Ends : goal.returns-in-Ends
 returns-in-Ends c =
-     let f = found_5 c in
+    let f = found_5 c in
     let z = early_3 c in
     let d = rw c.in-Ends.is at
     c.evaluate-outcome.ensures in
@@ -134,7 +138,7 @@ returns-in-Missing c =
 
 pub returns-in-Refused : goal.returns-in-Refused
 returns-in-Refused c =
-     let f = found_6 c in
+    let f = found_6 c in
     let z = early_4 c in
     let d = rw c.in-Refused.is at
     c.evaluate-outcome.ensures in

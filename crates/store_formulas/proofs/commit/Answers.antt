@@ -54,9 +54,9 @@ slice_bounds-put-end c = sym (length-take-le (size c) c.args.stack.now (there c)
 
 pub put-requires : goal.put-requires
 put-requires c =
-     let t = length-take-le (size c) c.args.stack.now (there c) in
+    let t = length-take-le (size c) c.args.stack.now (there c) in
     let m = size_small c.requires.some_grid.1 in
- record {
+    record {
       sections_1 = c.requires.store.sections;
       sections_2 = c.requires.slot;
       end_value_1 = c.requires.ends;
@@ -66,10 +66,10 @@ put-requires c =
 
 pub returns-then-not-put : goal.returns-then-not-put
 returns-then-not-put c =
-     committed_refused _ _ _ _ (size_counted_2 c) c.put.ensures _ c.if-not-put.true
+    committed_refused _ _ _ _ (size_counted_2 c) c.put.ensures _ c.if-not-put.true
     c.refused.ensures
 
 pub returns : goal.returns
 returns c =
-     committed _ _ _ _ (size_counted_3 c) c.put.ensures _ c.entry_count-n.ensures
+    committed _ _ _ _ (size_counted_3 c) c.put.ensures _ c.entry_count-n.ensures
     c.if-not-put.false

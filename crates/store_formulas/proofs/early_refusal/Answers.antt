@@ -34,19 +34,19 @@ call_6 p = asked p.args.target p.args.monoid p.args.op p.args.text.now p.args.st
 
 pub returns-then-target-ge-SLOTS : goal.returns-then-target-ge-SLOTS
 returns-then-target-ge-SLOTS c =
-     let m = model_of c.args.store.now in
+    let m = model_of c.args.store.now in
     let x = call c in
     early_slot m x c.if-target-ge-SLOTS.true
 
 pub returns-then-not-semiring_known : goal.returns-then-not-semiring_known
 returns-then-not-semiring_known c =
-     let m = model_of c.args.store.now in
+    let m = model_of c.args.store.now in
     let x = call_2 c in
     early_numbers m x c.if-target-ge-SLOTS.false (said_no c.semiring_known.ensures c.if-not-semiring_known.true)
 
 pub returns-then-not-accepts : goal.returns-then-not-accepts
 returns-then-not-accepts c =
-     let m = model_of c.args.store.now in
+    let m = model_of c.args.store.now in
     let x = call_3 c in
     early_text m x c.if-target-ge-SLOTS.false
     (said_yes c.semiring_known.ensures c.if-not-semiring_known.false)
@@ -54,7 +54,7 @@ returns-then-not-accepts c =
 
 pub returns-then-not-all_held : goal.returns-then-not-all_held
 returns-then-not-all_held c =
-     let m = model_of c.args.store.now in
+    let m = model_of c.args.store.now in
     let x = call_4 c in
     early_empty m x c.if-target-ge-SLOTS.false
     (said_yes c.semiring_known.ensures
@@ -65,7 +65,7 @@ returns-then-not-all_held c =
 
 pub returns-then-stack-lt-MIN_STACK_WORDS : goal.returns-then-stack-lt-MIN_STACK_WORDS
 returns-then-stack-lt-MIN_STACK_WORDS c =
-     let m = model_of c.args.store.now in
+    let m = model_of c.args.store.now in
     let x = call_5 c in
     early_stack m x c.if-target-ge-SLOTS.false
     (said_yes c.semiring_known.ensures
@@ -77,7 +77,7 @@ returns-then-stack-lt-MIN_STACK_WORDS c =
 
 pub returns : goal.returns
 returns c =
-     let m = model_of c.args.store.now in
+    let m = model_of c.args.store.now in
     let x = call_6 c in
     early_none m x c.if-target-ge-SLOTS.false
     (said_yes c.semiring_known.ensures

@@ -20,7 +20,7 @@ formula-requires c =
 
 pub returns : goal.returns
 returns c =
-     evaluated c.requires (sym
+    evaluated c.requires (sym
     c.monoid_code-adding.ensures
     ∙ c.in-Known.is)
     (sym c.binary_code-multiplying.ensures

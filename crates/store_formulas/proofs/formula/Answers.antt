@@ -4,7 +4,7 @@ use Rattle.store_formulas.proofs.formula.Goals as goal
 
 pub returns : goal.returns
 returns c =
- record {
+    record {
       fact_1 = c.attempt-answer.ensures;
       fact_2 = c.clear.ensures ∙ rw c.attempt-answer.auto.stack;
     }

@@ -6,7 +6,7 @@ use Rattle.store_formulas.proofs.semiring_known.Goals as goal
 pub returns-in-Known-binary_code : goal.returns-in-Known-binary_code
 unfolding ◌and◌
 returns-in-Known-binary_code c =
-     rw (
+    rw (
       sym c.monoid_code.ensures ∙ c.in-Known.is,
       sym c.binary_code.ensures
           ∙ c.in-Known-binary_code.is,
@@ -16,7 +16,7 @@ returns-in-Known-binary_code c =
 pub returns-in-Unknown-binary_code : goal.returns-in-Unknown-binary_code
 unfolding ◌and◌
 returns-in-Unknown-binary_code c =
-     rw (
+    rw (
       sym c.monoid_code.ensures ∙ c.in-Known.is,
       sym c.binary_code.ensures
           ∙ c.in-Unknown-binary_code.is,

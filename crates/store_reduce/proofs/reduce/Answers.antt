@@ -32,7 +32,7 @@ returns-then-slot-ge-SLOTS c =
 
 pub slot_total-requires : goal.slot_total-requires
 slot_total-requires c =
- record {
+    record {
       fact_1 = (held_2 c).store;
       fact_2 = c.if-slot-ge-SLOTS.false;
     }

@@ -5,11 +5,11 @@ use Rattle.products.proofs.by_entries.add_at.Goals as goal
 
 pub returns-then-mark-eq0 : goal.returns-then-mark-eq0
 returns-then-mark-eq0 c =
-     let a = c.args in
+    let a = c.args in
     added_first a.monoid a.product a.sums.now
     (sym c.mark_at-mark.ensures ∙ c.if-mark-eq0.true) c.mark_column.ensures
 
 pub returns : goal.returns
 returns c =
-     added_later c.args.monoid c.args.product c.args.sums.now c.requires.fact_2 c.mark_at-mark.ensures
+    added_later c.args.monoid c.args.product c.args.sums.now c.requires.fact_2 c.mark_at-mark.ensures
     c.if-mark-eq0.false c.add_product-sum.ensures

@@ -13,7 +13,7 @@ returns-then-columns-eq0 c =
 
 pub sum_rows-top-requires : goal.sum_rows-top-requires
 sum_rows-top-requires c =
- record {
+    record {
       row_1 = c.requires.row_1;
       row_2 = c.requires.row_2;
       carries_1 = carries_none _;
@@ -22,7 +22,7 @@ sum_rows-top-requires c =
 
 pub collect-requires : goal.collect-requires
 collect-requires c =
- record {
+    record {
       fact_1 = c.sum_rows-top.ensures.tracked;
       fact_2 = product_room _ _ _ _ c.requires.row_2 c.sum_rows-top.ensures c.requires.b_in_bounds.0 (omega (arith, c.requires.b_in_bounds.1, c.ov-1.given));
     }

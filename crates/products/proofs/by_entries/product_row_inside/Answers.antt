@@ -8,7 +8,7 @@ use Rattle.products.proofs.ByEntries.{inside_empty, carries_inside, inside_room,
 use Rattle.products.proofs.by_entries.product_row_inside.Goals as goal
 
 -- the sums inside the mask
-inside : (c : goal.After-collect-arg-2-1) →     let a = c.args in
+inside : (c : goal.After-collect-arg-2-1) → let a = c.args in
     Carries (inside_row a.w (lookup a.mc.now a.mv.now)
     (product_row a.monoid a.op (lookup a.columns.now a.values.now) a.b.now))
     c.sum_rows-top.result c.keep_inside.new.map c.sum_rows-top.new.sums
@@ -16,7 +16,7 @@ inside c =
     carries_inside c.sum_rows-top.ensures c.keep_inside.ensures
 
 -- the sums inside the mask
-inside_2 : (c : goal.After-slice_known-5-1) →     let a = c.args in
+inside_2 : (c : goal.After-slice_known-5-1) → let a = c.args in
     Carries (inside_row a.w (lookup a.mc.now a.mv.now)
     (product_row a.monoid a.op (lookup a.columns.now a.values.now) a.b.now))
     c.sum_rows-top.result c.keep_inside.new.map c.sum_rows-top.new.sums
@@ -30,7 +30,7 @@ returns-then-columns-eq0 c =
 
 pub sum_rows-top-requires : goal.sum_rows-top-requires
 sum_rows-top-requires c =
- record {
+    record {
       row_1 = c.requires.row_1;
       row_2 = c.requires.row_2;
       carries_1 = carries_none _;
@@ -39,16 +39,16 @@ sum_rows-top-requires c =
 
 pub keep_inside-requires : goal.keep_inside-requires
 keep_inside-requires c =
- record {
+    record {
       fact_1 = c.requires.under_mask;
       fact_2 = c.sum_rows-top.ensures.tracked.size;
     }
 
 pub collect-requires : goal.collect-requires
 collect-requires c =
-     let s = inside c in
+    let s = inside c in
     let ov = c.ov-1.given in
- record {
+    record {
       fact_1 = s.tracked;
       fact_2 = inside_room _ _ _ _ c.requires.row_2 _ _ s c.requires.b_in_bounds.0 (omega (arith, c.requires.b_in_bounds.1, ov));
     }

@@ -51,7 +51,7 @@ apply_binary-product-requires c = tt
 
 pub add_at-used-requires : goal.add_at-used-requires
 add_at-used-requires c =
- record {
+    record {
       fact_1 = (place_2 c, in_sums c);
       fact_2 = c.loop-p.invariant.tracked;
     }
@@ -64,7 +64,7 @@ loop-p-smaller c = omega (arith, c.loop-p-test.true)
 
 pub loop-p-preserved : goal.loop-p-preserved
 loop-p-preserved c =
-     placing_step c.requires.row_1 c.loop-p.invariant c.loop-p-test.true (in_sums_2 c)
+    placing_step c.requires.row_1 c.loop-p.invariant c.loop-p-test.true (in_sums_2 c)
     c.apply_binary-product.ensures c.add_at-used.ensures
 
 pub shape_of-sums : goal.shape_of-sums

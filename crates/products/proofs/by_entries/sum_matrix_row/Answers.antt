@@ -4,8 +4,8 @@ use Rattle.products.proofs.by_entries.sum_matrix_row.Goals as goal
 
 pub sum_row-requires : goal.sum_row-requires
 sum_row-requires c =
-     rw (c.row_columns.ensures.words, c.row_values.ensures.words)
- record {
+    rw (c.row_columns.ensures.words, c.row_values.ensures.words)
+    record {
       row_1 = c.requires.header_3;
       row_2 = c.requires.row_1;
       tracked = c.requires.row_2;

@@ -33,7 +33,7 @@ bounds-values-p c = omega (arith, c.requires.row_1.even)
 
 pub sum_matrix_row-top-requires : goal.sum_matrix_row-top-requires
 sum_matrix_row-top-requires c =
-     let h = c.loop-p.invariant in record {
+    let h = c.loop-p.invariant in record {
       header_1 = c.requires.row_2.header;
       header_2 = row_span _ c.requires.row_2.starts _ (named c);
       header_3 = matrix_row _ c.requires.row_2 _ (named c);
@@ -49,7 +49,7 @@ loop-p-smaller c = omega (arith, c.loop-p-test.true)
 
 pub loop-p-preserved : goal.loop-p-preserved
 loop-p-preserved c =
-     totalling_step c.requires.row_1 c.loop-p.invariant c.loop-p-test.true c.sums-1.given
+    totalling_step c.requires.row_1 c.loop-p.invariant c.loop-p-test.true c.sums-1.given
     c.sum_matrix_row-top.ensures
 
 pub shape_of-sums : goal.shape_of-sums
