@@ -5,10 +5,10 @@
 -- store, by name: `Reads.Learnt` is what a caller learns when it returns.
 use Rattle.std.specs.Prelude.{ℕ, ◌≡◌, false, List, [], ◌∷◌}
 use contract.Lifetimes.{Lfts}
-use Rattle.std.specs.Borrow.{Bor}
+use Rattle.std.specs.Borrow.{Bor, MutBor}
 use borrow.Fn.Picked.{KnownAs}
 use Rattle.answers.specs.declared.Answer.{Answer}
-use Rattle.words.specs.Lent.{Address, lent}
+use Rattle.words.specs.Lent.{Address, lent, lent_mut}
 use Rattle.grid.specs.Grid.{Same}
 use Rattle.matrix.specs.Layout.{grid_of}
 use Rattle.call_codes.specs.declared.Options.{Options}
@@ -34,8 +34,8 @@ pub data Accepted (verb : Verb) (a is js c c' : List ℕ) : Type 0 where
   accepted_call : (number : ℕ) (b mask : Bor (List ℕ)) (work work' : List ℕ) (p q r x y : Address) (κs : Lfts 6)
       (answer : Answer)
       → operate_reads.Learnt κs
-      (plainly number, (verb, (lent p a, (b, (mask, (lent x is, (lent y js, (lent q c, (lent r work, tt))))))))) answer
-      (plainly number, (verb, (lent p a, (b, (mask, (lent x is, (lent y js, (lent q c', (lent r work', tt)))))))))
+      (plainly number, (verb, (lent p a, (b, (mask, (lent x is, (lent y js, (lent_mut q c, (lent_mut r work, tt))))))))) answer
+      (plainly number, (verb, (lent p a, (b, (mask, (lent x is, (lent y js, (lent_mut q c', (lent_mut r work', tt)))))))))
       → answer.code ≡ 0 → Accepted verb a is js c c'
 
 -- The same on a store: the slot of the first input, that of C, and what else the call is given and does not look at.
@@ -58,7 +58,7 @@ pub record ReadBack : Type 3 where
   pub met : {M : Type 1} → operate_statement.statement M
   pub known : KnownAs 6 operate_kinds.ps operate_kinds.r operate_reads.Ghost operate_reads.requires
       operate_reads.ensures operate_reads.Asked operate_reads.Learnt
-  pub free : (κs : Lfts 6) (a b m is js c w : Bor (List ℕ)) (o : Options) (verb : Verb)
+  pub free : (κs : Lfts 6) (a b m is js : Bor (List ℕ)) (c w : MutBor (List ℕ)) (o : Options) (verb : Verb)
       → operate_reads.Asked κs (o, (verb, (a, (b, (m, (is, (js, (c, (w, tt)))))))))
   -- A into C at the lists, then the listed places of C into D: D's grid is A's
   pub lent_back : {a c c' d d' is js : List ℕ} → Accepted Assign a is js c c' → Accepted Extract c' is js d d'

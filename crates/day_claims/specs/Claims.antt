@@ -3,11 +3,11 @@
 -- `Statement.statement` says that the code returns, does nothing undefined and ends as its contract says.
 use Rattle.std.specs.Prelude.{ℕ, ◌<◌, ◌≡◌, List}
 use contract.Lifetimes.{Lfts}
-use Rattle.std.specs.Borrow.{Bor}
+use Rattle.std.specs.Borrow.{Bor, MutBor}
 use borrow.Fn.Picked.{KnownAs}
 use Rattle.answers.specs.declared.Answer.{Answer}
 use Rattle.answers.specs.declared.CellAnswer.{CellAnswer}
-use Rattle.words.specs.Lent.{Address, lent}
+use Rattle.words.specs.Lent.{Address, lent, lent_mut}
 use Rattle.grid.specs.declared.Cell.{Cell}
 use Rattle.grid.specs.Grid.{Grid}
 use Rattle.matrix.specs.Layout.{rows, cols, grid_of}
@@ -38,13 +38,13 @@ pub record Places : Type 0 where
 -- What the contracts tell a caller. Of rewriting row i by the words `new`, and of taking it back:
 abbrev pub RewriteTold : Lfts 3 → Places → List ℕ → List ℕ → ℕ → List ℕ → Answer → List ℕ → List ℕ → Type 0
 RewriteTold κs p day marks i new answer day' marks' =
-    rewrite_reads.Learnt κs (lent p.day day, (lent p.marks marks, (i, (lent p.other new, tt)))) answer
-    (lent p.day day', (lent p.marks marks', (i, (lent p.other new, tt))))
+    rewrite_reads.Learnt κs (lent_mut p.day day, (lent_mut p.marks marks, (i, (lent p.other new, tt)))) answer
+    (lent_mut p.day day', (lent_mut p.marks marks', (i, (lent p.other new, tt))))
 
 abbrev pub BackTold : Lfts 2 → Places → List ℕ → List ℕ → ℕ → Answer → List ℕ → List ℕ → Type 0
 BackTold κs p day marks i answer day' marks' =
-    back_reads.Learnt κs (lent p.day day, (lent p.marks marks, (i, tt))) answer
-    (lent p.day day', (lent p.marks marks', (i, tt)))
+    back_reads.Learnt κs (lent_mut p.day day, (lent_mut p.marks marks, (i, tt))) answer
+    (lent_mut p.day day', (lent_mut p.marks marks', (i, tt)))
 
 -- of reading a cell through the pair, and of folding into `out`
 abbrev pub ReadTold : Lfts 2 → Places → List ℕ → List ℕ → List ℕ → ℕ → ℕ → CellAnswer → Type 0
@@ -54,8 +54,8 @@ ReadTold κs p base day marks i j answer =
 
 abbrev pub FoldTold : Lfts 3 → Places → List ℕ → List ℕ → List ℕ → List ℕ → Answer → List ℕ → Type 0
 FoldTold κs p base day marks out answer out' =
-    fold_reads.Learnt κs (lent p.base base, (lent p.day day, (lent p.marks marks, (lent p.other out, tt))))
-    answer (lent p.base base, (lent p.day day, (lent p.marks marks, (lent p.other out', tt))))
+    fold_reads.Learnt κs (lent p.base base, (lent p.day day, (lent p.marks marks, (lent_mut p.other out, tt))))
+    answer (lent p.base base, (lent p.day day, (lent p.marks marks, (lent_mut p.other out', tt))))
 
 -- "Folding gives in each place what reading through the pair gives": a read of the folded matrix, and one of the pair
 abbrev pub Folding : Type 0
@@ -123,12 +123,12 @@ pub record Claims : Type 3 where
       read_reads.Asked read_reads.Learnt
   pub fold_known : KnownAs 3 fold_kinds.ps fold_kinds.r fold_reads.Ghost fold_reads.requires fold_reads.ensures
       fold_reads.Asked fold_reads.Learnt
-  pub rewrite_free : (κs : Lfts 3) (day marks : Bor (List ℕ)) (i : ℕ) (row : Bor (List ℕ))
+  pub rewrite_free : (κs : Lfts 3) (day marks : MutBor (List ℕ)) (i : ℕ) (row : Bor (List ℕ))
       → rewrite_reads.Asked κs (day, (marks, (i, (row, tt))))
-  pub back_free : (κs : Lfts 2) (day marks : Bor (List ℕ)) (i : ℕ) → back_reads.Asked κs (day, (marks, (i, tt)))
+  pub back_free : (κs : Lfts 2) (day marks : MutBor (List ℕ)) (i : ℕ) → back_reads.Asked κs (day, (marks, (i, tt)))
   pub read_free : (κs : Lfts 2) (base day marks : Bor (List ℕ)) (i j : ℕ)
       → read_reads.Asked κs (base, (day, (marks, (i, (j, tt)))))
-  pub fold_free : (κs : Lfts 3) (base day marks out : Bor (List ℕ))
+  pub fold_free : (κs : Lfts 3) (base day marks : Bor (List ℕ)) (out : MutBor (List ℕ))
       → fold_reads.Asked κs (base, (day, (marks, (out, tt))))
   pub folding : Folding
   pub rewriting : Rewriting

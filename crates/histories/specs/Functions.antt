@@ -3,12 +3,12 @@
 -- the code returns, does nothing undefined and ends as its contract says.
 use Rattle.std.specs.Prelude.{ℕ, ◌≡◌, List, length, replicate}
 use contract.Lifetimes.{Lfts}
-use Rattle.std.specs.Borrow.{Bor}
+use Rattle.std.specs.Borrow.{Bor, MutBor}
 use borrow.Fn.Picked.{KnownAs}
 use Rattle.answers.specs.declared.Answer.{Answer}
 use Rattle.answers.specs.declared.CellAnswer.{CellAnswer}
 use Rattle.answers.specs.declared.NumberAnswer.{NumberAnswer}
-use Rattle.words.specs.Lent.{Address, lent}
+use Rattle.words.specs.Lent.{Address, lent, lent_mut}
 use Rattle.call_codes.specs.declared.Options.{Options}
 use Rattle.call_codes.specs.declared.Verb.{Verb}
 use Rattle.model.specs.declared.Roles.{Roles}
@@ -54,32 +54,32 @@ use Rattle.store_formulas.proofs.formula.Kinds as formula_kinds
 -- buffer of its own where it has them, with any words in them."
 pub data Step : List ℕ → StoreCall → Reply → List ℕ → Type 0 where
   new_empty_step : {s s' : List ℕ} {k r c : ℕ} {answer : Answer} (p : Address) (κs : Lfts 1)
-      → new_empty_reads.Learnt κs (lent p s, (k, (r, (c, tt)))) answer (lent p s', (k, (r, (c, tt))))
+      → new_empty_reads.Learnt κs (lent_mut p s, (k, (r, (c, tt)))) answer (lent_mut p s', (k, (r, (c, tt))))
       → Step s (new_empty k r c) (wrote answer) s'
   drop_slot_step : {s s' : List ℕ} {k : ℕ} {answer : Answer} (p : Address) (κs : Lfts 1)
-      → drop_slot_reads.Learnt κs (lent p s, (k, tt)) answer (lent p s', (k, tt))
+      → drop_slot_reads.Learnt κs (lent_mut p s, (k, tt)) answer (lent_mut p s', (k, tt))
       → Step s (drop_slot k) (wrote answer) s'
   set_cell_step : {s s' : List ℕ} {k i j v : ℕ} {answer : Answer} (p : Address) (κs : Lfts 1)
-      → set_cell_reads.Learnt κs (lent p s, (k, (i, (j, (v, tt))))) answer (lent p s', (k, (i, (j, (v, tt)))))
+      → set_cell_reads.Learnt κs (lent_mut p s, (k, (i, (j, (v, tt))))) answer (lent_mut p s', (k, (i, (j, (v, tt)))))
       → Step s (set_cell k i j v) (wrote answer) s'
   clear_cell_step : {s s' : List ℕ} {k i j : ℕ} {answer : Answer} (p : Address) (κs : Lfts 1)
-      → clear_cell_reads.Learnt κs (lent p s, (k, (i, (j, tt)))) answer (lent p s', (k, (i, (j, tt))))
+      → clear_cell_reads.Learnt κs (lent_mut p s, (k, (i, (j, tt)))) answer (lent_mut p s', (k, (i, (j, tt))))
       → Step s (clear_cell k i j) (wrote answer) s'
   read_cell_step : {s : List ℕ} {k i j : ℕ} {answer : CellAnswer} (p : Address) (κs : Lfts 1)
       → read_cell_reads.Learnt κs (lent p s, (k, (i, (j, tt)))) answer (lent p s, (k, (i, (j, tt))))
       → Step s (read_cell k i j) (found answer) s
   operate_step : {s s' : List ℕ} (w w' : List ℕ) {o : Options} {verb : Verb} {named : Roles} {is js : List ℕ}
       {answer : Answer} (p q x y : Address) (κs : Lfts 4)
-      → operate_reads.Learnt κs (lent p s, (o, (verb, (named, (lent x is, (lent y js, (lent q w, tt))))))) answer
-      (lent p s', (o, (verb, (named, (lent x is, (lent y js, (lent q w', tt)))))))
+      → operate_reads.Learnt κs (lent_mut p s, (o, (verb, (named, (lent x is, (lent y js, (lent_mut q w, tt))))))) answer
+      (lent_mut p s', (o, (verb, (named, (lent x is, (lent y js, (lent_mut q w', tt)))))))
       → Step s (operate o verb named is js (length w)) (wrote answer) s'
   reduce_step : {s : List ℕ} {k monoid : ℕ} {answer : NumberAnswer} (p : Address) (κs : Lfts 1)
       → reduce_reads.Learnt κs (lent p s, (k, (monoid, tt))) answer (lent p s, (k, (monoid, tt)))
       → Step s (reduce_slot k monoid) (totalled answer) s
   formula_step : {s s' : List ℕ} (w w' : List ℕ) {k monoid op : ℕ} {text : List ℕ} {answer : Answer} (p q x : Address)
       (κs : Lfts 3)
-      → formula_reads.Learnt κs (lent p s, (k, (monoid, (op, (lent x text, (lent q w, tt)))))) answer
-      (lent p s', (k, (monoid, (op, (lent x text, (lent q w', tt))))))
+      → formula_reads.Learnt κs (lent_mut p s, (k, (monoid, (op, (lent x text, (lent_mut q w, tt)))))) answer
+      (lent_mut p s', (k, (monoid, (op, (lent x text, (lent_mut q w', tt))))))
       → Step s (formula_into k monoid op text (length w)) (wrote answer) s'
 
 -- each function's code meets its contract
@@ -122,28 +122,28 @@ pub record Known : Type 3 where
 
 -- a caller has nothing to show
 pub record Free : Type 3 where
-  pub new_empty : (κs : Lfts 1) (s : Bor (List ℕ)) (k r c : ℕ) → new_empty_reads.Asked κs (s, (k, (r, (c, tt))))
-  pub drop_slot : (κs : Lfts 1) (s : Bor (List ℕ)) (k : ℕ) → drop_slot_reads.Asked κs (s, (k, tt))
-  pub set_cell : (κs : Lfts 1) (s : Bor (List ℕ)) (k i j v : ℕ) → set_cell_reads.Asked κs (s, (k, (i, (j, (v, tt)))))
-  pub clear_cell : (κs : Lfts 1) (s : Bor (List ℕ)) (k i j : ℕ) → clear_cell_reads.Asked κs (s, (k, (i, (j, tt))))
+  pub new_empty : (κs : Lfts 1) (s : MutBor (List ℕ)) (k r c : ℕ) → new_empty_reads.Asked κs (s, (k, (r, (c, tt))))
+  pub drop_slot : (κs : Lfts 1) (s : MutBor (List ℕ)) (k : ℕ) → drop_slot_reads.Asked κs (s, (k, tt))
+  pub set_cell : (κs : Lfts 1) (s : MutBor (List ℕ)) (k i j v : ℕ) → set_cell_reads.Asked κs (s, (k, (i, (j, (v, tt)))))
+  pub clear_cell : (κs : Lfts 1) (s : MutBor (List ℕ)) (k i j : ℕ) → clear_cell_reads.Asked κs (s, (k, (i, (j, tt))))
   pub read_cell : (κs : Lfts 1) (s : Bor (List ℕ)) (k i j : ℕ) → read_cell_reads.Asked κs (s, (k, (i, (j, tt))))
-  pub operate : (κs : Lfts 4) (s w is js : Bor (List ℕ)) (o : Options) (verb : Verb) (named : Roles)
+  pub operate : (κs : Lfts 4) (s w : MutBor (List ℕ)) (is js : Bor (List ℕ)) (o : Options) (verb : Verb) (named : Roles)
       → operate_reads.Asked κs (s, (o, (verb, (named, (is, (js, (w, tt)))))))
   pub reduce : (κs : Lfts 1) (s : Bor (List ℕ)) (k monoid : ℕ) → reduce_reads.Asked κs (s, (k, (monoid, tt)))
-  pub formula : (κs : Lfts 3) (s text w : Bor (List ℕ)) (k monoid op : ℕ)
+  pub formula : (κs : Lfts 3) (s : MutBor (List ℕ)) (text : Bor (List ℕ)) (w : MutBor (List ℕ)) (k monoid op : ℕ)
       → formula_reads.Asked κs (s, (k, (monoid, (op, (text, (w, tt))))))
 
 -- "The work buffer is all zeros over its whole length after every call that has one"
 abbrev pub Cleared : Type 0
 Cleared = (κs : Lfts 4) (p q x y : Address) (s s' w w' : List ℕ) (o : Options) (verb : Verb) (named : Roles)
     (is js : List ℕ) (answer : Answer)
-    → operate_reads.Learnt κs (lent p s, (o, (verb, (named, (lent x is, (lent y js, (lent q w, tt))))))) answer
-    (lent p s', (o, (verb, (named, (lent x is, (lent y js, (lent q w', tt)))))))
+    → operate_reads.Learnt κs (lent_mut p s, (o, (verb, (named, (lent x is, (lent y js, (lent_mut q w, tt))))))) answer
+    (lent_mut p s', (o, (verb, (named, (lent x is, (lent y js, (lent_mut q w', tt)))))))
     → w' ≡ replicate (length w) 0
 
 -- "The stack buffer is lent by the host, .. zeros after every call"
 abbrev pub StackCleared : Type 0
 StackCleared = (κs : Lfts 3) (p q x : Address) (s s' w w' text : List ℕ) (k monoid op : ℕ) (answer : Answer)
-    → formula_reads.Learnt κs (lent p s, (k, (monoid, (op, (lent x text, (lent q w, tt)))))) answer
-    (lent p s', (k, (monoid, (op, (lent x text, (lent q w', tt))))))
+    → formula_reads.Learnt κs (lent_mut p s, (k, (monoid, (op, (lent x text, (lent_mut q w, tt)))))) answer
+    (lent_mut p s', (k, (monoid, (op, (lent x text, (lent_mut q w', tt))))))
     → w' ≡ replicate (length w) 0

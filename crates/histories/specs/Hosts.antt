@@ -84,21 +84,21 @@ use Rattle.exports.proofs.ostrubel_store_formula.Reads as formula_reads
 use Rattle.exports.proofs.ostrubel_store_formula.Statement as formula_statement
 use Rattle.exports.proofs.ostrubel_store_formula.Kinds as formula_kinds
 use Rattle.exports.proofs.ostrubel_store_formula.Met as formula_met
-use Rattle.words.specs.Lent.{Address, lent}
+use Rattle.words.specs.Lent.{Address, lent, lent_mut}
 
 -- one call of a host on the words s, its answer in one number, and the words after it: what the function's contract tells
 pub data HostStep : List ℕ → StoreCall → ℕ → List ℕ → Type 0 where
   new_empty_step : (κs : Lfts 1) (p : Address) {s s' : List ℕ} {k r c answer : ℕ}
-      → new_empty_reads.Learnt κs (k, (r, (c, (lent p s, tt)))) answer (k, (r, (c, (lent p s', tt))))
+      → new_empty_reads.Learnt κs (k, (r, (c, (lent_mut p s, tt)))) answer (k, (r, (c, (lent_mut p s', tt))))
       → HostStep s (new_empty k r c) answer s'
   drop_step : (κs : Lfts 1) (p : Address) {s s' : List ℕ} {k answer : ℕ}
-      → drop_reads.Learnt κs (k, (lent p s, tt)) answer (k, (lent p s', tt))
+      → drop_reads.Learnt κs (k, (lent_mut p s, tt)) answer (k, (lent_mut p s', tt))
       → HostStep s (drop_slot k) answer s'
   set_cell_step : (κs : Lfts 1) (p : Address) {s s' : List ℕ} {k i j v answer : ℕ}
-      → set_cell_reads.Learnt κs (k, (i, (j, (v, (lent p s, tt))))) answer (k, (i, (j, (v, (lent p s', tt)))))
+      → set_cell_reads.Learnt κs (k, (i, (j, (v, (lent_mut p s, tt))))) answer (k, (i, (j, (v, (lent_mut p s', tt)))))
       → HostStep s (set_cell k i j v) answer s'
   clear_cell_step : (κs : Lfts 1) (p : Address) {s s' : List ℕ} {k i j answer : ℕ}
-      → clear_cell_reads.Learnt κs (k, (i, (j, (lent p s, tt)))) answer (k, (i, (j, (lent p s', tt))))
+      → clear_cell_reads.Learnt κs (k, (i, (j, (lent_mut p s, tt)))) answer (k, (i, (j, (lent_mut p s', tt))))
       → HostStep s (clear_cell k i j) answer s'
   read_cell_step : (κs : Lfts 1) (p : Address) {s : List ℕ} {k i j answer : ℕ}
       → read_cell_reads.Learnt κs (k, (i, (j, (lent p s, tt)))) answer (k, (i, (j, (lent p s, tt))))
@@ -106,85 +106,85 @@ pub data HostStep : List ℕ → StoreCall → ℕ → List ℕ → Type 0 where
   mxm_step : (κs : Lfts 2) (p q : Address) (w w' : List ℕ) {s s' : List ℕ}
       (flags masked accumulated number monoid op a b m c : ℕ) {answer : ℕ}
       → mxm_reads.Learnt κs
-      (flags, (masked, (accumulated, (number, (monoid, (op, (a, (b, (m, (c, (lent p s, (lent q w, tt))))))))))))
+      (flags, (masked, (accumulated, (number, (monoid, (op, (a, (b, (m, (c, (lent_mut p s, (lent_mut q w, tt))))))))))))
       answer
-      (flags, (masked, (accumulated, (number, (monoid, (op, (a, (b, (m, (c, (lent p s', (lent q w', tt))))))))))))
+      (flags, (masked, (accumulated, (number, (monoid, (op, (a, (b, (m, (c, (lent_mut p s', (lent_mut q w', tt))))))))))))
       → HostStep s
       (operate (options_of flags masked accumulated number) (verbs.Mxm monoid op) (roles_named a b m c) [] [] (length w))
       answer s'
   vxm_step : (κs : Lfts 2) (p q : Address) (w w' : List ℕ) {s s' : List ℕ}
       (flags masked accumulated number monoid op u a m c : ℕ) {answer : ℕ}
       → vxm_reads.Learnt κs
-      (flags, (masked, (accumulated, (number, (monoid, (op, (u, (a, (m, (c, (lent p s, (lent q w, tt))))))))))))
+      (flags, (masked, (accumulated, (number, (monoid, (op, (u, (a, (m, (c, (lent_mut p s, (lent_mut q w, tt))))))))))))
       answer
-      (flags, (masked, (accumulated, (number, (monoid, (op, (u, (a, (m, (c, (lent p s', (lent q w', tt))))))))))))
+      (flags, (masked, (accumulated, (number, (monoid, (op, (u, (a, (m, (c, (lent_mut p s', (lent_mut q w', tt))))))))))))
       → HostStep s
       (operate (options_of flags masked accumulated number) (verbs.Vxm monoid op) (roles_named u a m c) [] [] (length w))
       answer s'
   ewise_mult_step : (κs : Lfts 2) (p q : Address) (w w' : List ℕ) {s s' : List ℕ}
       (flags masked accumulated number op a b m c : ℕ) {answer : ℕ}
       → ewise_mult_reads.Learnt κs
-      (flags, (masked, (accumulated, (number, (op, (a, (b, (m, (c, (lent p s, (lent q w, tt)))))))))))
-      answer (flags, (masked, (accumulated, (number, (op, (a, (b, (m, (c, (lent p s', (lent q w', tt)))))))))))
+      (flags, (masked, (accumulated, (number, (op, (a, (b, (m, (c, (lent_mut p s, (lent_mut q w, tt)))))))))))
+      answer (flags, (masked, (accumulated, (number, (op, (a, (b, (m, (c, (lent_mut p s', (lent_mut q w', tt)))))))))))
       → HostStep s
       (operate (options_of flags masked accumulated number) (verbs.EwiseMult op) (roles_named a b m c) [] [] (length w))
       answer s'
   ewise_add_step : (κs : Lfts 2) (p q : Address) (w w' : List ℕ) {s s' : List ℕ}
       (flags masked accumulated number op a b m c : ℕ) {answer : ℕ}
       → ewise_add_reads.Learnt κs
-      (flags, (masked, (accumulated, (number, (op, (a, (b, (m, (c, (lent p s, (lent q w, tt)))))))))))
-      answer (flags, (masked, (accumulated, (number, (op, (a, (b, (m, (c, (lent p s', (lent q w', tt)))))))))))
+      (flags, (masked, (accumulated, (number, (op, (a, (b, (m, (c, (lent_mut p s, (lent_mut q w, tt)))))))))))
+      answer (flags, (masked, (accumulated, (number, (op, (a, (b, (m, (c, (lent_mut p s', (lent_mut q w', tt)))))))))))
       → HostStep s
       (operate (options_of flags masked accumulated number) (verbs.EwiseAdd op) (roles_named a b m c) [] [] (length w))
       answer s'
   apply_step : (κs : Lfts 2) (p q : Address) (w w' : List ℕ) {s s' : List ℕ}
       (flags masked accumulated number kind op scalar a m c : ℕ) {answer : ℕ}
       → apply_reads.Learnt κs
-      (flags, (masked, (accumulated, (number, (kind, (op, (scalar, (a, (m, (c, (lent p s, (lent q w, tt))))))))))))
+      (flags, (masked, (accumulated, (number, (kind, (op, (scalar, (a, (m, (c, (lent_mut p s, (lent_mut q w, tt))))))))))))
       answer
-      (flags, (masked, (accumulated, (number, (kind, (op, (scalar, (a, (m, (c, (lent p s', (lent q w', tt))))))))))))
+      (flags, (masked, (accumulated, (number, (kind, (op, (scalar, (a, (m, (c, (lent_mut p s', (lent_mut q w', tt))))))))))))
       → HostStep s
       (operate (options_of flags masked accumulated number) (verbs.Apply kind op scalar) (roles_named a a m c) [] [] (length w))
       answer s'
   extract_step : (κs : Lfts 4) (p q x y : Address) (w w' : List ℕ) {s s' : List ℕ} (is js : List ℕ)
       (flags masked accumulated number a m c : ℕ) {answer : ℕ}
       → extract_reads.Learnt κs
-      (flags, (masked, (accumulated, (number, (a, (m, (c, (lent p s, (lent x is, (lent y js, (lent q w, tt)))))))))))
+      (flags, (masked, (accumulated, (number, (a, (m, (c, (lent_mut p s, (lent x is, (lent y js, (lent_mut q w, tt)))))))))))
       answer
-      (flags, (masked, (accumulated, (number, (a, (m, (c, (lent p s', (lent x is, (lent y js, (lent q w', tt)))))))))))
+      (flags, (masked, (accumulated, (number, (a, (m, (c, (lent_mut p s', (lent x is, (lent y js, (lent_mut q w', tt)))))))))))
       → HostStep s
       (operate (options_of flags masked accumulated number) verbs.Extract (roles_named a a m c) is js (length w))
       answer s'
   select_step : (κs : Lfts 2) (p q : Address) (w w' : List ℕ) {s s' : List ℕ}
       (flags masked accumulated number op scalar a m c : ℕ) {answer : ℕ}
       → select_reads.Learnt κs
-      (flags, (masked, (accumulated, (number, (op, (scalar, (a, (m, (c, (lent p s, (lent q w, tt)))))))))))
-      answer (flags, (masked, (accumulated, (number, (op, (scalar, (a, (m, (c, (lent p s', (lent q w', tt)))))))))))
+      (flags, (masked, (accumulated, (number, (op, (scalar, (a, (m, (c, (lent_mut p s, (lent_mut q w, tt)))))))))))
+      answer (flags, (masked, (accumulated, (number, (op, (scalar, (a, (m, (c, (lent_mut p s', (lent_mut q w', tt)))))))))))
       → HostStep s
       (operate (options_of flags masked accumulated number) (verbs.Select op scalar) (roles_named a a m c) [] [] (length w))
       answer s'
   reduce_rows_step : (κs : Lfts 2) (p q : Address) (w w' : List ℕ) {s s' : List ℕ}
       (flags masked accumulated number monoid a m c : ℕ) {answer : ℕ}
       → reduce_rows_reads.Learnt κs
-      (flags, (masked, (accumulated, (number, (monoid, (a, (m, (c, (lent p s, (lent q w, tt))))))))))
-      answer (flags, (masked, (accumulated, (number, (monoid, (a, (m, (c, (lent p s', (lent q w', tt))))))))))
+      (flags, (masked, (accumulated, (number, (monoid, (a, (m, (c, (lent_mut p s, (lent_mut q w, tt))))))))))
+      answer (flags, (masked, (accumulated, (number, (monoid, (a, (m, (c, (lent_mut p s', (lent_mut q w', tt))))))))))
       → HostStep s
       (operate (options_of flags masked accumulated number) (verbs.ReduceRows monoid) (roles_named a a m c) [] [] (length w))
       answer s'
   assign_step : (κs : Lfts 4) (p q x y : Address) (w w' : List ℕ) {s s' : List ℕ} (is js : List ℕ)
       (flags masked accumulated number a m c : ℕ) {answer : ℕ}
       → assign_reads.Learnt κs
-      (flags, (masked, (accumulated, (number, (a, (m, (c, (lent p s, (lent x is, (lent y js, (lent q w, tt)))))))))))
+      (flags, (masked, (accumulated, (number, (a, (m, (c, (lent_mut p s, (lent x is, (lent y js, (lent_mut q w, tt)))))))))))
       answer
-      (flags, (masked, (accumulated, (number, (a, (m, (c, (lent p s', (lent x is, (lent y js, (lent q w', tt)))))))))))
+      (flags, (masked, (accumulated, (number, (a, (m, (c, (lent_mut p s', (lent x is, (lent y js, (lent_mut q w', tt)))))))))))
       → HostStep s
       (operate (options_of flags masked accumulated number) verbs.Assign (roles_named a a m c) is js (length w))
       answer s'
   kronecker_step : (κs : Lfts 2) (p q : Address) (w w' : List ℕ) {s s' : List ℕ}
       (flags masked accumulated number op a b m c : ℕ) {answer : ℕ}
       → kronecker_reads.Learnt κs
-      (flags, (masked, (accumulated, (number, (op, (a, (b, (m, (c, (lent p s, (lent q w, tt)))))))))))
-      answer (flags, (masked, (accumulated, (number, (op, (a, (b, (m, (c, (lent p s', (lent q w', tt)))))))))))
+      (flags, (masked, (accumulated, (number, (op, (a, (b, (m, (c, (lent_mut p s, (lent_mut q w, tt)))))))))))
+      answer (flags, (masked, (accumulated, (number, (op, (a, (b, (m, (c, (lent_mut p s', (lent_mut q w', tt)))))))))))
       → HostStep s
       (operate (options_of flags masked accumulated number) (verbs.Kronecker op) (roles_named a b m c) [] [] (length w))
       answer s'
@@ -193,8 +193,8 @@ pub data HostStep : List ℕ → StoreCall → ℕ → List ℕ → Type 0 where
       → HostStep s (reduce_slot k monoid) answer s
   formula_step : (κs : Lfts 3) (p q x : Address) (w w' : List ℕ) {s s' : List ℕ} (text : List ℕ) (k monoid op : ℕ)
       {answer : ℕ}
-      → formula_reads.Learnt κs (k, (monoid, (op, (lent x text, (lent p s, (lent q w, tt)))))) answer
-      (k, (monoid, (op, (lent x text, (lent p s', (lent q w', tt))))))
+      → formula_reads.Learnt κs (k, (monoid, (op, (lent x text, (lent_mut p s, (lent_mut q w, tt)))))) answer
+      (k, (monoid, (op, (lent x text, (lent_mut p s', (lent_mut q w', tt))))))
       → HostStep s (formula_into k monoid op text (length w)) answer s'
 
 -- what that is: a call that may write; an operation or a formula, which also leaves its workspace zeros; a read and a

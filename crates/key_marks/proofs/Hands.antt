@@ -1,31 +1,17 @@
 -- The keys in hand: the row of the vector, stamped over zeros, and the rounds that start there.
-use Prim.Native.Nat.{ℕ, zero, suc, ◌+◌, ◌≤◌, ◌<◌}
+use Prim.Native.Nat.{ℕ, zero, suc, ◌<◌}
 use native.Mathlib.Omega.{arith}
 use mathlib.Core.Path.{◌≡◌, refl, sym, ap, ◌∙◌}
 use mathlib.Core.List.{List}
-use mathlib.Core.Bool.{Bool, false, cond}
 use lib.ListN.{length, replicate, length-replicate}
 use Rattle.words.specs.Words.{at}
-use Rattle.matrix.specs.Layout.{rows, cols, row_columns, row_values, cell_of, grid_of}
+use Rattle.matrix.specs.Layout.{rows, row_columns, row_values, cell_of, grid_of}
 use Rattle.matrix.specs.Facts.{RowSpan}
 use Rattle.matrix.proofs.Facts.{row_span}
 use Rattle.matrix.proofs.Rows.{row_even}
-use Rattle.key_rounds.specs.Rounds.{filled, ◌or◌, in_hand}
+use Rattle.key_rounds.specs.Rounds.{◌or◌, in_hand}
 use Rattle.key_rounds.proofs.Rounds.{keys_same, first_same}
-use Rattle.key_marks.specs.Marks.{
-  mark,
-  held,
-  once,
-  has,
-  Below,
-  Stamped,
-  Lent,
-  Asked,
-  HandVector,
-  HandMarked,
-  door_word,
-  Rounds,
-}
+use Rattle.key_marks.specs.Marks.{mark, held, has, Below, Stamped, Lent, Asked, HandVector, HandMarked, door_word, Rounds}
 use Rattle.key_marks.proofs.Stamps.{mark_zero, mark_stamped, has_lookup}
 use Rattle.key_marks.proofs.Rows.{row_below}
 

@@ -1,10 +1,9 @@
 -- Stamps of the rows of a matrix: one row where it is named, and those before row i.
 use Prim.Native.Nat.{ℕ, ◌+◌, ◌≤◌, ◌<◌}
 use native.Mathlib.Omega.{arith}
-use mathlib.Core.Path.{◌≡◌, refl, sym, ap, ◌∙◌}
+use mathlib.Core.Path.{◌≡◌, refl, sym, ap}
 use mathlib.Core.List.{List}
-use mathlib.Core.Bool.{Bool, true, false}
-use lib.ListN.{length}
+use mathlib.Core.Bool.{Bool}
 use Rattle.words.specs.Words.{at}
 use Rattle.conditions.specs.Tests.{◌and◌}
 use Rattle.rows.proofs.Rising.{rising_below}

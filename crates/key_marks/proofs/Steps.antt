@@ -1,5 +1,5 @@
 -- The rounds in words: what a stamp of the doors and one of the keys make of them, and where they start and end.
-use Prim.Native.Nat.{ℕ, zero, suc, ◌+◌, ◌-◌, ◌≤◌, ◌<◌}
+use Prim.Native.Nat.{ℕ, suc, ◌+◌, ◌-◌, ◌≤◌, ◌<◌}
 use native.Mathlib.Omega.{arith}
 use native.Mathlib.Numerals.{add-one}
 use mathlib.Core.Path.{◌≡◌, refl, sym, ap, subst, ◌∙◌}
@@ -12,7 +12,7 @@ use Rattle.grid.specs.declared.Cell.{Cell}
 use Rattle.grid.specs.declared.Cell.TheVariants.{Absent, Present}
 use Rattle.grid.specs.Grid.{Grid}
 use Rattle.matrix.specs.Layout.{grid_of}
-use Rattle.key_rounds.specs.Rounds.{filled, ◌or◌, count, reached, keys_after, doors_after, earlier, first_before, Fitting}
+use Rattle.key_rounds.specs.Rounds.{filled, count, reached, keys_after, doors_after, earlier, first_before, Fitting}
 use Rattle.key_rounds.proofs.Tests.{reached_same}
 use Rattle.key_rounds.proofs.Counting.{count_same}
 use Rattle.key_rounds.proofs.Rounds.{Settled, keys_next, first_open, first_stays, keys_stay, settled_count}

@@ -15,15 +15,14 @@ use Rattle.answers.specs.Refusals.{
   invalid_shape,
   workspace_too_short,
 }
-use Rattle.conditions.specs.Tests.{◌and◌}
 use Rattle.conditions.proofs.Tests.{and_left, and_right}
 use Rattle.grid.specs.Grid.{Grid}
-use Rattle.matrix.specs.Layout.{rows, cols, grid_of}
+use Rattle.matrix.specs.Layout.{grid_of}
 use Rattle.matrix.specs.Valid.{valid}
 use Rattle.matrix.proofs.Facts.{matrix_facts}
 use Rattle.refusals.proofs.Cases.{later}
 use Rattle.key_requests.specs.Refusal.{shapes_fit, input_refusal}
-use Rattle.key_requests.specs.Ready.{Ready, Checked}
+use Rattle.key_requests.specs.Ready.{Checked}
 
 -- each of 3 to 9, where none before it applies
 module _ (allowance : ℕ) (locks cabinets hand : List ℕ) (work : ℕ) where

@@ -1,6 +1,6 @@
 -- When "keys behind doors" is refused (document 02, A13): "Damaged sheets, wrong shapes and room use refusals 3 to 5
 -- (the strip is third), 8, 9 and 11; an allowance above 1,000 is 7." The lowest number that applies is given.
-use Rattle.std.specs.Prelude.{ℕ, List, [], ◌∷◌, ◌++◌, Bool, not, length, ltb, eqb}
+use Rattle.std.specs.Prelude.{ℕ, List, [], ◌∷◌, ◌++◌, Bool, not, ltb, eqb}
 use Rattle.limits.specs.Limits.{max_allowance}
 use Rattle.limits.specs.Sizes.{workspace_words}
 use Rattle.answers.specs.Refusals.{

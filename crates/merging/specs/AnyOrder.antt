@@ -6,12 +6,12 @@
 -- `Reads.Learnt` is what a caller learns when it returns.
 use Rattle.std.specs.Prelude.{ℕ, ◌^◌, ◌≤◌, ◌<◌, ◌≡◌, true, false, List, [], ◌∷◌, ◌++◌, map, length, take}
 use contract.Lifetimes.{Lfts}
-use Rattle.std.specs.Borrow.{Bor}
+use Rattle.std.specs.Borrow.{Bor, MutBor}
 use borrow.Fn.Picked.{KnownAs}
 use Rattle.limits.specs.Limits.{max_entries}
 use Rattle.answers.specs.declared.Answer.{Answer}
 use Rattle.words.specs.Words.{at}
-use Rattle.words.specs.Lent.{Address, lent}
+use Rattle.words.specs.Lent.{Address, lent, lent_mut}
 use Rattle.grid.specs.Grid.{Same}
 use Rattle.grid.specs.Entries.{entry_count}
 use Rattle.matrix.specs.Layout.{rows, cols, size, grid_of, workspace_words}
@@ -41,8 +41,8 @@ pub data Merge (c a : List ℕ) (answer : Answer) (c' : List ℕ) : Type 0 where
   merge : (scalar : ℕ) (b mask is js : Bor (List ℕ)) (work work' : List ℕ) (p q r : Address) (κs : Lfts 6)
       (suffices : workspace_words ≤ length work)
       → operate_reads.Learnt κs
-      (by_max, (identity scalar, (lent p a, (b, (mask, (is, (js, (lent q c, (lent r work, tt))))))))) answer
-      (by_max, (identity scalar, (lent p a, (b, (mask, (is, (js, (lent q c', (lent r work', tt)))))))))
+      (by_max, (identity scalar, (lent p a, (b, (mask, (is, (js, (lent_mut q c, (lent_mut r work, tt))))))))) answer
+      (by_max, (identity scalar, (lent p a, (b, (mask, (is, (js, (lent_mut q c', (lent_mut r work', tt)))))))))
       → Merge c a answer c'
 
 -- a list of matrices merged one after the other
@@ -97,7 +97,7 @@ pub record AnyOrder : Type 3 where
   pub met : {M : Type 1} → operate_statement.statement M
   pub known : KnownAs 6 operate_kinds.ps operate_kinds.r operate_reads.Ghost operate_reads.requires
       operate_reads.ensures operate_reads.Asked operate_reads.Learnt
-  pub free : (κs : Lfts 6) (a b m is js c w : Bor (List ℕ)) (o : Options) (verb : Verb)
+  pub free : (κs : Lfts 6) (a b m is js : Bor (List ℕ)) (c w : MutBor (List ℕ)) (o : Options) (verb : Verb)
       → operate_reads.Asked κs (o, (verb, (a, (b, (m, (is, (js, (c, (w, tt)))))))))
   -- there is a run of every list
   pub possible : Lfts 6 → (c : List ℕ) (xs : List (List ℕ)) → Run c xs

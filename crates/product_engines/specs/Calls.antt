@@ -6,10 +6,10 @@
 -- calls of hosts.
 use Rattle.std.specs.Prelude.{ℕ, ◌≡◌, List}
 use contract.Lifetimes.{Lfts}
-use Rattle.std.specs.Borrow.{Bor}
+use Rattle.std.specs.Borrow.{Bor, MutBor}
 use borrow.Fn.Picked.{KnownAs}
 use Rattle.answers.specs.declared.Answer.{Answer}
-use Rattle.words.specs.Lent.{Address, lent}
+use Rattle.words.specs.Lent.{Address, lent, lent_mut}
 use Rattle.call_codes.specs.declared.Options.{Options}
 use Rattle.call_codes.specs.declared.Verb.{Verb}
 use Rattle.model.specs.declared.Roles.{Roles}
@@ -61,7 +61,7 @@ CallWith engine p κs o verb s answer c' w' =
                 lent p.rows s.rows,
                 (
                   lent p.columns s.columns,
-                  (lent p.c s.c, (lent p.work s.work, (engine, tt))),
+                  (lent_mut p.c s.c, (lent_mut p.work s.work, (engine, tt))),
                 ),
               ),
             ),
@@ -82,7 +82,7 @@ CallWith engine p κs o verb s answer c' w' =
                 lent p.rows s.rows,
                 (
                   lent p.columns s.columns,
-                  (lent p.c c', (lent p.work w', (engine, tt))),
+                  (lent_mut p.c c', (lent_mut p.work w', (engine, tt))),
                 ),
               ),
             ),
@@ -108,7 +108,7 @@ PublicCall p κs o verb s answer c' w' =
                 lent p.rows s.rows,
                 (
                   lent p.columns s.columns,
-                  (lent p.c s.c, (lent p.work s.work, tt)),
+                  (lent_mut p.c s.c, (lent_mut p.work s.work, tt)),
                 ),
               ),
             ),
@@ -129,7 +129,7 @@ PublicCall p κs o verb s answer c' w' =
                 lent p.rows s.rows,
                 (
                   lent p.columns s.columns,
-                  (lent p.c c', (lent p.work w', tt)),
+                  (lent_mut p.c c', (lent_mut p.work w', tt)),
                 ),
               ),
             ),
@@ -155,7 +155,7 @@ abbrev pub StoreCallWith : Engine → StoreAddresses → Lfts 4 → Options → 
     → List ℕ → Type 0
 StoreCallWith engine p κs o verb named s answer s' w' =
     store_with.Learnt κs (
-      lent p.store s.store,
+      lent_mut p.store s.store,
       (
         o,
         (
@@ -166,14 +166,14 @@ StoreCallWith engine p κs o verb named s answer s' w' =
               lent p.rows s.rows,
               (
                 lent p.columns s.columns,
-                (lent p.work s.work, (engine, tt)),
+                (lent_mut p.work s.work, (engine, tt)),
               ),
             ),
           ),
         ),
       ),
     ) answer (
-      lent p.store s',
+      lent_mut p.store s',
       (
         o,
         (
@@ -184,7 +184,7 @@ StoreCallWith engine p κs o verb named s answer s' w' =
               lent p.rows s.rows,
               (
                 lent p.columns s.columns,
-                (lent p.work w', (engine, tt)),
+                (lent_mut p.work w', (engine, tt)),
               ),
             ),
           ),
@@ -196,7 +196,7 @@ abbrev pub PublicStoreCall : StoreAddresses → Lfts 4 → Options → Verb → 
     → Type 0
 PublicStoreCall p κs o verb named s answer s' w' =
     store_operate.Learnt κs (
-      lent p.store s.store,
+      lent_mut p.store s.store,
       (
         o,
         (
@@ -207,14 +207,14 @@ PublicStoreCall p κs o verb named s answer s' w' =
               lent p.rows s.rows,
               (
                 lent p.columns s.columns,
-                (lent p.work s.work, tt),
+                (lent_mut p.work s.work, tt),
               ),
             ),
           ),
         ),
       ),
     ) answer (
-      lent p.store s',
+      lent_mut p.store s',
       (
         o,
         (
@@ -225,7 +225,7 @@ PublicStoreCall p κs o verb named s answer s' w' =
               lent p.rows s.rows,
               (
                 lent p.columns s.columns,
-                (lent p.work w', tt),
+                (lent_mut p.work w', tt),
               ),
             ),
           ),
@@ -243,12 +243,12 @@ pub record Calls : Type 3 where
   -- the code of both meets its contract, a caller learns what that says, and has nothing to show
   pub met : {M : Type 1} → with_statement.statement M
   pub known : KnownAs 6 with_kinds.ps with_kinds.r with.Ghost with.requires with.ensures with.Asked with.Learnt
-  pub free : (κs : Lfts 6) (a b m is js c w : Bor (List ℕ)) (o : Options) (verb : Verb) (engine : Engine)
+  pub free : (κs : Lfts 6) (a b m is js : Bor (List ℕ)) (c w : MutBor (List ℕ)) (o : Options) (verb : Verb) (engine : Engine)
       → with.Asked κs (o, (verb, (a, (b, (m, (is, (js, (c, (w, (engine, tt))))))))))
   pub store_met : {M : Type 1} → store_with_statement.statement M
   pub store_known : KnownAs 4 store_with_kinds.ps store_with_kinds.r store_with.Ghost store_with.requires
       store_with.ensures store_with.Asked store_with.Learnt
-  pub store_free : (κs : Lfts 4) (s w is js : Bor (List ℕ)) (o : Options) (verb : Verb) (named : Roles)
+  pub store_free : (κs : Lfts 4) (s w : MutBor (List ℕ)) (is js : Bor (List ℕ)) (o : Options) (verb : Verb) (named : Roles)
       (engine : Engine) → store_with.Asked κs (s, (o, (verb, (named, (is, (js, (w, (engine, tt))))))))
   -- on lent matrices, by places and by entries
   pub same : (p q : CallAddresses) (κs κs' : Lfts 6) (o : Options) (verb : Verb) (s : CallWords)

@@ -48,7 +48,7 @@ pub entry_at-found-requires : goal.entry_at-found-requires
 entry_at-found-requires c =
     let r = ready_2 c in
     let i = c.args.i in
-    rw c.shown.ensures (shown_matrix r.pair i, omega (arith, shown_rows r.pair i, r.row))
+    rw c.shown.ensures record { fact_1 = shown_matrix r.pair i; fact_2 = omega (arith, shown_rows r.pair i, r.row) }
 
 pub returns : goal.returns
 returns c =

@@ -5,7 +5,7 @@ use Rattle.files.proofs.read_file.Goals as goal
 
 pub read_staged-requires : goal.read_staged-requires
 read_staged-requires c =
- record {
+    record {
       fact_1 = omega arith;
       fact_2 = refl;
     }

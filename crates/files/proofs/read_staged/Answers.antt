@@ -17,13 +17,13 @@ take-requires c = simp length-take (omega arith)
 
 pub returns-then-old_form : goal.returns-then-old_form
 returns-then-old_form c =
-     let b = c.args.bytes.now in
+    let b = c.args.bytes.now in
     let form = ap old_form (sym (staged_new b _ _ _ _ c.requires.fact_2 c.read_words.ensures)) ∙ sym c.old_form.ensures in
     read_old _ _ _ _ (form ∙ c.if-old_form.true) (rw (staged_old b _ _ _ _ c.requires.fact_2 c.read_words.ensures) at c.take.ensures)
 
 pub returns : goal.returns
 returns c =
-     let b = c.args.bytes.now in
+    let b = c.args.bytes.now in
     let form = ap old_form (sym (staged_new b _ _ _ _ c.requires.fact_2 c.read_words.ensures)) ∙ sym c.old_form.ensures in
     read_new _ _ _ _ (form ∙ c.if-old_form.false)
     (rw (staged_new b _ _ _ _ c.requires.fact_2 c.read_words.ensures) at c.take-2.ensures)

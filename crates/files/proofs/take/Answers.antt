@@ -45,13 +45,13 @@ overflow_mul-size c = let m = size_most _ (valid_held_2 c) in omega (arith, c.ma
 
 pub returns-then-total-size : goal.returns-then-total-size
 returns-then-total-size c =
-     let e = ap (λ (k : ℕ). k * 4) (sym c.matrix_size-size.ensures) in
+    let e = ap (λ (k : ℕ). k * 4) (sym c.matrix_size-size.ensures) in
     rw c.refused-then-total-size.ensures
     (other_length _ _ _ (valid_held_3 c) (λ f. c.if-total-size.true (f ∙ e)))
 
 pub returns-then-words-size : goal.returns-then-words-size
 returns-then-words-size c =
-     rw c.refused-then-words-size.ensures
+    rw c.refused-then-words-size.ensures
     (no_room_lem _ _ _ (valid_held_4 c) (omega (arith, c.matrix_size-size.ensures)) (omega (arith, c.matrix_size-size.ensures)))
 
 pub copy_into-requires : goal.copy_into-requires
@@ -62,5 +62,5 @@ entry_count-requires c = (matrix_facts _ (valid_held_5 c)).header
 
 pub returns : goal.returns
 returns c =
-     taken _ _ _ (valid_held_6 c) (omega (arith, c.matrix_size-size.ensures)) (omega (arith, c.matrix_size-size.ensures))
+    taken _ _ _ (valid_held_6 c) (omega (arith, c.matrix_size-size.ensures)) (omega (arith, c.matrix_size-size.ensures))
     c.requires _ c.entry_count.ensures _ c.copy_into.ensures

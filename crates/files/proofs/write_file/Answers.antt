@@ -50,16 +50,16 @@ overflow_mul-size c = let m = size_most _ (held_2 c) in omega (arith, c.matrix_s
 
 pub returns-then-bytes-size : goal.returns-then-bytes-size
 returns-then-bytes-size c =
-     rw c.refused-then-bytes-size.ensures (bytes_short _ _ (held_3 c) (omega (arith, c.matrix_size-size.ensures)))
+    rw c.refused-then-bytes-size.ensures (bytes_short _ _ (held_3 c) (omega (arith, c.matrix_size-size.ensures)))
 
 pub slice_bounds-write_bytes-end : goal.slice_bounds-write_bytes-end
 slice_bounds-write_bytes-end c =
-     let m = matrix_facts _ (held_4 c) in
+    let m = matrix_facts _ (held_4 c) in
     simp length-take (omega (arith, c.matrix_size-size.ensures))
 
 pub write_bytes-requires : goal.write_bytes-requires
 write_bytes-requires c =
-     let m = matrix_facts _ (held_5 c) in
+    let m = matrix_facts _ (held_5 c) in
     simp length-take (omega (arith, c.matrix_size-size.ensures))
 
 pub entry_count-requires : goal.entry_count-requires
@@ -67,5 +67,5 @@ entry_count-requires c = (matrix_facts _ (held_6 c)).header
 
 pub returns : goal.returns
 returns c =
-     written _ _ (held_7 c) (omega (arith, c.matrix_size-size.ensures)) _ c.entry_count.ensures _
+    written _ _ (held_7 c) (omega (arith, c.matrix_size-size.ensures)) _ c.entry_count.ensures _
     (c.write_bytes.ensures ∙ rw c.matrix_size-size.ensures)

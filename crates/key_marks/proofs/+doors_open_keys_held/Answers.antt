@@ -2,13 +2,9 @@
 use Rattle.std.proofs.Common.{sym, subst}
 use native.Mathlib.Nat.{pos_of_ne-zero, sub-add_cancel}
 use Rattle.key_marks.proofs.Steps.{doors_stamped, keys_stamped_at, lent_rounds, lent_fitting}
-use Rattle.std.proofs.Common.{rules, ◌+◌, ◌≤◌, ◌≡◌, cond, length, ℕ, ◌-◌, ◌*◌, ◌<◌, ◌/◌, ◌%◌, Bool, true, false, nat_eq, nat_lt, List, [], ◌∷◌, ◌++◌, slice_index_or, slice_set, bit_and, bit_or, Fits, w8, w32, w64, Bor, MutBor}
-use Rattle.limits.specs.Limits.{max_allowance}
-use Rattle.conditions.specs.Tests.{◌and◌}
-use Rattle.key_rounds.specs.Rounds.{filled, count, reached, in_hand}
-use Rattle.matrix.specs.Layout.{row_columns, cell_of, grid_of}
-use Rattle.matrix.specs.Facts.{Header, RowSpan}
-use Rattle.key_marks.specs.Marks.{mark, held, once, has, Below, Stamped, Stampable, Lent, Asked, HandVector, HandMarked, Rounds}
+use Rattle.std.proofs.Common.{ℕ}
+use Rattle.matrix.specs.Layout.{grid_of}
+use Rattle.key_marks.specs.Marks.{held, Rounds}
 use Rattle.key_marks.proofs.+doors_open_keys_held.Goals as goal
 
 -- src/lib.rt:64:1

@@ -1,5 +1,5 @@
 -- `count_marks` counts the marks before i.
-use Prim.Native.Nat.{ℕ, ◌+◌, ◌-◌}
+use Prim.Native.Nat.{ℕ, ◌+◌}
 use native.Mathlib.Omega.{arith}
 use mathlib.Core.Path.{◌≡◌, ap, ◌∙◌}
 use lib.ListN.{length}
@@ -10,7 +10,7 @@ use Rattle.key_marks.proofs.count_marks.Goals as goal
 
 -- the word at i is counted
 counted : (c : goal.After-one_if_marked-n)
-    →    c.loop-i.n + c.one_if_marked-n.result ≡ count (c.loop-i.i + 1) (held c.args.words.now)
+    → c.loop-i.n + c.one_if_marked-n.result ≡ count (c.loop-i.i + 1) (held c.args.words.now)
 counted c =
     omega (
       arith,

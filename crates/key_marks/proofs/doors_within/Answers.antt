@@ -7,7 +7,7 @@ mark_hand-requires c = asked_vector c.requires.fact_1
 
 pub rounds-requires : goal.rounds-requires
 rounds-requires c =
- record {
+    record {
       fact_1 = marked_lent c.requires.fact_1 c.mark_hand.ensures;
       fact_2 = c.requires.fact_2;
     }

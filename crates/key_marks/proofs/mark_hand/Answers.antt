@@ -8,7 +8,7 @@ row_columns-requires c = (c.requires.valid.header, vector_span c.requires)
 
 pub mark_row-requires : goal.mark_row-requires
 mark_row-requires c =
- record {
+    record {
       fact_1 = vector_below c.requires c.clear.ensures c.row_columns.ensures.words;
       fact_2 = omega arith;
     }

@@ -9,7 +9,7 @@ returns-then-named-eq0 c =
 
 pub mark_row-requires : goal.mark_row-requires
 mark_row-requires c =
- record {
+    record {
       fact_1 = rw c.row_columns.ensures.words c.requires.header_3;
       fact_2 = c.requires.le_stamp;
     }

@@ -1,5 +1,5 @@
 -- `mark_rows` stamps the columns of the rows before i that are named.
-use Prim.Native.Nat.{◌-◌, ◌<◌}
+use Prim.Native.Nat.{◌<◌}
 use native.Mathlib.Omega.{arith}
 use mathlib.Core.Path.{◌∙◌}
 use Rattle.matrix.specs.Layout.{rows}

@@ -1,5 +1,5 @@
 -- `rounds` holds the keys of round n, and the doors' first rounds up to it.
-use Prim.Native.Nat.{ℕ, ◌+◌, ◌-◌}
+use Prim.Native.Nat.{ℕ, ◌+◌}
 use native.Mathlib.Omega.{arith}
 use mathlib.Core.Path.{sym, subst, ◌∙◌}
 use Rattle.matrix.specs.Layout.{grid_of}
@@ -12,8 +12,7 @@ mark_rows-requires c =
     locks_stampable c.requires.fact_1 (lent_rounds c.requires.fact_1) (omega arith)
 
 pub loop-n-init : goal.loop-n-init
-loop-n-init c =
-    (
+loop-n-init c = (
   doors_stamped (lent_rounds c.requires.fact_1)
       c.mark_rows.ensures,
   omega arith,
@@ -55,12 +54,11 @@ pub loop-n-smaller : goal.loop-n-smaller
 loop-n-smaller c = omega (arith, c.loop-n-test.true)
 
 pub loop-n-preserved : goal.loop-n-preserved
-loop-n-preserved c =
-    (
-      doors_stamped (keys_stamped (lent_fitting c.requires.fact_1) c.loop-n.invariant.0 c.mark_rows-in-loop-n.ensures)
-          c.mark_rows-in-loop-n-2.ensures,
-      omega (arith, c.loop-n-test.true),
-    )
+loop-n-preserved c = (
+  doors_stamped (keys_stamped (lent_fitting c.requires.fact_1) c.loop-n.invariant.0 c.mark_rows-in-loop-n.ensures)
+      c.mark_rows-in-loop-n-2.ensures,
+  omega (arith, c.loop-n-test.true),
+)
 
 pub shape_of-keys : goal.shape_of-keys
 shape_of-keys c = c.loop-n.invariant.0.keys_size ∙ sym c.requires.fact_1.keys_size

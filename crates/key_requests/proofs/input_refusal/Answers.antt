@@ -27,7 +27,7 @@ returns-then-allowance-gt-MAX_ALLOWANCE c =
 
 pub shapes_fit-requires : goal.shapes_fit-requires
 shapes_fit-requires c =
- record {
+    record {
       fact_1 = (matrix_facts _ (said_yes c.is_valid.ensures c.if-not-is_valid.false)).header;
       fact_2 = (matrix_facts _ (said_yes c.is_valid-2.ensures c.if-not-is_valid-2.false)).header;
       fact_3 = (matrix_facts _ (said_yes c.is_valid-3.ensures c.if-not-is_valid-3.false)).header;

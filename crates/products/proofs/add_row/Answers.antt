@@ -1,35 +1,8 @@
 -- `add_row` adds x times the row: the entries before p are added.
-use Prim.Native.Nat.{◌-◌, ◌<◌}
 use native.Mathlib.Omega.{arith}
 use mathlib.Core.Path.{refl}
-use Rattle.limits.specs.Limits.{max_cols}
-use Rattle.words.specs.Words.{at}
 use Rattle.products.proofs.Adding.{adding_start, adding_step, adding_done}
 use Rattle.products.proofs.add_row.Goals as goal
-
--- the column at p is a place
-place : (c : goal.After-shared_slice_known-in-loop-p-1) → at c.args.columns.now c.loop-p.p < max_cols
-place c = c.requires.fact_1.small c.loop-p.p c.loop-p-test.true
-
--- the column at p is a place
-place_2 : (c : goal.After-apply_binary-product) → at c.args.columns.now c.loop-p.p < max_cols
-place_2 c = c.requires.fact_1.small c.loop-p.p c.loop-p-test.true
-
--- the column at p is a place
-place_3 : (c : goal.After-way_told-1) → at c.args.columns.now c.loop-p.p < max_cols
-place_3 c = c.requires.fact_1.small c.loop-p.p c.loop-p-test.true
-
--- the column at p is a place
-place_4 : (c : goal.After-add_product-arg-1) → at c.args.columns.now c.loop-p.p < max_cols
-place_4 c = c.requires.fact_1.small c.loop-p.p c.loop-p-test.true
-
--- the column at p is a place
-place_5 : (c : goal.After-way_told-in-loop-p-1) → at c.args.columns.now c.loop-p.p < max_cols
-place_5 c = c.requires.fact_1.small c.loop-p.p c.loop-p-test.true
-
--- the column at p is a place
-place_6 : (c : goal.After-add_product-sum) → at c.args.columns.now c.loop-p.p < max_cols
-place_6 c = c.requires.fact_1.small c.loop-p.p c.loop-p-test.true
 
 pub loop-p-init : goal.loop-p-init
 loop-p-init c = adding_start c.requires.fact_1 c.requires.fact_2 (λ j. refl)
@@ -41,7 +14,7 @@ pub bounds-columns-p : goal.bounds-columns-p
 bounds-columns-p c = omega arith
 
 pub overflow_cast-j : goal.overflow_cast-j
-overflow_cast-j c = omega (arith, place c)
+overflow_cast-j c = omega (arith, (c.requires.fact_1.small c.loop-p.p c.loop-p-test.true))
 
 pub offset_bounds-values-p : goal.offset_bounds-values-p
 offset_bounds-values-p c = omega (arith, c.requires.fact_1.even)
@@ -53,31 +26,31 @@ pub apply_binary-product-requires : goal.apply_binary-product-requires
 apply_binary-product-requires c = tt
 
 pub offset_bounds-marks-j : goal.offset_bounds-marks-j
-offset_bounds-marks-j c = omega (arith, place_2 c)
+offset_bounds-marks-j c = omega (arith, (c.requires.fact_1.small c.loop-p.p c.loop-p-test.true))
 
 pub bounds-marks-j : goal.bounds-marks-j
-bounds-marks-j c = place_3 c
+bounds-marks-j c = (c.requires.fact_1.small c.loop-p.p c.loop-p-test.true)
 
 pub offset_bounds-cells-j : goal.offset_bounds-cells-j
-offset_bounds-cells-j c = omega (arith, place_4 c)
+offset_bounds-cells-j c = omega (arith, (c.requires.fact_1.small c.loop-p.p c.loop-p-test.true))
 
 pub bounds-cells-j : goal.bounds-cells-j
-bounds-cells-j c = place_5 c
+bounds-cells-j c = (c.requires.fact_1.small c.loop-p.p c.loop-p-test.true)
 
 pub add_product-sum-requires : goal.add_product-sum-requires
 add_product-sum-requires c = tt
 
 pub offset_bounds-marks-j-in-loop-p : goal.offset_bounds-marks-j-in-loop-p
-offset_bounds-marks-j-in-loop-p c = omega (arith, place_6 c)
+offset_bounds-marks-j-in-loop-p c = omega (arith, (c.requires.fact_1.small c.loop-p.p c.loop-p-test.true))
 
 pub bounds-marks-j-in-loop-p : goal.bounds-marks-j-in-loop-p
-bounds-marks-j-in-loop-p c = place_6 c
+bounds-marks-j-in-loop-p c = (c.requires.fact_1.small c.loop-p.p c.loop-p-test.true)
 
 pub offset_bounds-cells-j-in-loop-p : goal.offset_bounds-cells-j-in-loop-p
-offset_bounds-cells-j-in-loop-p c = omega (arith, place_6 c)
+offset_bounds-cells-j-in-loop-p c = omega (arith, (c.requires.fact_1.small c.loop-p.p c.loop-p-test.true))
 
 pub bounds-cells-j-in-loop-p : goal.bounds-cells-j-in-loop-p
-bounds-cells-j-in-loop-p c = place_6 c
+bounds-cells-j-in-loop-p c = (c.requires.fact_1.small c.loop-p.p c.loop-p-test.true)
 
 pub overflow_add-p : goal.overflow_add-p
 overflow_add-p c = omega (arith, c.loop-p-test.true)

@@ -1,16 +1,8 @@
 -- `add_rows` adds up the rows that the entries name: those of the entries before p are added.
-use Prim.Native.Nat.{◌-◌, ◌<◌}
 use native.Mathlib.Omega.{arith}
-use Rattle.words.specs.Words.{at}
-use Rattle.matrix.specs.Layout.{rows}
 use Rattle.matrix.proofs.Facts.{row_span}
 use Rattle.products.proofs.Summing.{matrix_row, summing_start, summing_step, summing_done}
 use Rattle.products.proofs.add_rows.Goals as goal
-
--- the column at p is a row of b
-named : (c : goal.After-add_matrix_row-arg-in-loop-p-1)
-    → let a = c.args in at a.columns.now c.loop-p.p < rows a.b.now
-named c = c.requires.row_1.small c.loop-p.p c.loop-p-test.true
 
 pub loop-p-init : goal.loop-p-init
 loop-p-init c = summing_start c.requires.row_1 c.requires.spread
@@ -22,7 +14,7 @@ pub bounds-columns-p : goal.bounds-columns-p
 bounds-columns-p c = omega arith
 
 pub overflow_cast-k : goal.overflow_cast-k
-overflow_cast-k c = omega (arith, c.shared_slice_known-in-loop-p-1.given c.loop-p.p)
+overflow_cast-k c = omega (arith, c.type_inv.columns c.loop-p.p)
 
 pub offset_bounds-values-p : goal.offset_bounds-values-p
 offset_bounds-values-p c = omega (arith, c.requires.row_1.even)
@@ -34,8 +26,8 @@ pub add_matrix_row-requires : goal.add_matrix_row-requires
 add_matrix_row-requires c =
     record {
       header_1 = c.requires.row_2.header;
-      header_2 = row_span _ c.requires.row_2.starts _ (named c);
-      header_3 = matrix_row _ c.requires.row_2 _ (named c);
+      header_2 = row_span _ c.requires.row_2.starts _ (c.requires.row_1.small c.loop-p.p c.loop-p-test.true);
+      header_3 = matrix_row _ c.requires.row_2 _ (c.requires.row_1.small c.loop-p.p c.loop-p-test.true);
       sized = c.loop-p.invariant.sized;
     }
 

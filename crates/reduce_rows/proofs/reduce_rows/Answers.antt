@@ -1,8 +1,7 @@
 -- `reduce_rows` leaves the totals of the rows: those of the rows before j are written.
-use Prim.Native.Nat.{◌-◌, ◌<◌}
+use Prim.Native.Nat.{◌<◌}
 use native.Mathlib.Omega.{arith}
 use mathlib.Core.Path.{sym, ap, ◌∙◌}
-use mathlib.Core.Logic.{⊎_elim}
 use Rattle.reductions.specs.Reductions.{reduced}
 use Rattle.matrix.specs.Layout.{rows}
 use Rattle.matrix.proofs.Facts.{row_span}
@@ -60,9 +59,9 @@ loop-j-preserved c =
     let h = c.loop-j.invariant in
     let same = ap (reduced _) c.row_values.ensures.words in
     elim c.match-reduce_values.branch [
-      in-Present w ↦ rw (w.oc-is, w.ov-is, w.e-is)
+      | in-Present w ↦ rw (w.oc-is, w.ov-is, w.e-is)
           (reducing_put c.requires.fact_1 h (below_2 c) c.requires.fact_2.0 c.requires.fact_2.1 (sym (w.in-Present.ensures ∙ same)))
-    | in-Absent w ↦ rw (w.oc-is, w.ov-is, w.e-is)
+      | in-Absent w ↦ rw (w.oc-is, w.ov-is, w.e-is)
           (reducing_skip c.requires.fact_1 h (below_2 c) (sym (w.in-Absent.ensures ∙ same)))
     ]
 

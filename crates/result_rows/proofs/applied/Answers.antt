@@ -14,10 +14,12 @@ row_values-requires c = (c.requires.matrix_1.header, matrix_span _ c.requires.ma
 
 pub apply_row-requires : goal.apply_row-requires
 apply_row-requires c =
-    rw c.col_count.ensures (
-      rw (c.row_columns.ensures.words, c.row_values.ensures.words) (matrix_row _ c.requires.matrix_1 _ c.requires.matrix_2),
-      c.requires.a_in_bounds,
-    )
+    rw c.col_count.ensures
+    record {
+      fact_1 = rw (c.row_columns.ensures.words, c.row_values.ensures.words)
+          (matrix_row _ c.requires.matrix_1 _ c.requires.matrix_2);
+      fact_2 = c.requires.a_in_bounds;
+    }
 
 pub returns : goal.returns
 unfolding cell_of

@@ -51,19 +51,21 @@ row_values-requires-3 c =
 
 pub assign_row-requires : goal.assign_row-requires
 assign_row-requires c =
+    let p = c.requires.assign_inputs in
     rw (
       c.col_count-2.ensures,
       c.row_columns-2.ensures.words,
       c.row_values-2.ensures.words,
       c.row_columns-3.ensures.words,
       c.row_values-3.ensures.words,
-    ) (
-      c.requires.assign_inputs.output.header.col_range.most,
-      (
-        first_row c.requires.assign_inputs _ (named c.requires.assign_inputs c.if-place-eq0.false).first,
-        (matrix_row _ c.requires.assign_inputs.output _ c.requires.assign_inputs.row, (c.requires.assign_inputs.cols_listed, c.requires.c_in_bounds)),
-      ),
     )
+    record {
+      places_le_max_cols_1 = p.output.header.col_range.most;
+      places_le_max_cols_2 = first_row p _ (named p c.if-place-eq0.false).first;
+      places_le_max_cols_3 = matrix_row _ p.output _ p.row;
+      places_le_max_cols_4 = p.cols_listed;
+      places_in_bounds = c.requires.c_in_bounds;
+    }
 
 pub returns : goal.returns
 returns c =

@@ -22,6 +22,7 @@ row_values-requires-2 c =
 
 pub kronecker_row-requires : goal.kronecker_row-requires
 kronecker_row-requires c =
+    let p = c.requires.block_inputs in
     rw (
       c.col_count.ensures,
       c.col_count-2.ensures,
@@ -30,13 +31,13 @@ kronecker_row-requires c =
       c.row_columns-2.ensures.words,
       c.row_values-2.ensures.words,
       c.row_count-height.ensures,
-    ) (
-      (c.requires.block_inputs.first.header.col_range.most, c.requires.block_inputs.second.header.col_range.most),
-      (
-        matrix_row _ c.requires.block_inputs.first _ (block_below _ _ _ c.requires.block_inputs.row),
-        (matrix_row _ c.requires.block_inputs.second _ (place_below _ _ _ c.requires.block_inputs.row), c.requires.b_in_bounds),
-      ),
     )
+    record {
+      blocks_le_max_cols_1 = (p.first.header.col_range.most, p.second.header.col_range.most);
+      blocks_le_max_cols_2 = matrix_row _ p.first _ (block_below _ _ _ p.row);
+      blocks_le_max_cols_3 = matrix_row _ p.second _ (place_below _ _ _ p.row);
+      places_in_bounds = c.requires.b_in_bounds;
+    }
 
 pub returns : goal.returns
 unfolding cell_of

@@ -26,17 +26,15 @@ row_values-requires-2 c =
 
 pub merge_row-requires : goal.merge_row-requires
 merge_row-requires c =
-    rw c.col_count.ensures (
-      empty_row _,
-      (
-        rw (c.row_columns.ensures.words, c.row_values.ensures.words) (matrix_row _ c.requires.pair_inputs.first _ c.requires.pair_inputs.row),
-        (
-          rw (c.row_columns-2.ensures.words, c.row_values-2.ensures.words, c.requires.pair_inputs.same_cols)
-              (matrix_row _ c.requires.pair_inputs.second _ (omega (arith, c.requires.pair_inputs.row, c.requires.pair_inputs.same_rows))),
-          c.requires.a_in_bounds,
-        ),
-      ),
-    )
+    let p = c.requires.pair_inputs in
+    rw c.col_count.ensures
+    record {
+      row = empty_row _;
+      row_2 = rw (c.row_columns.ensures.words, c.row_values.ensures.words) (matrix_row _ p.first _ p.row);
+      row_3 = rw (c.row_columns-2.ensures.words, c.row_values-2.ensures.words, p.same_cols)
+          (matrix_row _ p.second _ (omega (arith, p.row, p.same_rows)));
+      places_in_bounds = c.requires.a_in_bounds;
+    }
 
 pub returns : goal.returns
 unfolding cell_of lookup

@@ -12,9 +12,13 @@ row_values-requires c =
 
 pub product_row_by-requires : goal.product_row_by-requires
 product_row_by-requires c =
+    let p = c.requires.product_inputs in
     record {
-      row = rw (c.row_columns.ensures.words, c.row_values.ensures.words, ← c.requires.product_inputs.inner) (matrix_row _ c.requires.product_inputs.first _ c.requires.product_inputs.row);
-      b_in_bounds = (c.requires.product_inputs.second, c.requires.b_in_bounds);
+      row = (
+        rw (c.row_columns.ensures.words, c.row_values.ensures.words, ← p.inner) (matrix_row _ p.first _ p.row),
+        p.second,
+      );
+      b_in_bounds = c.requires.b_in_bounds;
     }
 
 pub returns : goal.returns

@@ -127,7 +127,7 @@ pub write_entries-requires : goal.write_entries-requires
 write_entries-requires c =
     let next_long = c.write_starts.auto.counts ∙ c.count_columns.auto.counts in record {
       fact_1 = valid_2 c;
-      fact_2 = starts_ready (valid_2 c) (count_is_2 c) c.count_columns.ensures c.count_columns.auto.counts           c.write_starts.ensures next_long (sections_long c);
+      fact_2 = starts_ready (valid_2 c) (count_is_2 c) c.count_columns.ensures c.count_columns.auto.counts c.write_starts.ensures next_long (sections_long c);
     }
 
 pub write_header-requires : goal.write_header-requires

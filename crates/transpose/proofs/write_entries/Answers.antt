@@ -26,7 +26,7 @@ pub place_row-requires : goal.place_row-requires
 place_row-requires c =
     let h = c.loop-i.invariant in
     let l = c.loop-i-test.true in
- record {
+    record {
       header = c.requires.fact_1.header;
       row_span = row_span _ c.requires.fact_1.starts _ l;
       row = valid_row _ (matrix_made _ c.requires.fact_1) _ l;
@@ -36,8 +36,8 @@ place_row-requires c =
 
 pub loop-i-preserved : goal.loop-i-preserved
 loop-i-preserved c =
-    let k = c.place_row.auto.1.1.1 in
-    placed_next c.loop-i.invariant c.loop-i-test.true k.0 k.1.0 c.place_row.ensures
+    placed_next c.loop-i.invariant c.loop-i-test.true c.place_row.auto.next c.place_row.auto.sections
+    c.place_row.ensures
 
 pub shape_of-sections : goal.shape_of-sections
 shape_of-sections c = c.loop-i.invariant.room.sections_fit ∙ sym c.requires.fact_2.room.sections_fit

@@ -24,7 +24,7 @@ pub collect-requires : goal.collect-requires
 collect-requires c =
     record {
       fact_1 = c.sum_rows-top.ensures.tracked;
-      fact_2 = product_room _ _ _ _ c.requires.row_2 c.sum_rows-top.ensures c.requires.b_in_bounds.0 (omega (arith, c.requires.b_in_bounds.1, c.ov-1.given));
+      fact_2 = product_room _ _ _ _ c.requires.row_2 c.sum_rows-top.ensures c.requires.b_in_bounds.0 (omega (arith, c.requires.b_in_bounds.1, c.sum_rows-top.auto.sums));
     }
 
 pub returns : goal.returns

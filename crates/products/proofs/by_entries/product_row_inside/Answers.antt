@@ -1,27 +1,8 @@
--- `product_row_inside`: as `product_row_by_entries`; of the sums those inside the mask are collected.
+-- `product_row_inside`: as `product_row_by_entries`; of the sums those (carries_inside the.sum_rows-top.ensures the.keep_inside.ensures) mask are collected.
 use native.Mathlib.Omega.{arith}
-use Rattle.rows.specs.Row.{lookup}
-use Rattle.bit_rows.specs.Bits.{Carries}
 use Rattle.bit_rows.proofs.Marks.{carries_none}
-use Rattle.products.specs.Products.{product_row, inside_row}
 use Rattle.products.proofs.ByEntries.{inside_empty, carries_inside, inside_room, inside_collected}
 use Rattle.products.proofs.by_entries.product_row_inside.Goals as goal
-
--- the sums inside the mask
-inside : (c : goal.After-collect-arg-2-1) → let a = c.args in
-    Carries (inside_row a.w (lookup a.mc.now a.mv.now)
-    (product_row a.monoid a.op (lookup a.columns.now a.values.now) a.b.now))
-    c.sum_rows-top.result c.keep_inside.new.map c.sum_rows-top.new.sums
-inside c =
-    carries_inside c.sum_rows-top.ensures c.keep_inside.ensures
-
--- the sums inside the mask
-inside_2 : (c : goal.After-slice_known-5-1) → let a = c.args in
-    Carries (inside_row a.w (lookup a.mc.now a.mv.now)
-    (product_row a.monoid a.op (lookup a.columns.now a.values.now) a.b.now))
-    c.sum_rows-top.result c.keep_inside.new.map c.sum_rows-top.new.sums
-inside_2 c =
-    carries_inside c.sum_rows-top.ensures c.keep_inside.ensures
 
 pub returns-then-columns-eq0 : goal.returns-then-columns-eq0
 returns-then-columns-eq0 c =
@@ -46,12 +27,11 @@ keep_inside-requires c =
 
 pub collect-requires : goal.collect-requires
 collect-requires c =
-    let s = inside c in
-    let ov = c.ov-1.given in
+    let s = (carries_inside c.sum_rows-top.ensures c.keep_inside.ensures) in
     record {
       fact_1 = s.tracked;
-      fact_2 = inside_room _ _ _ _ c.requires.row_2 _ _ s c.requires.b_in_bounds.0 (omega (arith, c.requires.b_in_bounds.1, ov));
+      fact_2 = inside_room _ _ _ _ c.requires.row_2 _ _ s c.requires.b_in_bounds.0 (omega (arith, c.requires.b_in_bounds.1, c.sum_rows-top.auto.sums));
     }
 
 pub returns : goal.returns
-returns c = inside_collected _ _ _ _ c.requires.row_2 _ _ (inside_2 c) c.collect.ensures
+returns c = inside_collected _ _ _ _ c.requires.row_2 _ _ (carries_inside c.sum_rows-top.ensures c.keep_inside.ensures) c.collect.ensures

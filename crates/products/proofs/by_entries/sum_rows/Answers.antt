@@ -1,17 +1,9 @@
 -- `sum_rows` adds up the rows that the entries name: those of the entries before p are added.
-use Prim.Native.Nat.{◌-◌, ◌<◌}
 use native.Mathlib.Omega.{arith}
-use Rattle.words.specs.Words.{at}
-use Rattle.matrix.specs.Layout.{rows}
 use Rattle.matrix.proofs.Facts.{row_span}
 use Rattle.products.proofs.Summing.{matrix_row}
 use Rattle.products.proofs.ByEntries.{matrix_row_in, totalling_start, totalling_step, totalling_done}
 use Rattle.products.proofs.by_entries.sum_rows.Goals as goal
-
--- the column at p is a row of b
-named : (c : goal.After-sum_matrix_row-arg-in-loop-p-1)
-    → let a = c.args in at a.columns.now c.loop-p.p < rows a.b.now
-named c = c.requires.row_1.small c.loop-p.p c.loop-p-test.true
 
 pub loop-p-init : goal.loop-p-init
 loop-p-init c = totalling_start c.requires.row_1 c.requires.carries_1
@@ -23,7 +15,7 @@ pub bounds-columns-p : goal.bounds-columns-p
 bounds-columns-p c = omega arith
 
 pub overflow_cast-k : goal.overflow_cast-k
-overflow_cast-k c = omega (arith, c.shared_slice_known-in-loop-p-1.given c.loop-p.p)
+overflow_cast-k c = omega (arith, c.type_inv.columns c.loop-p.p)
 
 pub offset_bounds-values-p : goal.offset_bounds-values-p
 offset_bounds-values-p c = omega (arith, c.requires.row_1.even)
@@ -35,9 +27,9 @@ pub sum_matrix_row-top-requires : goal.sum_matrix_row-top-requires
 sum_matrix_row-top-requires c =
     let h = c.loop-p.invariant in record {
       header_1 = c.requires.row_2.header;
-      header_2 = row_span _ c.requires.row_2.starts _ (named c);
-      header_3 = matrix_row _ c.requires.row_2 _ (named c);
-      row_1 = matrix_row_in _ c.requires.row_2 _ (named c) (omega (arith, c.requires.carries_2, h.long));
+      header_2 = row_span _ c.requires.row_2.starts _ (c.requires.row_1.small c.loop-p.p c.loop-p-test.true);
+      header_3 = matrix_row _ c.requires.row_2 _ (c.requires.row_1.small c.loop-p.p c.loop-p-test.true);
+      row_1 = matrix_row_in _ c.requires.row_2 _ (c.requires.row_1.small c.loop-p.p c.loop-p-test.true) (omega (arith, c.requires.carries_2, h.long));
       row_2 = h.tracked;
     }
 
@@ -49,7 +41,7 @@ loop-p-smaller c = omega (arith, c.loop-p-test.true)
 
 pub loop-p-preserved : goal.loop-p-preserved
 loop-p-preserved c =
-    totalling_step c.requires.row_1 c.loop-p.invariant c.loop-p-test.true c.sums-1.given
+    totalling_step c.requires.row_1 c.loop-p.invariant c.loop-p-test.true c.sum_matrix_row-top.auto.sums
     c.sum_matrix_row-top.ensures
 
 pub shape_of-sums : goal.shape_of-sums
