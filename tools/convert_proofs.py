@@ -158,8 +158,8 @@ def resolve(fn, root, place, fields, rootplace=None):
                         return None, several(f"{root}.{new}.ensures", cl["fields"], rest[1:], fn)
                     else:
                         return None, ".".join([root, new, "ensures", name] + left)
-                if rest[:1] and rest[0] in ("new", "auto", "kept", "exits") and names:
-                    head = {"kept": "auto", "exits": "new"}.get(rest[0], rest[0])
+                if rest[:1] and rest[0] in ("new", "auto", "kept", "exits", "last") and names:
+                    head = {"kept": "auto", "exits": "new", "last": "new"}.get(rest[0], rest[0])
                     k = 1
                     while k < len(rest) and rest[k] == "1":
                         k += 1
@@ -748,6 +748,82 @@ def convert(crate, fname, folder, d, source):
     return fn.said
 
 
+def convert_cycle(crate, fname, folder, data, source):
+    """The proof of functions that call one another, in proofs/+NAME/."""
+    text = open(os.path.join(folder, "Proof.antt"), encoding="utf-8").read()
+    said, answers, measures, head, uses, fns, params = [], [], [], [], [], {}, {}
+    for k in data:
+        m = re.fullmatch(re.escape(f"Rattle-{crate}-proofs.{fname}.Lts-") + r"(\w+)", k)
+        if m:
+            fns[m.group(1)] = Fn(data[k], source, m.group(1))
+            params.update({q.split("::")[-1]: v for q, v in data[k]["params"].items()})
+    for b in blocks(text):
+        lines = b.split("\n")
+        k = 0
+        while k < len(lines) and lines[k].startswith("--"):
+            k += 1
+        if k < len(lines) and lines[k].startswith("use "):
+            head += lines[:k]
+            uses += re.split(r"\n(?=use )", "\n".join(lines[k:]))
+            continue
+        comment, body = "\n".join(lines[:k]), "\n".join(lines[k:])
+        m = re.match(r"(?:abbrev )?μ-([\w-]+) : Measures[^\n]*\nμ-[\w-]+ κs a = (.*)$", body, re.S)
+        if m:
+            f = next(x for x in fns if norm(x) == norm(m.group(1)))
+            e = re.sub(r"\ba((?:\.1)*)\.0\b", lambda q: "l." + params[f][q.group(1).count("1")], m.group(2))
+            measures.append(f"abbrev pub decreases-{f} : goal.decreases-{f}\ndecreases-{f} l = {e.strip()}")
+            continue
+        m = re.match(r"(\w+) : \(t : ℕ\) → (\w+)_lts\.Need-([\w-]+)", body)
+        if m:
+            name, f, key = m.groups()
+            fn = fns[f]
+            d = re.search(r"^" + name + r" t (\w+)((?: κs)?) =[ \t]*\n?(.*)$", body, re.M | re.S)
+            e, c = d.group(3), d.group(1)
+            if e.strip() in ("search rules", "search needs"):
+                continue
+            for alt in (key, re.sub("^overflow-", "", key)):
+                if norm(alt) in fn.needs:
+                    key = alt
+                    break
+            else:
+                said.append(f"no goal {f} {key}")
+                continue
+            new, i, old = fn.needs[norm(key)]
+            place = fn.by_place(fn.d["asked_at"][i][0])
+            e = turn(fn, e, {c: (c, place)}, {c: place}, {}, {}, None)
+            if new.endswith("requires") or "-requires-" in new:
+                e = named(fn, e, next((v for q, v in fn.d["asked"].items() if norm(q) == norm(old)), []))
+            elif new.startswith("returns"):
+                e = named(fn, e, fn.ensures)
+            e = e.strip("\n")
+            sep = "\n" if "\n" in e.strip() or len(e) > 90 else " "
+            answers.append((comment, f"pub {f}-{new} : goal.{f}-{new}\n{f}-{new} t {c} =" + (sep + (e if e[:1] == " " else "    " + e) if sep == "\n" else " " + e.strip())))
+            continue
+        if re.match(r"abbrev \w+_(at|below) :", body) or "_spec :" in body or "-spec :" in body:
+            continue
+        said.append("left: " + body.split("\n")[0])
+        answers.append((comment, body))
+    for f in fns.values():
+        said += f.said
+    keep = [u for u in uses if not re.search(r"\.(Kinds|Reads|Tie|Lts-\w+)( as |\.\{)|PlainCycle|Fn\.Kinds|\.\{\s*statement", u)]
+
+    def wanted(t, goals):
+        out = []
+        for u in keep:
+            m = re.search(r"\{(.*)\}", u, re.S)
+            items = [x.strip() for x in m.group(1).split(",") if x.strip()] if m else []
+            items = [x for x in items if (all(q in t for q in x.split("◌") if q) if "◌" in x else re.search(r"(?<![\w'-])" + re.escape(x) + r"(?![\w'-])", t))]
+            if items:
+                out.append(u[:m.start()] + "{" + ", ".join(items) + "}")
+        return "\n".join(out + [f"use Rattle.{crate}.proofs.{fname}.{goals} as goal"])
+    os.remove(os.path.join(folder, "Proof.antt"))
+    intro = "\n".join(head)
+    for file, goals, t in (("Invariants", "Given", "\n\n".join(measures)), ("Answers", "Goals", "\n\n".join((c + "\n" if c else "") + b for c, b in answers))):
+        with open(os.path.join(folder, file + ".antt"), "w", encoding="utf-8") as f:
+            f.write((intro + "\n" if intro else "") + wanted(t, goals) + "\n\n" + t + "\n")
+    return said
+
+
 def main(argv):
     names, crate, only = argv[0], argv[1], argv[2:]
     data = json.load(open(names))
@@ -761,6 +837,10 @@ def main(argv):
             continue
         fname = os.path.relpath(folder, os.path.join(base, "proofs")).replace("/", ".")
         if only and fname not in only:
+            continue
+        if fname.startswith("+"):
+            for said in convert_cycle(crate, fname, folder, data, source):
+                print(f"{fname}: {said}")
             continue
         key = f"Rattle-{crate}-proofs.{fname}.Lts"
         if key not in data:

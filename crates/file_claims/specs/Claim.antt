@@ -5,10 +5,10 @@
 -- name: `Reads.Learnt` is what a caller learns when the function returns.
 use Rattle.std.specs.Prelude.{ℕ, ◌+◌, ◌*◌, ◌≤◌, ◌≡◌, true, false, List, ◌∷◌, ◌++◌, length, take, drop}
 use contract.Lifetimes.{Lfts}
-use Rattle.std.specs.Borrow.{Bor}
+use Rattle.std.specs.Borrow.{Bor, MutBor}
 use borrow.Fn.Picked.{KnownAs}
 use Rattle.answers.specs.declared.Answer.{Answer}
-use Rattle.words.specs.Lent.{Address, lent}
+use Rattle.words.specs.Lent.{Address, lent, lent_mut}
 use Rattle.grid.specs.Grid.{Same}
 use Rattle.matrix.specs.Layout.{revision, size, entries, grid_of}
 use Rattle.matrix.specs.Valid.{valid}
@@ -26,13 +26,13 @@ use Rattle.file_claims.specs.OldRule.{old_file}
 -- the bytes f are read into the words w, which are w' afterwards
 pub data Reading (f w : List ℕ) (answer : Answer) (w' : List ℕ) : Type 0 where
   reading : (p q : Address) (κs : Lfts 2)
-      → read_file_reads.Learnt κs (lent p f, (lent q w, tt)) answer (lent p f, (lent q w', tt))
+      → read_file_reads.Learnt κs (lent p f, (lent_mut q w, tt)) answer (lent p f, (lent_mut q w', tt))
       → Reading f w answer w'
 
 -- the matrix in the words s is written into the bytes b, which are b' afterwards
 pub data Writing (s b : List ℕ) (answer : Answer) (b' : List ℕ) : Type 0 where
   writing : (p q : Address) (κs : Lfts 2)
-      → write_file_reads.Learnt κs (lent p s, (lent q b, tt)) answer (lent p s, (lent q b', tt))
+      → write_file_reads.Learnt κs (lent p s, (lent_mut q b, tt)) answer (lent p s, (lent_mut q b', tt))
       → Writing s b answer b'
 
 -- the file at the front of the bytes that the matrix in the words s was written into
@@ -52,11 +52,11 @@ pub record OneFile : Type 3 where
   pub read_met : {M : Type 1} → read_file_statement.statement M
   pub read_known : KnownAs 2 read_file_kinds.ps read_file_kinds.r read_file_reads.Ghost read_file_reads.requires
       read_file_reads.ensures read_file_reads.Asked read_file_reads.Learnt
-  pub read_free : (κs : Lfts 2) (f w : Bor (List ℕ)) → read_file_reads.Asked κs (f, (w, tt))
+  pub read_free : (κs : Lfts 2) (f : Bor (List ℕ)) (w : MutBor (List ℕ)) → read_file_reads.Asked κs (f, (w, tt))
   pub write_met : {M : Type 1} → write_file_statement.statement M
   pub write_known : KnownAs 2 write_file_kinds.ps write_file_kinds.r write_file_reads.Ghost write_file_reads.requires
       write_file_reads.ensures write_file_reads.Asked write_file_reads.Learnt
-  pub write_free : (κs : Lfts 2) (s b : Bor (List ℕ)) → write_file_reads.Asked κs (s, (b, tt))
+  pub write_free : (κs : Lfts 2) (s : Bor (List ℕ)) (b : MutBor (List ℕ)) → write_file_reads.Asked κs (s, (b, tt))
   -- "Reading what was written gives the words back", and answers alike; the words behind stay
   pub words_back : {s b b' w w' : List ℕ} {x y : Answer} → AreWords s → Writing s b x b' → x.code ≡ 0
       → Reading (written s b') w y w' → size s ≤ length w

@@ -3,12 +3,13 @@ use Prim.Native.Nat.{ℕ, ◌+◌, ◌-◌, ◌≤◌, ◌<◌}
 use native.Mathlib.Omega.{arith}
 use mathlib.Core.Path.{◌≡◌, refl, sym, ap, subst, ◌∙◌}
 use mathlib.Core.Logic.{⊎_elim}
-use mathlib.Core.Bool.{Bool, true, false, not, false≢true}
+use mathlib.Core.Bool.{Bool, true, false, false≢true}
 use mathlib.Core.List.{List, [], ◌∷◌, ◌++◌, append-nil}
 use lib.ListN.{length, get_or, drop}
 use lib.Seq.{drop-length}
 use borrow.Author.Tests.{ne_eqb}
 use types.Run.{OneOf}
+use borrow.Enum.Refused.{Among, opened}
 use denote.Enum.Declared.{tag_of}
 use Rattle.grid.specs.Grid.{Grid}
 use Rattle.matrix.specs.Layout.{revision, grid_of, max_matrix_words}
@@ -28,22 +29,25 @@ use Rattle.formula_evaluation.specs.Evaluating.{slot_worth, Standing, Lent, Lent
 use Rattle.formula_evaluation.proofs.Standing.{behind, behind_length, size_most, copied_standing}
 
 -- an answer that is passed on ends nowhere
-pub not_ends : (o : Evaluated) → OneOf (1 ∷ 2 ∷ []) (tag_of the_type o) → (q : ℕ) → o ≡ Ends q → ⊥
-not_ends (Ends p) h q e = ⊎_elim (λ z. omega arith) (λ z. omega arith) h
-not_ends Missing h q e = let z : ◌≡◌ {A = ℕ} 0 1 = cc in omega arith
-not_ends (Refused k) h q e = let z : ◌≡◌ {A = ℕ} 0 1 = cc in omega arith
+apart_from_ends : (o : Evaluated) → OneOf (1 ∷ 2 ∷ []) (tag_of the_type o) → (q : ℕ) → o ≡ Ends q → ⊥
+apart_from_ends (Ends p) h q e = ⊎_elim (λ z. omega arith) (λ z. omega arith) h
+apart_from_ends Missing h q e = let z : ◌≡◌ {A = ℕ} 0 1 = cc in omega arith
+apart_from_ends (Refused k) h q e = let z : ◌≡◌ {A = ℕ} 0 1 = cc in omega arith
+
+pub not_ends : (o : Evaluated) → Among (1 ∷ 2 ∷ []) (tag_of the_type o) → (q : ℕ) → o ≡ Ends q → ⊥
+not_ends o h = apart_from_ends o (opened h)
 
 -- ---- what `stands` tells
 -- the byte is not b
-pub stands_none : (s : List ℕ) (p b : ℕ) (r : Bool) → Stands s p b r → not r ≡ true → Apart b (drop p s)
-stands_none s p b true h n = absurd (false≢true n)
+pub stands_none : (s : List ℕ) (p b : ℕ) (r : Bool) → Stands s p b r → r ≡ false → Apart b (drop p s)
+stands_none s p b true h n = absurd (false≢true (sym n))
 stands_none s p b false h n = h
 
 -- it is
-pub stands_some : (s : List ℕ) (p b : ℕ) (r : Bool) → Stands s p b r → not r ≡ false
+pub stands_some : (s : List ℕ) (p b : ℕ) (r : Bool) → Stands s p b r → r ≡ true
     → (p < length s) × (get_or s p 0 ≡ b)
 stands_some s p b true h n = h
-stands_some s p b false h n = absurd (false≢true (sym n))
+stands_some s p b false h n = absurd (false≢true n)
 
 -- ---- what is lent on
 module _ {text : List ℕ} {at d : ℕ} {s w : List ℕ} where

@@ -1,7 +1,7 @@
 -- A row of assign: where its place in the list of rows stands, and which cells it has by that.
-use Prim.Native.Nat.{ℕ, ◌+◌, ◌-◌, ◌≤◌, ◌<◌}
+use Prim.Native.Nat.{ℕ, ◌+◌, ◌-◌, ◌<◌}
 use native.Mathlib.Omega.{arith}
-use mathlib.Core.Path.{◌≡◌, refl, sym, ap, subst, ◌∙◌}
+use mathlib.Core.Path.{◌≡◌, sym, ap, subst}
 use mathlib.Core.List.{List}
 use lib.ListN.{length, drop, length-drop}
 use lib.Seq.{get_or-drop}
@@ -10,7 +10,7 @@ use Rattle.words.specs.Words.{at}
 use Rattle.grid.specs.declared.Cell.{Cell}
 use Rattle.rows.specs.Row.{Row, lookup, Holds}
 use Rattle.rows.proofs.Holds.{holds_same}
-use Rattle.matrix.specs.Layout.{rows, cols, row_columns, row_values, cell_of}
+use Rattle.matrix.specs.Layout.{rows, row_columns, row_values, cell_of}
 use Rattle.operations.specs.declared.Accumulator.{Accumulator}
 use Rattle.operations.specs.CellOperations.{listed_cell, assigned_cell, unlisted_cell}
 use Rattle.operations.proofs.Listed.{listed_none, listed_at}

@@ -19,8 +19,7 @@ use Rattle.operators.specs.declared.BinaryOp.{BinaryOp}
 use Rattle.operators.specs.declared.Monoid.{Monoid}
 use Rattle.operations.specs.declared.Accumulator.{Accumulator}
 use Rattle.operations.specs.declared.Operation.TheVariants.{Mxm, EwiseMult, EwiseAdd, Extract, Assign, Kronecker}
-use Rattle.operations.specs.Calls.{fresh, index_fits, list_valid}
-use Rattle.operations.specs.Lists.{IndexList}
+use Rattle.operations.specs.Calls.{index_fits, list_valid}
 use Rattle.operations.proofs.Lists.{list_facts}
 use Rattle.extract_rows.specs.Indices.{Indices, Inverses}
 use Rattle.result_rows.specs.RowInputs.{

@@ -1,5 +1,5 @@
 -- What the workspace holds after i rows were staged: their starts, and their columns and values one after the other.
-use Prim.Native.Nat.{ℕ, suc, ◌+◌, ◌≤◌, ◌<◌}
+use Prim.Native.Nat.{ℕ, ◌+◌, ◌≤◌, ◌<◌}
 use native.Mathlib.Omega.{arith}
 use native.Mathlib.Decide.{dec_lt}
 use native.Mathlib.Numerals.{add-one}
@@ -8,7 +8,6 @@ use mathlib.Core.Path.{◌≡◌, refl, sym, ap, ◌∙◌}
 use mathlib.Core.List.{List, ◌++◌}
 use lib.ListN.{length, set, length-set, length-append}
 use lib.Seq.{get_or-set_same, get_or-set_other}
-use Rattle.limits.specs.Limits.{max_rows, max_entries}
 use Rattle.words.specs.Words.{at, part, overwrite}
 use Rattle.words.proofs.Parts.{part_empty, part_append}
 use Rattle.words.proofs.Overwrite.{
@@ -21,7 +20,7 @@ use Rattle.words.proofs.Overwrite.{
 }
 use Rattle.grid.specs.Grid.{Grid}
 use Rattle.grid.specs.Entries.{column, value, gather, flatten}
-use Rattle.matrix.specs.Layout.{starts_at, columns_at, start, max_matrix_words}
+use Rattle.matrix.specs.Layout.{starts_at, columns_at, start}
 use Rattle.encoding.specs.Encode.{entries_before}
 use Rattle.results.specs.Staging.{staged_at, RowBounds, staged_row, Staged}
 

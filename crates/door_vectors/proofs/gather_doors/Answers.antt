@@ -2,11 +2,11 @@
 use Prim.Native.Nat.{◌-◌}
 use native.Mathlib.Omega.{arith}
 use native.Mathlib.Nat.{pos_of_ne-zero}
-use mathlib.Core.Logic.{⊎_elim}
 use Rattle.dense_rows.proofs.Gathering.{gathering_start, gathering_put, gathering_skip, gathering_done}
 use Rattle.door_vectors.specs.Vectors.{round_at}
 use Rattle.door_vectors.proofs.Vectors.{round_shut, round_open}
 use Rattle.door_vectors.proofs.gather_doors.Goals as goal
+use Rattle.door_vectors.proofs.gather_doors.Goals.{then-doors-d-ne0, else-doors-d-ne0}
 
 pub loop-d-init : goal.loop-d-init
 loop-d-init c = gathering_start _ (round_at _) _ _
@@ -52,13 +52,15 @@ loop-d-smaller c = omega arith
 
 pub loop-d-preserved : goal.loop-d-preserved
 loop-d-preserved c =
-     let h = c.loop-d.invariant in
-    ⊎_elim
-    (λ w.
-    rw (w.2, w.3, w.4)
-    (gathering_put h c.loop-d-test.true c.requires.long_cols c.requires.long_vals (round_open _ _ w.0.taken)))
-    (λ w. rw (w.1, w.2, w.3) (gathering_skip h c.loop-d-test.true (round_shut _ _ w.0.left)))
-    c.if-doors-d-ne0.branch
+    elim c.if-doors-d-ne0.branch [
+      then-doors-d-ne0 w ↦
+          rw (w.oc-is, w.ov-is, w.e-is)
+          (gathering_put c.loop-d.invariant c.loop-d-test.true c.requires.long_cols c.requires.long_vals
+          (round_open _ _ w.if-doors-d-ne0.true))
+      | else-doors-d-ne0 w ↦
+          rw (w.oc-is, w.ov-is, w.e-is)
+          (gathering_skip c.loop-d.invariant c.loop-d-test.true (round_shut _ _ w.if-doors-d-ne0.false))
+    ]
 
 pub shape_of-oc : goal.shape_of-oc
 shape_of-oc c = c.loop-d.invariant.long_cols

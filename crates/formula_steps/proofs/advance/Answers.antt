@@ -42,6 +42,5 @@ stage_row-requires c = row_bounds c.requires.fact_1 c.requires.fact_2 c.row_of-m
 
 pub returns : goal.returns
 returns c =
-    let k = c.row_of-m.kept.1.1.1 in
     advanced_more c.requires.fact_1 c.requires.fact_2 c.row_of-m.ensures c.if-next.false _
-    c.stage_row.ensures c.stage_row.auto.work k.0 k.1.0
+    c.stage_row.ensures c.stage_row.auto.work c.row_of-m.auto.tc c.row_of-m.auto.tv

@@ -49,9 +49,9 @@ loop-i-smaller c =
 pub loop-i-preserved : goal.loop-i-preserved
 loop-i-preserved c =
     let v = c.loop-i.invariant in
-    let k = c.advance-n.kept.1.1.1.1 in (
+    let k = c.advance-n.auto in (
       (advanced_own v.0 c.advance-n.ensures).more c.if-n.false,
-      (k.0 ∙ v.1.0, k.1.0 ∙ v.1.1, k.1.1.0 ∙ v.1.2),
+      (k.area ∙ v.1.0, k.tc ∙ v.1.1, k.tv ∙ v.1.2),
     )
 
 pub shape_of-area : goal.shape_of-area

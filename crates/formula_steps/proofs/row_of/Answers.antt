@@ -14,9 +14,4 @@ slice_bounds-result_row-end-3 c =
     sym (length-take-le max_matrix_words c.args.area.now (omega (arith, c.requires.buffers_2)))
 
 pub result_row-requires : goal.result_row-requires
-result_row-requires c =
-    let p = (c.requires.row_inputs, (c.requires.buffers_1, c.requires.buffers_2)) in
-    record {
-      row_inputs = p.0;
-      buffers = p.1.0;
-    }
+result_row-requires c = record { row_inputs = c.requires.row_inputs; buffers = c.requires.buffers_1 }

@@ -7,9 +7,6 @@ use Rattle.matrix.specs.Layout.{max_matrix_words}
 use Rattle.formula_steps.proofs.Result.{shape_small, stepped_disagree, agreeing}
 use Rattle.formula_steps.proofs.step.Goals as goal
 
-pub slice_bounds-shape_of-end : goal.slice_bounds-shape_of-end
-slice_bounds-shape_of-end c = omega (arith, c.requires.space)
-
 pub slice_bounds-shape_of-end-2 : goal.slice_bounds-shape_of-end-2
 slice_bounds-shape_of-end-2 c =
     sym (length-take-le max_matrix_words c.args.area.now (omega (arith, c.requires.space)))

@@ -24,7 +24,9 @@ loop-i-init c = (
 )
 
 pub result_row-n-requires : goal.result_row-n-requires
-result_row-n-requires c = row_needs_lem _ _ _ _ _ _ c.loop-i.invariant.0 c.loop-i-test.true
+result_row-n-requires c =
+    let needs = row_needs_lem _ _ _ _ _ _ c.loop-i.invariant.0 c.loop-i-test.true in
+    record { row_inputs = needs.0; buffers = needs.1; }
 
 pub overflow_add-n : goal.overflow_add-n
 overflow_add-n c = sum_fits _ _ _ _ _ _ c.loop-i.invariant.0 c.result_row-n.ensures
@@ -37,13 +39,13 @@ shape_of-starts-then-n c =
 pub shape_of-oc-then-n : goal.shape_of-oc-then-n
 shape_of-oc-then-n c =
     let v = c.loop-i.invariant in
-    back_length c.loop-i.n c.loop-i.oc c.result_row-n.last.1.1.1.1.1.1.1.1.0
+    back_length c.loop-i.n c.loop-i.oc c.result_row-n.new.oc
     (columns_room _ _ _ _ _ _ v.0) c.result_row-n.auto.oc ∙ v.1.1
 
 pub shape_of-ov-then-n : goal.shape_of-ov-then-n
 shape_of-ov-then-n c =
     let v = c.loop-i.invariant in
-    back_length c.loop-i.n c.loop-i.ov c.result_row-n.last.1.1.1.1.1.1.1.1.1.0
+    back_length c.loop-i.n c.loop-i.ov c.result_row-n.new.ov
     (values_room _ _ _ _ _ _ v.0) c.result_row-n.auto.ov ∙ v.1.2
 
 pub returns-then-n : goal.returns-then-n
@@ -55,9 +57,9 @@ overflow_add-i c = counter_fits _ _ _ _ _ _ c.loop-i.invariant.0 c.loop-i-test.t
 
 pub skip_rows-i-requires-in-loop-i : goal.skip_rows-i-requires-in-loop-i
 skip_rows-i-requires-in-loop-i c =
-    let k = c.result_row-n.kept.1.1.1.1.1.1.1.1 in
+    let k = c.result_row-n.auto in
     let m = passed_next _ _ _ _ _ _ c.loop-i.invariant.0 c.result_row-n.ensures c.loop-i-test.true
-    c.if-n.false k.0 k.1.0 in
+    c.if-n.false k.oc k.ov in
     record {
       inputs = m.inputs;
       from_bound_1 = (omega (arith, m.within, m.rows_are), m.few);
@@ -72,16 +74,15 @@ loop-i-smaller c =
 pub loop-i-preserved : goal.loop-i-preserved
 loop-i-preserved c =
     let v = c.loop-i.invariant in
-    let x = c.result_row-n.last.1.1.1.1.1.1.1.1 in
-    let k = c.result_row-n.kept.1.1.1.1.1.1.1.1 in
-    let m = passed_next _ _ _ _ _ _ v.0 c.result_row-n.ensures c.loop-i-test.true c.if-n.false k.0
-    k.1.0 in (
+    let k = c.result_row-n.auto in
+    let m = passed_next _ _ _ _ _ _ v.0 c.result_row-n.ensures c.loop-i-test.true c.if-n.false k.oc
+    k.ov in (
       passed_skip _ _ _ _ _ _ m c.skip_rows-i-in-loop-i.ensures,
       (
         c.skip_rows-i-in-loop-i.ensures.size
             ∙ length-set c.loop-i.starts c.loop-i.i c.loop-i.n ∙ v.1.0,
-        back_length c.loop-i.n c.loop-i.oc x.0 (columns_room _ _ _ _ _ _ v.0) k.0 ∙ v.1.1,
-        back_length c.loop-i.n c.loop-i.ov x.1.0 (values_room _ _ _ _ _ _ v.0) k.1.0 ∙ v.1.2,
+        back_length c.loop-i.n c.loop-i.oc c.result_row-n.new.oc (columns_room _ _ _ _ _ _ v.0) k.oc ∙ v.1.1,
+        back_length c.loop-i.n c.loop-i.ov c.result_row-n.new.ov (values_room _ _ _ _ _ _ v.0) k.ov ∙ v.1.2,
       ),
     )
 

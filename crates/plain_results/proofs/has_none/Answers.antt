@@ -5,4 +5,4 @@ use borrow.Author.Tests.{eqb-true}
 use Rattle.plain_results.proofs.has_none.Goals as goal
 
 pub returns : goal.returns
-returns c = sym (ap length c.row_columns-columns.ensures.words) ∙ eqb-true _ _ e
+returns c = λ e. sym (ap length c.row_columns-columns.ensures.words) ∙ eqb-true _ _ e
