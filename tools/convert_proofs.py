@@ -505,8 +505,8 @@ def convert(crate, fname, folder, d, source):
         if not m:
             continue
         name = m.group(2)
-        h = re.match(re.escape(m.group(0)) + r"\s*tie\.([\w-]+)[^→]*→\s*tie\.([\w-]+)[^\n]*\n(?:unfolding[^\n]*\n)?" + re.escape(name) + r" (\w+) = ([^\n]+)$", body)
-        h = h or re.match(r"(?:abbrev )?" + re.escape(name) + r" : \([\w']+ : tie\.([\w-]+)[^→]*\)\s*→\s*tie\.([\w-]+)[^\n]*\n(?:unfolding[^\n]*\n)?" + re.escape(name) + r" (\w+) = ([^\n]+)$", body)
+        h = re.match(re.escape(m.group(0)) + r"\s*tie\.([\w-]+)[^→]*→\s*tie\.([\w-]+)[^\n]*\n(?:unfolding[^\n]*\n)?" + re.escape(name) + r" (\w+) =\s+([^\n]+)$", body)
+        h = h or re.match(r"(?:abbrev )?" + re.escape(name) + r" : \([\w']+ : tie\.([\w-]+)[^→]*\)\s*→\s*tie\.([\w-]+)[^\n]*\n(?:unfolding[^\n]*\n)?" + re.escape(name) + r" (\w+) =\s+([^\n]+)$", body)
         if h and "let " not in h.group(4):
             k = fn.by_place(h.group(2))
             if k is not None:
@@ -637,7 +637,10 @@ def convert(crate, fname, folder, d, source):
                 e = named(fn, e, fields)
             elif re.match(r"returns", new):
                 e = named(fn, e, fn.ensures)
-            for p in ps[1:]:
+            more = [p for p in ps[1:] if p not in ("κs", "_")]
+            if more:
+                e = "λ " + " ".join(more) + ". " + e.lstrip()
+            for p in [p for p in ps[1:] if p == "κs"]:
                 if re.search(r"(?<![\w.])" + re.escape(p) + r"(?![\w])", e):
                     fn.said.append(f"{new} used {p}")
             c = ps[0] if ps else "c"

@@ -4,11 +4,11 @@
 -- nothing undefined and ends as its contract says.
 use Rattle.std.specs.Prelude.{ℕ, ◌≤◌, ◌≡◌, List}
 use contract.Lifetimes.{Lfts}
-use Rattle.std.specs.Borrow.{Bor}
+use Rattle.std.specs.Borrow.{Bor, MutBor}
 use borrow.Fn.Picked.{KnownAs}
 use Rattle.limits.specs.Limits.{max_allowance}
 use Rattle.answers.specs.declared.Answer.{Answer}
-use Rattle.words.specs.Lent.{Address, lent}
+use Rattle.words.specs.Lent.{Address, lent, lent_mut}
 use Rattle.matrix.specs.Layout.{rows}
 use Rattle.key_marks.proofs.doors_open.Reads as doors_open_reads
 use Rattle.key_marks.proofs.rounds.Reads as rounds_reads
@@ -35,18 +35,18 @@ abbrev pub ByRounds : Lfts 5 → Places → ℕ → List ℕ → List ℕ → Li
     → Type 0
 ByRounds κs p n a b c d e answer d' e' =
     open_doors_reads.Learnt κs
-    (n, (lent p.locks a, (lent p.cabinets b, (lent p.hand c, (lent p.out d, (lent p.work e, tt))))))
+    (n, (lent p.locks a, (lent p.cabinets b, (lent p.hand c, (lent_mut p.out d, (lent_mut p.work e, tt))))))
     answer
-    (n, (lent p.locks a, (lent p.cabinets b, (lent p.hand c, (lent p.out d', (lent p.work e', tt))))))
+    (n, (lent p.locks a, (lent p.cabinets b, (lent p.hand c, (lent_mut p.out d', (lent_mut p.work e', tt))))))
 
 -- of the two questions
 abbrev pub ByQuestions : Lfts 5 → Places → ℕ → List ℕ → List ℕ → List ℕ → List ℕ → List ℕ → Answer → List ℕ → List ℕ
     → Type 0
 ByQuestions κs p n a b c d e answer d' e' =
     ask_doors_reads.Learnt κs
-    (n, (lent p.locks a, (lent p.cabinets b, (lent p.hand c, (lent p.out d, (lent p.work e, tt))))))
+    (n, (lent p.locks a, (lent p.cabinets b, (lent p.hand c, (lent_mut p.out d, (lent_mut p.work e, tt))))))
     answer
-    (n, (lent p.locks a, (lent p.cabinets b, (lent p.hand c, (lent p.out d', (lent p.work e', tt))))))
+    (n, (lent p.locks a, (lent p.cabinets b, (lent p.hand c, (lent_mut p.out d', (lent_mut p.work e', tt))))))
 
 -- two calls that end alike: the answer, and every word of the two buffers that a call writes
 pub record Alike (answer answer' : Answer) (out out' work work' : List ℕ) : Type 0 where
@@ -66,10 +66,10 @@ Equal =
 abbrev pub EqualMarks : Type 0
 EqualMarks =
     (κs λs : Lfts 4) (p q r s t u v w : Address) (n : ℕ) (a b keys doors keys₁ doors₁ keys₂ doors₂ : List ℕ)
-    → doors_open_reads.Learnt κs (n, (lent p a, (lent q b, (lent r keys, (lent s doors, tt))))) tt
-    (n, (lent p a, (lent q b, (lent r keys₁, (lent s doors₁, tt)))))
-    → rounds_reads.Learnt λs (n, (lent t a, (lent u b, (lent v keys, (lent w doors, tt))))) tt
-    (n, (lent t a, (lent u b, (lent v keys₂, (lent w doors₂, tt)))))
+    → doors_open_reads.Learnt κs (n, (lent p a, (lent q b, (lent_mut r keys, (lent_mut s doors, tt))))) tt
+    (n, (lent p a, (lent q b, (lent_mut r keys₁, (lent_mut s doors₁, tt)))))
+    → rounds_reads.Learnt λs (n, (lent t a, (lent u b, (lent_mut v keys, (lent_mut w doors, tt))))) tt
+    (n, (lent t a, (lent u b, (lent_mut v keys₂, (lent_mut w doors₂, tt)))))
     → doors₁ ≡ doors₂
 
 -- "Show that an allowance beyond the number of keys adds nothing": two allowances that are no smaller, within the limit
@@ -90,9 +90,9 @@ pub record Programs : Type 3 where
       open_doors_reads.ensures open_doors_reads.Asked open_doors_reads.Learnt
   pub ask_known : KnownAs 5 ask_doors_kinds.ps ask_doors_kinds.r ask_doors_reads.Ghost ask_doors_reads.requires
       ask_doors_reads.ensures ask_doors_reads.Asked ask_doors_reads.Learnt
-  pub open_free : (κs : Lfts 5) (n : ℕ) (locks cabinets hand out work : Bor (List ℕ))
+  pub open_free : (κs : Lfts 5) (n : ℕ) (locks cabinets hand : Bor (List ℕ)) (out work : MutBor (List ℕ))
       → open_doors_reads.Asked κs (n, (locks, (cabinets, (hand, (out, (work, tt))))))
-  pub ask_free : (κs : Lfts 5) (n : ℕ) (locks cabinets hand out work : Bor (List ℕ))
+  pub ask_free : (κs : Lfts 5) (n : ℕ) (locks cabinets hand : Bor (List ℕ)) (out work : MutBor (List ℕ))
       → ask_doors_reads.Asked κs (n, (locks, (cabinets, (hand, (out, (work, tt))))))
   pub equal : Equal
   pub equal_marks : EqualMarks

@@ -1,9 +1,8 @@
 -- T of apply by an operator that looks at the value alone: the entries of A, with the operator's values.
 use Prim.Native.Nat.{ℕ, zero, suc, ◌+◌, ◌-◌, ◌≤◌, ◌<◌}
 use native.Mathlib.Omega.{arith}
-use native.Mathlib.Nat.{add_comm}
 use mathlib.Core.Path.{◌≡◌, refl, sym, ap, subst, ◌∙◌}
-use mathlib.Core.List.{List, [], ◌∷◌, ◌++◌, map, map-append}
+use mathlib.Core.List.{List, [], ◌∷◌, map, map-append}
 use mathlib.Core.Bool.{true, false≢true}
 use lib.ListN.{length, take, length-map}
 use lib.Seq.{take_at}
@@ -24,27 +23,15 @@ use Rattle.operators.specs.Operators.{entry_word}
 use Rattle.grid.specs.declared.Cell.{Cell}
 use Rattle.grid.specs.declared.Cell.TheVariants.{Absent, Present}
 use Rattle.grid.specs.Grid.{Grid}
-use Rattle.grid.specs.Entries.{column, value, one, gather, flatten, grid_columns, grid_values, entry_count}
+use Rattle.grid.specs.Entries.{column, value, one, gather, flatten, entry_count}
 use Rattle.operations.specs.declared.Operation.{Operation}
 use Rattle.operations.specs.CellOperations.{apply_cell}
 use Rattle.operations.specs.GridOperations.{result_grid}
-use Rattle.matrix.specs.Layout.{
-  starts_at,
-  columns_at,
-  count_again_at,
-  values_at,
-  size_of,
-  rows,
-  cols,
-  start,
-  entries,
-  grid_of,
-  workspace_words,
-}
+use Rattle.matrix.specs.Layout.{starts_at, columns_at, count_again_at, values_at, size_of, rows, cols, entries, grid_of, workspace_words}
 use Rattle.matrix.specs.Facts.{Matrix}
 use Rattle.matrix.specs.HeaderWords.{headed}
 use Rattle.matrix.proofs.Facts.{matrix_made}
-use Rattle.encoding.specs.Encode.{entries_before, encode, grid_size}
+use Rattle.encoding.specs.Encode.{encode, grid_size}
 use Rattle.encoding.proofs.Assembled.{InPlace, headed_written}
 use Rattle.encoding.proofs.Canonical.{encode_length}
 use Rattle.encoding.proofs.Decoded.{valid_before, valid_entries, valid_columns, valid_values}

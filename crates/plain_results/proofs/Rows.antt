@@ -13,7 +13,7 @@ use Rattle.limits.specs.Limits.{max_cols, max_entries}
 use Rattle.words.specs.Words.{at}
 use Rattle.grid.specs.Grid.{Grid}
 use Rattle.grid.specs.Entries.{column, value, gather, flatten, entry_count}
-use Rattle.grid.proofs.Gather.{gather_length, gather_skip, flatten_next, flatten_grows}
+use Rattle.grid.proofs.Gather.{gather_skip, flatten_next, flatten_grows}
 use Rattle.rows.specs.Row.{Holds}
 use Rattle.rows.proofs.Holds.{holds_most}
 use Rattle.encoding.specs.Encode.{entries_before}

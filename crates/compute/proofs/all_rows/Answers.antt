@@ -48,10 +48,9 @@ loop-i-smaller c = counter_falls c.loop-i-test.true
 pub loop-i-preserved : goal.loop-i-preserved
 loop-i-preserved c =
     let v = c.loop-i.invariant.1 in
-    let k = c.advance-n.kept.1.1.1.1.1.1.1.1.1 in
-    let t = k.1.1.1.1 in (
+    let k = c.advance-n.auto in (
       c.advance-n.ensures.more c.if-n.false,
-      (k.0 ∙ v.0, t.0 ∙ v.1, t.1.0 ∙ v.2, t.1.1.0 ∙ v.3, t.1.1.1.0 ∙ v.4),
+      (k.work ∙ v.0, k.tc ∙ v.1, k.tv ∙ v.2, k.oc ∙ v.3, k.ov ∙ v.4),
     )
 
 pub slice_bounds-finish-end : goal.slice_bounds-finish-end

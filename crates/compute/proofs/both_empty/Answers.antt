@@ -6,7 +6,8 @@ use borrow.Author.Tests.{eqb-true}
 use Rattle.compute.proofs.both_empty.Goals as goal
 
 pub returns-then-tc-ne0 : goal.returns-then-tc-ne0
-returns-then-tc-ne0 c = absurd (false≢true e)
+returns-then-tc-ne0 c = λ e. absurd (false≢true e)
 
 pub returns : goal.returns
-returns c = (c.if-tc-ne0.false, sym (ap length c.row_columns-columns.ensures.words) ∙ eqb-true _ _ e)
+returns c =
+    λ e. (c.if-tc-ne0.false, sym (ap length c.row_columns-columns.ensures.words) ∙ eqb-true _ _ e)

@@ -35,13 +35,14 @@ row_values-requires c =
 
 pub merge_row-requires : goal.merge_row-requires
 merge_row-requires c =
-    rw c.col_count.ensures (
-      rw (c.mask_columns.ensures, c.mask_values.ensures) (mask_row _ _ _ _ c.requires.old_row.mask c.requires.old_row.mask_cols),
-      (
-        rw (c.row_columns.ensures.words, c.row_values.ensures.words) (matrix_row _ c.requires.old_row.matrix _ c.requires.old_row.row),
-        (c.requires.old_row.result, c.requires.c_in_bounds),
-      ),
-    )
+    rw c.col_count.ensures record {
+      row = rw (c.mask_columns.ensures, c.mask_values.ensures)
+          (mask_row _ _ _ _ c.requires.old_row.mask c.requires.old_row.mask_cols);
+      row_2 = rw (c.row_columns.ensures.words, c.row_values.ensures.words)
+          (matrix_row _ c.requires.old_row.matrix _ c.requires.old_row.row);
+      row_3 = c.requires.old_row.result;
+      places_in_bounds = c.requires.c_in_bounds;
+    }
 
 pub returns : goal.returns
 returns c =

@@ -1,5 +1,4 @@
 -- `all_rows` leaves the rows of T one after another.
-use Prim.Native.Nat.{◌-◌}
 use native.Mathlib.Omega.{arith}
 use mathlib.Core.Path.{refl, ◌∙◌}
 use lib.ListN.{length-set}
@@ -26,7 +25,7 @@ loop-i-init c = (
 pub result_row-n-requires : goal.result_row-n-requires
 result_row-n-requires c =
     let needs = row_needs_lem _ _ _ _ _ _ c.loop-i.invariant.0 c.loop-i-test.true in
-    record { row_inputs = needs.0; buffers = needs.1; }
+    record { row_inputs = needs.0; buffers = needs.1 }
 
 pub overflow_add-n : goal.overflow_add-n
 overflow_add-n c = sum_fits _ _ _ _ _ _ c.loop-i.invariant.0 c.result_row-n.ensures

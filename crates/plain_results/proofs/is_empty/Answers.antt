@@ -8,15 +8,15 @@ use Rattle.plain_results.proofs.is_empty.Goals as goal
 
 pub has_none-requires : goal.has_none-requires
 has_none-requires c = let h = row_matched c.in-Mxm.is c.requires in
-    let s = spanned h.first h.row in record { fact_1 = s.0; fact_2 = s.1; }
+    let s = spanned h.first h.row in record { fact_1 = s.0; fact_2 = s.1 }
 
 pub has_none-requires-in-EwiseMult : goal.has_none-requires-in-EwiseMult
 has_none-requires-in-EwiseMult c = let h = row_matched c.in-EwiseMult.is c.requires in
-    let s = spanned h.first h.row in record { fact_1 = s.0; fact_2 = s.1; }
+    let s = spanned h.first h.row in record { fact_1 = s.0; fact_2 = s.1 }
 
 pub has_none-requires-in-EwiseAdd : goal.has_none-requires-in-EwiseAdd
 has_none-requires-in-EwiseAdd c = let h = row_matched c.in-EwiseAdd.is c.requires in
-    let s = spanned h.first h.row in record { fact_1 = s.0; fact_2 = s.1; }
+    let s = spanned h.first h.row in record { fact_1 = s.0; fact_2 = s.1 }
 
 pub returns-then-not-has_none : goal.returns-then-not-has_none
 returns-then-not-has_none c = λ e. absurd (false≢true e)
@@ -24,15 +24,15 @@ returns-then-not-has_none c = λ e. absurd (false≢true e)
 pub has_none-requires-in-EwiseAdd-2 : goal.has_none-requires-in-EwiseAdd-2
 has_none-requires-in-EwiseAdd-2 c =
     let h = add_inputs _ _ _ _ _ _ _ (row_matched c.in-EwiseAdd.is c.requires) in
-    let s = spanned h.second (omega (arith, h.row, h.same_rows)) in record { fact_1 = s.0; fact_2 = s.1; }
+    let s = spanned h.second (omega (arith, h.row, h.same_rows)) in record { fact_1 = s.0; fact_2 = s.1 }
 
 pub has_none-requires-in-Apply : goal.has_none-requires-in-Apply
 has_none-requires-in-Apply c = let h = row_matched c.in-Apply.is c.requires in
-    let s = spanned h.first h.row in record { fact_1 = s.0; fact_2 = s.1; }
+    let s = spanned h.first h.row in record { fact_1 = s.0; fact_2 = s.1 }
 
 pub has_none-requires-in-Select : goal.has_none-requires-in-Select
 has_none-requires-in-Select c = let h = row_matched c.in-Select.is c.requires in
-    let s = spanned h.first h.row in record { fact_1 = s.0; fact_2 = s.1; }
+    let s = spanned h.first h.row in record { fact_1 = s.0; fact_2 = s.1 }
 
 pub returns-in-Mxm : goal.returns-in-Mxm
 returns-in-Mxm c = λ e.

@@ -1,5 +1,5 @@
 -- `skip_rows` passes over rows without entries, and writes their starts.
-use Prim.Native.Nat.{◌-◌, ◌<◌}
+use Prim.Native.Nat.{◌<◌}
 use native.Mathlib.Omega.{arith}
 use lib.ListN.{length}
 use Rattle.matrix.specs.Layout.{rows}

@@ -5,7 +5,7 @@ use mathlib.Core.List.{List}
 use mathlib.Core.Path.{◌≡◌, sym, ◌∙◌}
 use lib.ListN.{length, length-replicate, replicate}
 use lib.Seq.{length-take-le}
-use Rattle.limits.specs.Limits.{max_rows, max_entries}
+use Rattle.limits.specs.Limits.{max_rows}
 use Rattle.plain_results.proofs.Result.{space_fresh, written_full, values_fit, bounds, written_joined}
 use Rattle.plain_results.proofs.write_rows.Goals as goal
 

@@ -6,21 +6,6 @@ use Rattle.words.specs.Words.{at}
 use Rattle.transpose.proofs.Occurrences.{counting_start, counting_small, counting_step, counting_done}
 use Rattle.transpose.proofs.count_columns.Goals as goal
 
--- the column number of this turn has a count
-small : (q : goal.After-shared_slice_known-1)
-    → at q.args.columns.now q.loop-k.k < length q.args.counts.now
-small q = q.requires.small _ q.loop-k-test.true
-
--- the column number of this turn has a count
-small_2 : (q : goal.After-slice_known-1-unread)
-    → at q.args.columns.now q.loop-k.k < length q.args.counts.now
-small_2 q = q.requires.small _ q.loop-k-test.true
-
--- the column number of this turn has a count
-small_3 : (q : goal.After-slice_known-1)
-    → at q.args.columns.now q.loop-k.k < length q.args.counts.now
-small_3 q = q.requires.small _ q.loop-k-test.true
-
 pub loop-k-init : goal.loop-k-init
 loop-k-init c = counting_start _ _ c.requires
 
@@ -31,22 +16,22 @@ pub bounds-columns-k : goal.bounds-columns-k
 bounds-columns-k c = omega arith
 
 pub overflow_cast-j : goal.overflow_cast-j
-overflow_cast-j c = omega (arith, c.shared_slice_known-1.given c.loop-k.k)
+overflow_cast-j c = omega (arith, c.type_inv.columns c.loop-k.k)
 
 pub offset_bounds-counts-j : goal.offset_bounds-counts-j
-offset_bounds-counts-j c = omega (arith, small c)
+offset_bounds-counts-j c = omega (arith, (c.requires.small _ c.loop-k-test.true))
 
 pub bounds-counts-j : goal.bounds-counts-j
-bounds-counts-j c = omega (arith, small_2 c)
+bounds-counts-j c = omega (arith, (c.requires.small _ c.loop-k-test.true))
 
 pub overflow_add-counts : goal.overflow_add-counts
-overflow_add-counts c = omega (arith, counting_small c.loop-k.invariant _ (small_3 c))
+overflow_add-counts c = omega (arith, counting_small c.loop-k.invariant _ (c.requires.small _ c.loop-k-test.true))
 
 pub offset_bounds-counts-j-in-loop-k : goal.offset_bounds-counts-j-in-loop-k
-offset_bounds-counts-j-in-loop-k c = omega (arith, small_3 c)
+offset_bounds-counts-j-in-loop-k c = omega (arith, (c.requires.small _ c.loop-k-test.true))
 
 pub bounds-counts-j-in-loop-k : goal.bounds-counts-j-in-loop-k
-bounds-counts-j-in-loop-k c = omega (arith, small_3 c)
+bounds-counts-j-in-loop-k c = omega (arith, (c.requires.small _ c.loop-k-test.true))
 
 pub overflow_add-k : goal.overflow_add-k
 overflow_add-k c = omega arith

@@ -7,90 +7,8 @@ use Rattle.operations.specs.GridOperations.{transposed}
 use Rattle.transpose.proofs.Placing.{Source, row_source, placing_start, Turn, placing_turn, placing_step, placing_done}
 use Rattle.transpose.proofs.place_row.Goals as goal
 
--- the row's entries are those of a column of the transposed grid
-source : (q : goal.After-row_values-values)
-    → Source (transposed (grid_of q.args.a.now)) q.args.i q.row_columns-columns.result.now
-    q.row_values-values.result.now
-source q =
-    row_source _ q.requires.row_span q.requires.row q.row_columns-columns.ensures.words q.row_values-values.ensures.words
-
--- the row's entries are those of a column of the transposed grid
-source_3 : (q : goal.After-shared_slice_known-in-loop-k-1)
-    → Source (transposed (grid_of q.args.a.now)) q.args.i q.row_columns-columns.result.now
-    q.row_values-values.result.now
-source_3 q =
-    row_source _ q.requires.row_span q.requires.row q.row_columns-columns.ensures.words q.row_values-values.ensures.words
-
--- what a turn finds
-turn : (q : goal.After-shared_slice_known-in-loop-k-1)
-    → Turn (transposed (grid_of q.args.a.now))
-    q.row_columns-columns.result.now q.row_values-values.result.now
-    q.loop-k.next q.loop-k.k
-turn q =
-    placing_turn (source_3 q) q.requires.room q.loop-k.invariant q.loop-k-test.true
-
--- the row's entries are those of a column of the transposed grid
-source_4 : (q : goal.After-shared_slice_known-in-loop-k-2-1-unread)
-    → Source (transposed (grid_of q.args.a.now)) q.args.i q.row_columns-columns.result.now
-    q.row_values-values.result.now
-source_4 q =
-    row_source _ q.requires.row_span q.requires.row q.row_columns-columns.ensures.words q.row_values-values.ensures.words
-
--- what a turn finds
-turn_2 : (q : goal.After-shared_slice_known-in-loop-k-2-1-unread)
-    → Turn (transposed (grid_of q.args.a.now))
-    q.row_columns-columns.result.now q.row_values-values.result.now
-    q.loop-k.next q.loop-k.k
-turn_2 q =
-    placing_turn (source_4 q) q.requires.room q.loop-k.invariant q.loop-k-test.true
-
--- the row's entries are those of a column of the transposed grid
-source_5 : (q : goal.After-shared_slice_known-in-loop-k-2-1)
-    → Source (transposed (grid_of q.args.a.now)) q.args.i q.row_columns-columns.result.now
-    q.row_values-values.result.now
-source_5 q =
-    row_source _ q.requires.row_span q.requires.row q.row_columns-columns.ensures.words q.row_values-values.ensures.words
-
--- what a turn finds
-turn_3 : (q : goal.After-shared_slice_known-in-loop-k-2-1)
-    → Turn (transposed (grid_of q.args.a.now))
-    q.row_columns-columns.result.now q.row_values-values.result.now
-    q.loop-k.next q.loop-k.k
-turn_3 q =
-    placing_turn (source_5 q) q.requires.room q.loop-k.invariant q.loop-k-test.true
-
--- the row's entries are those of a column of the transposed grid
-source_6 : (q : goal.After-slice_known-in-loop-k-1-unread)
-    → Source (transposed (grid_of q.args.a.now)) q.args.i q.row_columns-columns.result.now
-    q.row_values-values.result.now
-source_6 q =
-    row_source _ q.requires.row_span q.requires.row q.row_columns-columns.ensures.words q.row_values-values.ensures.words
-
--- what a turn finds
-turn_4 : (q : goal.After-slice_known-in-loop-k-1-unread)
-    → Turn (transposed (grid_of q.args.a.now))
-    q.row_columns-columns.result.now q.row_values-values.result.now
-    q.loop-k.next q.loop-k.k
-turn_4 q =
-    placing_turn (source_6 q) q.requires.room q.loop-k.invariant q.loop-k-test.true
-
--- the row's entries are those of a column of the transposed grid
-source_2 : (q : goal.After-slice_known-in-loop-k-1)
-    → Source (transposed (grid_of q.args.a.now)) q.args.i q.row_columns-columns.result.now
-    q.row_values-values.result.now
-source_2 q =
-    row_source _ q.requires.row_span q.requires.row q.row_columns-columns.ensures.words q.row_values-values.ensures.words
-
--- what a turn finds
-turn_5 : (q : goal.After-slice_known-in-loop-k-1)
-    → Turn (transposed (grid_of q.args.a.now))
-    q.row_columns-columns.result.now q.row_values-values.result.now
-    q.loop-k.next q.loop-k.k
-turn_5 q =
-    placing_turn (source_2 q) q.requires.room q.loop-k.invariant q.loop-k-test.true
-
 pub loop-k-init : goal.loop-k-init
-loop-k-init c = placing_start (source c) c.requires.placed
+loop-k-init c = placing_start (row_source _ c.requires.row_span c.requires.row c.row_columns-columns.ensures.words c.row_values-values.ensures.words) c.requires.placed
 
 pub offset_bounds-columns-k : goal.offset_bounds-columns-k
 offset_bounds-columns-k c = omega arith
@@ -99,55 +17,55 @@ pub bounds-columns-k : goal.bounds-columns-k
 bounds-columns-k c = omega arith
 
 pub offset_bounds-values-k : goal.offset_bounds-values-k
-offset_bounds-values-k c = let t = turn c in omega arith
+offset_bounds-values-k c = let t = (placing_turn (row_source _ c.requires.row_span c.requires.row c.row_columns-columns.ensures.words c.row_values-values.ensures.words) c.requires.room c.loop-k.invariant c.loop-k-test.true) in omega arith
 
 pub bounds-values-k : goal.bounds-values-k
-bounds-values-k c = let t = turn_2 c in omega arith
+bounds-values-k c = let t = (placing_turn (row_source _ c.requires.row_span c.requires.row c.row_columns-columns.ensures.words c.row_values-values.ensures.words) c.requires.room c.loop-k.invariant c.loop-k-test.true) in omega arith
 
 pub overflow_cast-j : goal.overflow_cast-j
-overflow_cast-j c = omega (arith, c.shared_slice_known-in-loop-k-1.given c.loop-k.k)
+overflow_cast-j c = omega (arith, c.type_inv.columns c.loop-k.k)
 
 pub offset_bounds-next-j : goal.offset_bounds-next-j
-offset_bounds-next-j c = let t = turn_3 c in omega arith
+offset_bounds-next-j c = let t = (placing_turn (row_source _ c.requires.row_span c.requires.row c.row_columns-columns.ensures.words c.row_values-values.ensures.words) c.requires.room c.loop-k.invariant c.loop-k-test.true) in omega arith
 
 pub bounds-next-j : goal.bounds-next-j
-bounds-next-j c = let t = turn_4 c in omega arith
+bounds-next-j c = let t = (placing_turn (row_source _ c.requires.row_span c.requires.row c.row_columns-columns.ensures.words c.row_values-values.ensures.words) c.requires.room c.loop-k.invariant c.loop-k-test.true) in omega arith
 
 pub overflow_cast-p : goal.overflow_cast-p
-overflow_cast-p c = let t = turn_5 c in omega arith
+overflow_cast-p c = let t = (placing_turn (row_source _ c.requires.row_span c.requires.row c.row_columns-columns.ensures.words c.row_values-values.ensures.words) c.requires.room c.loop-k.invariant c.loop-k-test.true) in omega arith
 
 pub overflow_cast-sections : goal.overflow_cast-sections
-overflow_cast-sections c = let t = turn_5 c in omega arith
+overflow_cast-sections c = let t = (placing_turn (row_source _ c.requires.row_span c.requires.row c.row_columns-columns.ensures.words c.row_values-values.ensures.words) c.requires.room c.loop-k.invariant c.loop-k-test.true) in omega arith
 
 pub overflow_add-sections : goal.overflow_add-sections
-overflow_add-sections c = let t = turn_5 c in omega arith
+overflow_add-sections c = let t = (placing_turn (row_source _ c.requires.row_span c.requires.row c.row_columns-columns.ensures.words c.row_values-values.ensures.words) c.requires.room c.loop-k.invariant c.loop-k-test.true) in omega arith
 
 pub offset_bounds-sections-p : goal.offset_bounds-sections-p
-offset_bounds-sections-p c = let t = turn_5 c in omega arith
+offset_bounds-sections-p c = let t = (placing_turn (row_source _ c.requires.row_span c.requires.row c.row_columns-columns.ensures.words c.row_values-values.ensures.words) c.requires.room c.loop-k.invariant c.loop-k-test.true) in omega arith
 
 pub bounds-sections-p : goal.bounds-sections-p
-bounds-sections-p c = let t = turn_5 c in omega arith
+bounds-sections-p c = let t = (placing_turn (row_source _ c.requires.row_span c.requires.row c.row_columns-columns.ensures.words c.row_values-values.ensures.words) c.requires.room c.loop-k.invariant c.loop-k-test.true) in omega arith
 
 pub overflow_add-sections-in-loop-k : goal.overflow_add-sections-in-loop-k
-overflow_add-sections-in-loop-k c = let t = turn_5 c in omega arith
+overflow_add-sections-in-loop-k c = let t = (placing_turn (row_source _ c.requires.row_span c.requires.row c.row_columns-columns.ensures.words c.row_values-values.ensures.words) c.requires.room c.loop-k.invariant c.loop-k-test.true) in omega arith
 
 pub overflow_add-sections-in-loop-k-2 : goal.overflow_add-sections-in-loop-k-2
-overflow_add-sections-in-loop-k-2 c = let t = turn_5 c in omega arith
+overflow_add-sections-in-loop-k-2 c = let t = (placing_turn (row_source _ c.requires.row_span c.requires.row c.row_columns-columns.ensures.words c.row_values-values.ensures.words) c.requires.room c.loop-k.invariant c.loop-k-test.true) in omega arith
 
 pub offset_bounds-sections-p-in-loop-k : goal.offset_bounds-sections-p-in-loop-k
-offset_bounds-sections-p-in-loop-k c = let t = turn_5 c in omega arith
+offset_bounds-sections-p-in-loop-k c = let t = (placing_turn (row_source _ c.requires.row_span c.requires.row c.row_columns-columns.ensures.words c.row_values-values.ensures.words) c.requires.room c.loop-k.invariant c.loop-k-test.true) in omega arith
 
 pub bounds-sections-p-in-loop-k : goal.bounds-sections-p-in-loop-k
-bounds-sections-p-in-loop-k c = let t = turn_5 c in simp length-set (omega arith)
+bounds-sections-p-in-loop-k c = let t = (placing_turn (row_source _ c.requires.row_span c.requires.row c.row_columns-columns.ensures.words c.row_values-values.ensures.words) c.requires.room c.loop-k.invariant c.loop-k-test.true) in simp length-set (omega arith)
 
 pub overflow_add-next : goal.overflow_add-next
-overflow_add-next c = let t = turn_5 c in omega arith
+overflow_add-next c = let t = (placing_turn (row_source _ c.requires.row_span c.requires.row c.row_columns-columns.ensures.words c.row_values-values.ensures.words) c.requires.room c.loop-k.invariant c.loop-k-test.true) in omega arith
 
 pub offset_bounds-next-j-in-loop-k : goal.offset_bounds-next-j-in-loop-k
-offset_bounds-next-j-in-loop-k c = let t = turn_5 c in omega arith
+offset_bounds-next-j-in-loop-k c = let t = (placing_turn (row_source _ c.requires.row_span c.requires.row c.row_columns-columns.ensures.words c.row_values-values.ensures.words) c.requires.room c.loop-k.invariant c.loop-k-test.true) in omega arith
 
 pub bounds-next-j-in-loop-k : goal.bounds-next-j-in-loop-k
-bounds-next-j-in-loop-k c = let t = turn_5 c in omega arith
+bounds-next-j-in-loop-k c = let t = (placing_turn (row_source _ c.requires.row_span c.requires.row c.row_columns-columns.ensures.words c.row_values-values.ensures.words) c.requires.room c.loop-k.invariant c.loop-k-test.true) in omega arith
 
 pub overflow_add-k : goal.overflow_add-k
 overflow_add-k c = omega arith
@@ -156,7 +74,7 @@ pub loop-k-smaller : goal.loop-k-smaller
 loop-k-smaller c = omega arith
 
 pub loop-k-preserved : goal.loop-k-preserved
-loop-k-preserved c = placing_step (source_2 c) c.requires.room c.loop-k.invariant c.loop-k-test.true
+loop-k-preserved c = placing_step (row_source _ c.requires.row_span c.requires.row c.row_columns-columns.ensures.words c.row_values-values.ensures.words) c.requires.room c.loop-k.invariant c.loop-k-test.true
 
 pub shape_of-next : goal.shape_of-next
 shape_of-next c = c.loop-k.invariant.long_next
