@@ -1,11 +1,10 @@
 -- The vector's writing: one row, staged and finished.
-use Prim.Native.Nat.{ℕ, ◌+◌, ◌≤◌, ◌<◌}
+use Prim.Native.Nat.{ℕ, ◌≤◌}
 use native.Mathlib.Omega.{arith}
-use mathlib.Core.Path.{◌≡◌, refl, sym, ap, subst, ◌∙◌}
+use mathlib.Core.Path.{◌≡◌, sym, ap, subst, ◌∙◌}
 use mathlib.Core.List.{List}
 use lib.ListN.{length, take}
-use Rattle.limits.specs.Limits.{max_cols}
-use Rattle.grid.specs.Entries.{column, value, gather}
+use Rattle.grid.specs.Entries.{column}
 use Rattle.grid.proofs.Gather.{gather_most}
 use Rattle.rows.specs.Row.{Holds}
 use Rattle.rows.proofs.Lookup.{gather_row}

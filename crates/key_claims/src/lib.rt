@@ -2,4 +2,3 @@
 // keys adds nothing. The claims are in specs/, their proofs in proofs/; there is no code.
 
 #![tactic(auto)]
-

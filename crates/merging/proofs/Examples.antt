@@ -35,6 +35,7 @@ three a here = record { valid_matrix = refl; same_rows = refl; same_cols = refl;
 three a (there here) = record { valid_matrix = refl; same_rows = refl; same_cols = refl; words = words_small _ refl }
 three a (there (there here)) =
     record { valid_matrix = refl; same_rows = refl; same_cols = refl; words = words_small _ refl }
+three a (there (there (there m))) = elim m [ ]
 
 pub three_inputs : Mergeable board (first ∷ second ∷ third ∷ [])
 unfolding valid header_valid starts_valid rows_valid in_range ◌and◌ all flatten gather one cell_of lookup

@@ -79,8 +79,8 @@ join_same a s = record {
 
 -- a list of them
 pub join_all_same : {g h : Grid} (xs : List Grid) → Same g h → Same (join_all g xs) (join_all h xs)
-join_all_same [] s = s
-join_all_same (a ∷ xs) s = join_all_same xs (join_same a s)
+join_all_same {g = g} {h = h} [] s = s
+join_all_same {g = g} {h = h} (a ∷ xs) s = join_all_same {g = join g a} {h = join h a} xs (join_same a s)
 
 pub join_all_rows : (g : Grid) (xs : List Grid) → (join_all g xs).rows ≡ g.rows
 join_all_rows g [] = refl
@@ -113,25 +113,26 @@ member_map f (there m) = there (member_map f m)
 -- what holds of f a for each a of a list holds of each of the list of them
 pub all_map : {A B : Type 0} (f : A → B) (P : B → Type 0) (xs : List A) → ((a : A) → a ∈ xs → P (f a))
     → (b : B) → b ∈ map f xs → P b
+all_map f P [] h b m = elim m [ ]
 all_map f P (a ∷ xs) h b here = h a here
 all_map f P (a ∷ xs) h b (there m) = all_map f P xs (λ x k. h x (there k)) b m
 
 pub join_all_rearranged : {g : Grid} {xs ys : List Grid} → Rearranged xs ys → Worded g → All g.rows g.cols xs
     → Same (join_all g xs) (join_all g ys)
-join_all_rearranged {g} none w s = same_refl g
-join_all_rearranged (after {a} r) w s =
-    join_all_rearranged r (join_worded w (s a here)) (λ b m. s b (there m))
-join_all_rearranged (exchanged {a} {b} {xs}) w s =
+join_all_rearranged {g = g} none w s = same_refl g
+join_all_rearranged {g = g} (after {a = a} {xs = xs} {ys = ys} r) w s =
+    join_all_rearranged {g = join g a} r (join_worded w (s a here)) (λ b m. s b (there m))
+join_all_rearranged {g = g} (exchanged {a} {b} {xs}) w s =
     join_all_same xs (join_exchanged w (s a here) (s b (there here)))
-join_all_rearranged (twice p q) w s =
+join_all_rearranged {g = g} (twice p q) w s =
     same_trans (join_all_rearranged p w s) (join_all_rearranged q w (λ a m. s a (member_rearranged p m)))
 
 -- a merge at the end is as good as one at the beginning
 join_all_late : {g : Grid} (xs : List Grid) {a : Grid} → Worded g → All g.rows g.cols xs
     → Suits g.rows g.cols a → Same (join (join_all g xs) a) (join_all (join g a) xs)
-join_all_late {g} [] w s t = same_refl _
-join_all_late (b ∷ xs) w s t =
-    same_trans (join_all_late xs (join_worded w (s b here)) (λ x m. s x (there m)) t)
+join_all_late {g = g} [] w s t = same_refl _
+join_all_late {g = g} (b ∷ xs) w s t =
+    same_trans (join_all_late {g = join g b} xs (join_worded w (s b here)) (λ x m. s x (there m)) t)
     (join_all_same xs (join_exchanged w (s b here) t))
 
 -- "merging one again changes nothing"

@@ -5,8 +5,8 @@
 -- The words behind the row are scratch to both engines, and no caller reads them.
 use Rattle.std.specs.Prelude.{ℕ, ◌≡◌, List, take}
 use contract.Lifetimes.{Lfts}
-use Rattle.std.specs.Borrow.{Bor}
-use Rattle.words.specs.Lent.{Address, lent}
+use Rattle.std.specs.Borrow.{Bor, MutBor}
+use Rattle.words.specs.Lent.{Address, lent, lent_mut}
 use Rattle.operators.specs.declared.BinaryOp.{BinaryOp}
 use Rattle.operators.specs.declared.Monoid.{Monoid}
 use Rattle.products.proofs.product_row.Reads as by_places
@@ -33,10 +33,10 @@ pub record Engines : Type 3 where
   pub by_places_met : {M : Type 1} → by_places_statement.statement M
   pub by_entries_met : {M : Type 1} → by_entries_statement.statement M
   -- the one asks of its caller what the other asks
-  pub asked : (κs : Lfts 5) (monoid : Monoid) (op : BinaryOp) (columns values b oc ov : Bor (List ℕ))
+  pub asked : (κs : Lfts 5) (monoid : Monoid) (op : BinaryOp) (columns values b : Bor (List ℕ)) (oc ov : MutBor (List ℕ))
       → by_places.Asked κs (monoid, (op, (columns, (values, (b, (oc, (ov, tt)))))))
       → by_entries.Asked κs (monoid, (op, (columns, (values, (b, (oc, (ov, tt)))))))
-  pub asked_back : (κs : Lfts 5) (monoid : Monoid) (op : BinaryOp) (columns values b oc ov : Bor (List ℕ))
+  pub asked_back : (κs : Lfts 5) (monoid : Monoid) (op : BinaryOp) (columns values b : Bor (List ℕ)) (oc ov : MutBor (List ℕ))
       → by_entries.Asked κs (monoid, (op, (columns, (values, (b, (oc, (ov, tt)))))))
       → by_places.Asked κs (monoid, (op, (columns, (values, (b, (oc, (ov, tt)))))))
   -- for the same monoid, operator, row and matrix both leave the same row, wherever the slices lie and whatever the
@@ -53,7 +53,7 @@ pub record Engines : Type 3 where
               lent p.values values,
               (
                 lent p.matrix b,
-                (lent p.oc oc, (lent p.ov ov, tt)),
+                (lent_mut p.oc oc, (lent_mut p.ov ov, tt)),
               ),
             ),
           ),
@@ -68,7 +68,7 @@ pub record Engines : Type 3 where
               lent p.values values,
               (
                 lent p.matrix b,
-                (lent p.oc oc₁, (lent p.ov ov₁, tt)),
+                (lent_mut p.oc oc₁, (lent_mut p.ov ov₁, tt)),
               ),
             ),
           ),
@@ -84,7 +84,7 @@ pub record Engines : Type 3 where
               lent q.values values,
               (
                 lent q.matrix b,
-                (lent q.oc oc', (lent q.ov ov', tt)),
+                (lent_mut q.oc oc', (lent_mut q.ov ov', tt)),
               ),
             ),
           ),
@@ -99,7 +99,7 @@ pub record Engines : Type 3 where
               lent q.values values,
               (
                 lent q.matrix b,
-                (lent q.oc oc₁', (lent q.ov ov₁', tt)),
+                (lent_mut q.oc oc₁', (lent_mut q.ov ov₁', tt)),
               ),
             ),
           ),

@@ -1,12 +1,11 @@
 -- The inputs as their flags ask: the lent words, or the transpose in a region of the workspace.
-use Prim.Native.Nat.{ℕ, ◌+◌, ◌-◌, ◌*◌, ◌≤◌}
+use Prim.Native.Nat.{ℕ, ◌+◌, ◌*◌, ◌≤◌}
 use native.Mathlib.Omega.{arith}
 use mathlib.Core.Path.{◌≡◌, refl, sym, ap, ◌∙◌}
 use mathlib.Core.List.{List, ◌++◌, append_assoc}
 use mathlib.Core.Bool.{Bool, true, false, cond, false≢true}
 use lib.ListN.{length, take, drop, length-take, length-drop}
 use lib.Seq.{drop-drop}
-use Rattle.grid.specs.Grid.{Same}
 use borrow.Rule.Slice.PartMut.{put_mid}
 use Rattle.words.specs.Words.{part, overwrite}
 use Rattle.words.proofs.Overwrite.{overwrite_length, overwrite_part_before, overwrite_here}

@@ -1,7 +1,6 @@
 -- Texts, computed: document 01's strip, two rows with values at both ends of the range, a grid without entries.
 use Rattle.std.specs.Prelude.{◌≡◌, refl, [], ◌∷◌, ◌++◌, length}
 use Rattle.twos_complement.specs.TwosComplement.{signed}
-use Rattle.grid.specs.declared.Cell.{Cell}
 use Rattle.grid.specs.declared.Cell.TheVariants.{Present}
 use Rattle.grid.specs.Grid.{Grid, empty_grid}
 use Rattle.grid.specs.Entries.{one, gather, flatten}

@@ -28,7 +28,7 @@ slice_bounds-vector_from-end-2 c = prefix_length _ _ (doors_few c)
 
 pub vector_from-requires : goal.vector_from-requires
 vector_from-requires c =
- record {
+    record {
       ready_1 = c.requires.fact_1;
       ready_2 = c.requires.fact_2;
       keys_len_1 = sym (prefix_length _ _ (keys_few_2 c)) ∙ c.row_count-key_count.ensures;

@@ -1,5 +1,4 @@
 -- `gather_doors` leaves the doors that opened in the buffers: those before d are written.
-use Prim.Native.Nat.{◌-◌}
 use native.Mathlib.Omega.{arith}
 use native.Mathlib.Nat.{pos_of_ne-zero}
 use Rattle.dense_rows.proofs.Gathering.{gathering_start, gathering_put, gathering_skip, gathering_done}
@@ -53,7 +52,7 @@ loop-d-smaller c = omega arith
 pub loop-d-preserved : goal.loop-d-preserved
 loop-d-preserved c =
     elim c.if-doors-d-ne0.branch [
-      then-doors-d-ne0 w ↦
+      | then-doors-d-ne0 w ↦
           rw (w.oc-is, w.ov-is, w.e-is)
           (gathering_put c.loop-d.invariant c.loop-d-test.true c.requires.long_cols c.requires.long_vals
           (round_open _ _ w.if-doors-d-ne0.true))

@@ -5,7 +5,7 @@ use Rattle.door_vectors.proofs.write_vector.Goals as goal
 
 pub slice_bounds-stage_row-end : goal.slice_bounds-stage_row-end
 slice_bounds-stage_row-end c =
-     omega (
+    omega (
       arith,
       vector_most c.args.doors.now c.gather_doors-n.ensures,
       c.requires.fact_1.long_cols,
@@ -17,7 +17,7 @@ slice_bounds-stage_row-end-2 c = vector_columns c.args.doors.now c.gather_doors-
 
 pub slice_bounds-stage_row-end-3 : goal.slice_bounds-stage_row-end-3
 slice_bounds-stage_row-end-3 c =
-     omega (
+    omega (
       arith,
       vector_most c.args.doors.now c.gather_doors-n.ensures,
       c.requires.fact_1.long_vals,
@@ -29,14 +29,14 @@ slice_bounds-stage_row-end-4 c = vector_values c.args.doors.now c.gather_doors-n
 
 pub stage_row-requires : goal.stage_row-requires
 stage_row-requires c =
-     vector_bounds c.args.out.now c.requires.fact_1 c.requires.fact_2 c.gather_doors-n.ensures
+    vector_bounds c.args.out.now c.requires.fact_1 c.requires.fact_2 c.gather_doors-n.ensures
 
 pub finish-requires : goal.finish-requires
 finish-requires c =
-     finish_bounds c.args.out.now c.requires.fact_1 c.requires.fact_2 c.gather_doors-n.ensures
+    finish_bounds c.args.out.now c.requires.fact_1 c.requires.fact_2 c.gather_doors-n.ensures
     c.stage_row.auto.work
 
 pub returns : goal.returns
 returns c =
-     vector_written c.args.out.now c.requires.fact_1 c.requires.fact_2 c.gather_doors-n.ensures
+    vector_written c.args.out.now c.requires.fact_1 c.requires.fact_2 c.gather_doors-n.ensures
     c.stage_row.ensures c.stage_row.auto.work c.finish.ensures

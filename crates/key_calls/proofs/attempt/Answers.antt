@@ -44,18 +44,18 @@ returns-then-code-ne0 c = attempted_input _ _ _ _ _ _ _ c.input_refusal-code.ens
 pub door_vector-n-requires : goal.door_vector-n-requires
 door_vector-n-requires c =
     let h = checked c in
- record {
+    record {
       fact_1 = h.ready;
       fact_2 = omega (arith, h.workspace);
     }
 
 pub commit-requires : goal.commit-requires
 commit-requires c =
-     let x = c.args in record {
+    let x = c.args in record {
       fact_1 = entries_few _ _ _ _ _ _ c.door_vector-n.ensures (checked_2 c).ready;
       fact_2 = size_fits x.allowance x.locks.now x.cabinets.now x.hand.now _ _ c.door_vector-n.ensures;
     }
 
 pub returns : goal.returns
 returns c =
-     attempted_done _ _ _ _ _ _ (none_applies c) _ _ _ _ c.door_vector-n.ensures c.commit.ensures
+    attempted_done _ _ _ _ _ _ (none_applies c) _ _ _ _ c.door_vector-n.ensures c.commit.ensures

@@ -9,7 +9,7 @@ use Rattle.key_calls.proofs.commit.Goals as goal
 
 pub returns-then-out-size : goal.returns-then-out-size
 returns-then-out-size c =
-     let l : length c.args.out.now < size_of 1 c.args.n = omega arith in
+    let l : length c.args.out.now < size_of 1 c.args.n = omega arith in
     record { answer_is = rw (lt-leb _ _ l); words_are = refl }
 
 pub slice_bounds-copy_into-end : goal.slice_bounds-copy_into-end
@@ -20,5 +20,5 @@ copy_into-requires c = simp length-take (omega arith)
 
 pub returns : goal.returns
 returns c =
-     let l : size_of 1 c.args.n ≤ length c.args.out.now = omega arith in
+    let l : size_of 1 c.args.n ≤ length c.args.out.now = omega arith in
     record { answer_is = rw (le-leb _ _ l); words_are = c.copy_into.ensures }

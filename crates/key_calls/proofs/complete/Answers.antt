@@ -4,7 +4,7 @@ use Rattle.key_calls.proofs.complete.Goals as goal
 
 pub returns : goal.returns
 returns c =
-     record {
+    record {
       attempted = c.attempt-answer.ensures;
       cleared = c.clear.ensures ∙ rw c.attempt-answer.auto.work;
     }

@@ -1,6 +1,5 @@
 -- `put_row` appends the lines of a row: after k turns those of its first k entries.
 use native.Mathlib.Omega.{arith}
-use Prim.Native.Nat.{◌-◌}
 use mathlib.Core.Path.{◌≡◌}
 use lib.ListN.{length}
 use Rattle.text.proofs.Room.{lines_start, line_room, lines_turn}

@@ -1,6 +1,6 @@
 -- `put_rows` appends the lines of all rows: after i turns those of the first i.
 use native.Mathlib.Omega.{arith}
-use Prim.Native.Nat.{◌-◌, ◌<◌}
+use Prim.Native.Nat.{◌<◌}
 use mathlib.Core.Path.{◌≡◌}
 use Rattle.matrix.specs.Layout.{rows}
 use Rattle.matrix.proofs.Facts.{row_span}

@@ -28,7 +28,7 @@ returns-then-out-lt-MAX_TEXT_BYTES c = text_short _ _ (held c) c.if-out-lt-MAX_T
 
 pub put_matrix-length-requires : goal.put_matrix-length-requires
 put_matrix-length-requires c =
- record {
+    record {
       fact_1 = matrix_facts _ (held_2 c);
       fact_2 = omega arith;
     }

@@ -1,8 +1,5 @@
 -- `count_columns` counts each column number: after k turns, the first k of them.
 use native.Mathlib.Omega.{arith}
-use Prim.Native.Nat.{◌-◌, ◌<◌}
-use lib.ListN.{length}
-use Rattle.words.specs.Words.{at}
 use Rattle.transpose.proofs.Occurrences.{counting_start, counting_small, counting_step, counting_done}
 use Rattle.transpose.proofs.count_columns.Goals as goal
 

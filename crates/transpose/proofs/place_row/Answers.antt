@@ -1,10 +1,7 @@
 -- `place_row` puts the entries of row i into the next slots of their columns: after k turns, the first k of them.
 use native.Mathlib.Omega.{arith}
-use Prim.Native.Nat.{◌-◌}
 use lib.ListN.{length-set}
-use Rattle.matrix.specs.Layout.{grid_of}
-use Rattle.operations.specs.GridOperations.{transposed}
-use Rattle.transpose.proofs.Placing.{Source, row_source, placing_start, Turn, placing_turn, placing_step, placing_done}
+use Rattle.transpose.proofs.Placing.{row_source, placing_start, placing_turn, placing_step, placing_done}
 use Rattle.transpose.proofs.place_row.Goals as goal
 
 pub loop-k-init : goal.loop-k-init

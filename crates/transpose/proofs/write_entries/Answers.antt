@@ -1,6 +1,5 @@
 -- `write_entries` writes the sections of columns and values: after i turns, the entries of the first i rows.
 use native.Mathlib.Omega.{arith}
-use Prim.Native.Nat.{◌-◌}
 use mathlib.Core.Path.{◌≡◌, sym, ◌∙◌}
 use Rattle.grid.specs.Entries.{entry_count}
 use Rattle.matrix.specs.Layout.{rows, grid_of}

@@ -1,6 +1,5 @@
 -- `write_starts` turns counts into starts: after j turns, the first j of them.
 use native.Mathlib.Omega.{arith}
-use Prim.Native.Nat.{◌-◌}
 use lib.ListN.{length-set}
 use Rattle.transpose.proofs.Sums.{summing_start, summing_small, summing_step, summing_done}
 use Rattle.transpose.proofs.write_starts.Goals as goal
