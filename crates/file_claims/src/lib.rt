@@ -2,4 +2,3 @@
 // writer gives, and a grid with its revision has one file. One theorem, in proofs/. There is no code here.
 
 #![tactic(auto)]
-

@@ -115,19 +115,19 @@ begun_once {n} {m} {c} b t = once (rw (← b.words) at (written_model n m b.leas
 
 follows : {n : ℕ} {m : Model} {cs : List StoreCall} {rs : List Reply} {s s' : List ℕ} → Begun n m s → Runs s cs rs s'
     → Follows n m cs rs s'
-follows b end = record { answers = refl; words = b.words }
-follows {n} {m} b (call {c = c} t ts) =
+follows {n = n} {m = m} b end = record { answers = refl; words = b.words }
+follows {n = n} {m = m} b (call {c = c} t ts) =
     let o = begun_once {n = n} {m = m} {c = c} b (told t) in
-    let i = follows (onward b o) ts in
+    let i = follows {n = n} {m = next n m c} (onward b o) ts in
     record { answers = cons_same o.answer i.answers; words = i.words }
 
 host_follows : {n : ℕ} {m : Model} {cs : List StoreCall} {rs : List ℕ} {s s' : List ℕ} → Begun n m s → HostRuns s cs rs s'
     → HostFollows n m cs rs s'
-host_follows b host-end = record { answers = tt; words = b.words }
-host_follows {n} {m} b (host-call {c = c} t ts) =
+host_follows {n = n} {m = m} b host-end = record { answers = tt; words = b.words }
+host_follows {n = n} {m = m} b (host-call {c = c} t ts) =
     let h = host_told t in
     let o = begun_once {n = n} {m = m} {c = c} b h.performed in
-    let i = host_follows (onward b o) ts in
+    let i = host_follows {n = n} {m = next n m c} (onward b o) ts in
     record { answers = (rw (← o.answer) h.apart, i.answers); words = i.words }
 
 begun_fresh : (n : ℕ) → slot_count ≤ n → n ≤ max_store_words → Begun n fresh (replicate n 0)
@@ -155,8 +155,9 @@ host_resumed s v cs rs s' r = host_follows (begun_stored s v) r
 -- the words after a list are the writing of a model that fits
 ended : {n : ℕ} {m : Model} {cs : List StoreCall} {rs : List Reply} {s s' : List ℕ} → Begun n m s → Runs s cs rs s'
     → Begun n (model_after n m cs) s'
-ended b end = b
-ended {n} {m} b (call {c = c} t ts) = ended (onward b (begun_once {n = n} {m = m} {c = c} b (told t))) ts
+ended {n = n} {m = m} b end = b
+ended {n = n} {m = m} b (call {c = c} t ts) =
+    ended {n = n} {m = next n m c} (onward b (begun_once {n = n} {m = m} {c = c} b (told t))) ts
 
 -- so they hold that model
 holds : {n : ℕ} {m : Model} {s : List ℕ} → Begun n m s → Alike (model_of s) m

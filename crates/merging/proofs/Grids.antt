@@ -138,10 +138,11 @@ join_all_late {g = g} (b ∷ xs) w s t =
 -- "merging one again changes nothing"
 pub join_all_again : {g : Grid} {xs : List Grid} {a : Grid} → a ∈ xs → Worded g → All g.rows g.cols xs
     → Same (join (join_all g xs) a) (join_all g xs)
-join_all_again (here {a} {xs}) w s =
+join_all_again {g = g} (here {a} {xs}) w s =
     same_trans (join_all_late xs (join_worded w (s a here)) (λ x m. s x (there m)) (s a here))
     (join_all_same xs (join_again w (s a here)))
-join_all_again (there {b = b} m) w s = join_all_again m (join_worded w (s b here)) (λ x k. s x (there k))
+join_all_again {g = g} (there {b = b} m) w s =
+    join_all_again {g = join g b} m (join_worded w (s b here)) (λ x k. s x (there k))
 
 -- a list of matrices that are all merged already changes nothing
 join_all_absorbs : {g : Grid} (xs : List Grid) {ys : List Grid} → ((a : Grid) → a ∈ xs → a ∈ ys) → Worded g
@@ -153,9 +154,9 @@ join_all_absorbs (a ∷ xs) f w s =
 -- two lists one after the other, either way round
 join_all_either : {g : Grid} (xs ys : List Grid) → Worded g → All g.rows g.cols xs → All g.rows g.cols ys
     → Same (join_all (join_all g xs) ys) (join_all (join_all g ys) xs)
-join_all_either [] ys w s t = same_refl _
-join_all_either (a ∷ xs) ys w s t =
-    same_trans (join_all_either xs ys (join_worded w (s a here)) (λ b m. s b (there m)) t)
+join_all_either {g = g} [] ys w s t = same_refl _
+join_all_either {g = g} (a ∷ xs) ys w s t =
+    same_trans (join_all_either {g = join g a} xs ys (join_worded w (s a here)) (λ b m. s b (there m)) t)
     (join_all_same xs (same_sym (join_all_late ys w t (s a here))))
 
 -- lists of the same matrices
