@@ -131,7 +131,7 @@ fn refusals_in_order(rt: &impl Print, work: &mut Workspace) -> io::Result<()> {
     refused(rt, b"allowance", 1001, sound, sound, tall)?;
     refused(rt, b"shapes", 1000, sound, sound, tall)?;
     refused(rt, b"workspace", 1000, sound, sound, sound)?;
-    no_room_lem(rt, b"room", sound, work)?;
+    no_room(rt, b"room", sound, work)?;
     both(
         rt,
         b"nothing wrong",
@@ -160,7 +160,7 @@ fn refused(
     )
 }
 
-fn no_room_lem(
+fn no_room(
     rt: &impl Print,
     label: &[u8],
     sound: &[u32],
