@@ -160,12 +160,7 @@ fn refused(
     )
 }
 
-fn no_room(
-    rt: &impl Print,
-    label: &[u8],
-    sound: &[u32],
-    work: &mut Workspace,
-) -> io::Result<()> {
+fn no_room(rt: &impl Print, label: &[u8], sound: &[u32], work: &mut Workspace) -> io::Result<()> {
     let mut short = [0u32; 9];
     both(rt, label, 1000, sound, sound, sound, &mut short, work)
 }
