@@ -349,6 +349,7 @@ slots_then (x ∷ xs) y = ap (λ (ks : List ℕ). x.slot ∷ ks) (slots_then xs 
 member_then : {k a : ℕ} {ks : List ℕ} (js : List ℕ) → a ∈ ks → ((j : ℕ) → j ∈ js → j ∈ ks) → k ∈ (js ++ (a ∷ []))
     → k ∈ ks
 member_then [] i f here = i
+member_then [] i f (there m) = elim m [ ]
 member_then (j ∷ js) i f here = f j here
 member_then (j ∷ js) i f (there m) = member_then js i (λ h l. f h (there l)) m
 
