@@ -1,7 +1,7 @@
 //! Links the proved library's static archive.
 //!
-//! Where `OSTRUBEL_LIB_DIR` names a folder by its absolute path, `libostrubel.a` there is linked (or `libexports_c.a`,
-//! as the toolchain names it), and nothing is built. Else `host/library.sh` proves and builds what has changed, which can
+//! Where `OSTRUBEL_LIB_DIR` names a folder by its absolute path, `libostrubel.a` there is linked (or `libexports_c.a`
+//! or `libexports.a`, as the toolchain names it or did), and nothing is built. Else `host/library.sh` proves and builds what has changed, which can
 //! take minutes: its lines are shown on the terminal, if there is one. An archive for another machine than the target's
 //! is refused.
 
@@ -12,7 +12,7 @@ use std::path::{Path, PathBuf};
 use std::process::{exit, Command, Stdio};
 
 const ARCHIVE: &str = "libostrubel.a";
-const BUILT_ARCHIVE: &str = "libexports_c.a";
+const BUILT_ARCHIVES: [&str; 2] = ["libexports_c.a", "libexports.a"];
 
 fn main() {
     println!("cargo:rerun-if-env-changed=OSTRUBEL_LIB_DIR");
@@ -35,13 +35,15 @@ fn main() {
 
 /// The archive in a folder, which is not made here.
 fn named_archive(folder: &Path) -> PathBuf {
-    let [archive, built] = [ARCHIVE, BUILT_ARCHIVE].map(|name| folder.join(name));
-    println!("cargo:rerun-if-changed={}", archive.display());
-    println!("cargo:rerun-if-changed={}", built.display());
-    if !archive.exists() && built.exists() {
-        return built;
+    let archive = folder.join(ARCHIVE);
+    let built = BUILT_ARCHIVES.map(|name| folder.join(name));
+    for file in [&archive].into_iter().chain(&built) {
+        println!("cargo:rerun-if-changed={}", file.display());
     }
-    archive
+    if archive.exists() {
+        return archive;
+    }
+    built.into_iter().find(|file| file.exists()).unwrap_or(archive)
 }
 
 /// The archive, made again where the crates have changed.
