@@ -3,7 +3,7 @@
 # words that is read and every call, and compares the list with the one below. Each function of a search is called once,
 # also where a cell is set or cleared. There the columns of a row are read by `look`, which counts; the other places are the
 # shape, the row starts, N and the values. `row_columns` and `row_values` cut the parts of a row out without reading them.
-# `matrix::is_valid` checks the whole matrix before.
+# `matrix::is_valid` checks the whole matrix before. Listed too are the methods and loops that take words out of a slice.
 #
 # Of a day matrix over a base matrix: rewriting a row, taking it back and showing it search its mark once; reading through
 # the pair searches the mark, and then the cell in the matrix that is shown. Folding searches each row's mark twice, once to
@@ -20,7 +20,7 @@ list() {
         !body { body = /^\{$/ || /^\).* \{$/; next } # parameters and clauses
         name ~ wanted {
             line = $0
-            while (match(line, /[A-Za-z_0-9)]+\[[^]]*\]?|[^A-Za-z_0-9.:]([a-z_0-9]+::)?[a-z_][a-z_0-9]*\(/)) {
+            while (match(line, /[A-Za-z_0-9)]+\[[^]]*\]?|[^A-Za-z_0-9.:]([a-z_0-9]+::)?[a-z_][a-z_0-9]*\(|\.(iter|get|first|last|contains|windows|chunks[a-z_]*|split_[a-z_]*|binary_search[a-z_]*)\(|[ ]in [&a-z_]+ \{/)) {
                 place = substr(line, RSTART, RLENGTH)
                 sub(/^[^A-Za-z_0-9]/, "", place)
                 print crate, name ":", place
@@ -50,13 +50,9 @@ rows look: columns[k]
 rows cell_beside: values[p]
 rows entry_beside: values[p]
 cells read_cell: matrix::is_valid(
-cells read_cell: refused(
 cells read_cell: words[ROWS_AT]
-cells read_cell: refused(
 cells read_cell: words[COLS_AT]
-cells read_cell: refused(
 cells read_cell: entry_at(
-cells read_cell: found(
 cells entry_at: rows::find_entry(
 cells entry_at: matrix::row_columns(
 cells entry_at: matrix::row_values(
@@ -72,10 +68,8 @@ matrix row_values: words[i + 1 + STARTS_AT]
 matrix row_values: words[from..to]
 store_cells set_cell: slots::check(
 store_cells set_cell: store[..]
-store_cells set_cell: refused(
 store_cells set_cell: cell_refusal(
 store_cells set_cell: store[..]
-store_cells set_cell: refused(
 store_cells set_cell: cells::entry_at(
 store_cells set_cell: slots::contents(
 store_cells set_cell: store[..]
@@ -84,10 +78,8 @@ store_cells set_cell: grid::position_of(
 store_cells set_cell: replace(
 store_cells clear_cell: slots::check(
 store_cells clear_cell: store[..]
-store_cells clear_cell: refused(
 store_cells clear_cell: cell_refusal(
 store_cells clear_cell: store[..]
-store_cells clear_cell: refused(
 store_cells clear_cell: cells::entry_at(
 store_cells clear_cell: slots::contents(
 store_cells clear_cell: store[..]
@@ -95,12 +87,9 @@ store_cells clear_cell: touch(
 store_cells clear_cell: grid::position_of(
 store_cells clear_cell: take(
 store_cells read_cell: slots::check(
-store_cells read_cell: cells::refused(
 store_cells read_cell: cell_refusal(
-store_cells read_cell: cells::refused(
 store_cells read_cell: cells::entry_at(
 store_cells read_cell: slots::contents(
-store_cells read_cell: cells::found(
 store_cells cell_refusal: slots::contents(
 store_cells cell_refusal: words[ROWS_AT]
 store_cells cell_refusal: words[COLS_AT]
@@ -116,49 +105,34 @@ day_marks take_mark: edits::remove_entry(
 day_calls rewrite_row: day_requests::rewrite_refusal(
 day_calls rewrite_row: day[..]
 day_calls rewrite_row: marks[..]
-day_calls rewrite_row: refused(
 day_calls rewrite_row: rewrite(
 day_calls rewrite: count_with(
 day_calls rewrite: day[..]
 day_calls rewrite: matrix::entry_count(
-day_calls rewrite: refused(
 day_calls rewrite: day[ROWS_AT]
-day_calls rewrite: refused(
 day_calls rewrite: cells::entry_at(
 day_calls rewrite: marks[..]
-day_calls rewrite: matrix_size(
+day_calls rewrite: matrix::size(
 day_calls rewrite: marks[..]
 day_calls rewrite: day_marks::mark_words(
-day_calls rewrite: refused(
 day_calls rewrite: row_edits::replace_row(
 day_calls rewrite: matrix::row_columns(
 day_calls rewrite: matrix::row_values(
 day_calls rewrite: day_marks::put_mark(
-day_calls rewrite: accepted(
 day_calls take_back: day_requests::back_refusal(
 day_calls take_back: day[..]
 day_calls take_back: marks[..]
-day_calls take_back: refused(
 day_calls take_back: count_with(
 day_calls take_back: day[..]
 day_calls take_back: row_edits::replace_row(
-day_calls take_back: marks[0..0]
-day_calls take_back: marks[0..0]
 day_calls take_back: day_marks::take_mark(
-day_calls take_back: accepted(
 day_calls read_through: day_requests::read_refusal(
-day_calls read_through: cells::refused(
-day_calls read_through: cells::entry_at(
 day_calls read_through: day_marks::shown(
-day_calls read_through: cells::found(
+day_calls read_through: cells::entry_at(
 day_calls fold: day_requests::pair_refusal(
-day_calls fold: refused(
 day_calls fold: day_folds::folded_count(
-day_calls fold: refused(
 day_calls fold: base[ROWS_AT]
-day_calls fold: refused(
 day_calls fold: day_folds::write_folded(
-day_calls fold: accepted(
 day_calls show_row: row_showable(
 day_calls show_row: base[0..0]
 day_calls show_row: day_marks::is_marked(
@@ -173,8 +147,6 @@ day_calls row_showable: base[ROWS_AT]
 day_calls count_with: matrix::entry_count(
 day_calls count_with: words[i + STARTS_AT]
 day_calls count_with: words[i + 1 + STARTS_AT]
-day_calls matrix_size: matrix::entry_count(
-day_calls matrix_size: words[ROWS_AT]
 day_folds folded_count: matrix::row_count(
 day_folds folded_count: row_length(
 day_folds row_length: day_marks::shown(
@@ -184,7 +156,7 @@ day_folds write_folded: matrix::col_count(
 day_folds write_folded: stage_rows(
 day_folds write_folded: results::finish(
 day_folds write_folded: words::copy_into(
-day_folds write_folded: staged[..r + n + n + FIXED_WORDS]
+day_folds write_folded: staged[..r + 2 * n + FIXED_WORDS]
 day_folds stage_rows: matrix::row_count(
 day_folds stage_rows: stage_row(
 day_folds stage_row: day_marks::shown(

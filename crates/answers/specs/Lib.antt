@@ -1,3 +1,5 @@
+pub mod Answers
 pub mod Refusals
 pub mod Reads
 pub mod Numbers
+pub mod Results

@@ -1,6 +1,6 @@
 -- What the reduction of a whole matrix answers (document 02, A4: "this returns 0 and the number").
 use Rattle.std.specs.Prelude.{ℕ}
-use Rattle.answers.specs.declared.NumberAnswer.{NumberAnswer}
+use Rattle.answers.specs.Answers.{NumberAnswer}
 
 -- the number is kept as its word in two's complement
 abbrev pub number_answer : ℕ → NumberAnswer

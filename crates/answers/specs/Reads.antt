@@ -4,7 +4,7 @@
 use Rattle.std.specs.Prelude.{ℕ, true, false}
 use Rattle.grid.specs.declared.EntryAt.{EntryAt}
 use Rattle.grid.specs.declared.EntryAt.TheVariants as entry
-use Rattle.answers.specs.declared.CellAnswer.{CellAnswer}
+use Rattle.answers.specs.Answers.{CellAnswer}
 
 -- "present with the value, or absent", each with a position
 abbrev pub found_answer : EntryAt → CellAnswer

@@ -1,6 +1,6 @@
 -- The refusal codes of document 01's table "When the clerk turns a call away", and what a call answers.
 use Rattle.std.specs.Prelude.{ℕ, List, cond, eqb}
-use Rattle.answers.specs.declared.Answer.{Answer}
+use Rattle.answers.specs.Answers.{Answer}
 
 -- "flags above 31"
 abbrev pub flags_out_of_range : ℕ

@@ -1,5 +1,6 @@
 // Bytes written one after the other into a lent buffer. `at` is how far the buffer is filled; each function answers how
-// far it is filled then.
+// far it is filled then. Kept: a position beside the buffer, since there is no heap and the contracts of all that write
+// texts (`Appended`) say where the next byte goes.
 
 #![tactic(auto)]
 

@@ -1,12 +1,12 @@
 -- The loop of `apply_row`: what it has written when it stands at entry p of the row.
+use Rattle.std.proofs.Common.{Some}
 use Prim.Native.Nat.{ℕ, ◌+◌, ◌≤◌, ◌<◌}
 use native.Mathlib.Omega.{arith}
 use mathlib.Core.Path.{◌≡◌, refl, ◌∙◌}
 use mathlib.Core.List.{List}
 use lib.ListN.{length, set, length-set}
 use Rattle.words.specs.Words.{at}
-use Rattle.grid.specs.declared.Cell.{Cell}
-use Rattle.grid.specs.declared.Cell.TheVariants.{Present}
+use Rattle.grid.specs.Cell.{Cell}
 use Rattle.operators.specs.declared.ApplyOp.{ApplyOp}
 use Rattle.operators.specs.Operators.{entry_word}
 use Rattle.operations.specs.CellOperations.{apply_cell}
@@ -47,7 +47,7 @@ module _ {n : ℕ} {cols vals : List ℕ} (w : Row n cols vals) where
     applying_step {x} l a b e =
         let room = applying_room l in
         let before : Holds (at cols p) (applied op i cols vals) p oc ov = rw (front_at n cols p l) at h.out in
-        let here : applied op i cols vals (at cols p) ≡ Present x = rw (lookup_entry w p l, e) in
+        let here : applied op i cols vals (at cols p) ≡ Some x = rw (lookup_entry w p l, e) in
         record {
           out = holds_skip (holds_put before (omega (arith, h.long_cols)) (omega (arith, h.long_vals)) here)
               (front n cols (p + 1)) (omega (arith, front_above w p (p + 1) (omega arith) l))

@@ -15,8 +15,8 @@ at_map f (x ∷ l) zero h = refl
 at_map f (x ∷ l) (suc k) h = at_map f l k (omega arith)
 
 -- one value more
-pub value_turn : (f : ℕ → ℕ) (d : List ℕ) (a : ℕ) (l : List ℕ) (k y : ℕ) → a + k < length d → k < length l → y ≡ f (at l k)
-    → set (paste d a (map f l) k) (a + k) y ≡ paste d a (map f l) (k + 1)
+pub value_turn : (f : ℕ → ℕ) (d : List ℕ) (a : ℕ) (l : List ℕ) (k y : ℕ) → a + k < length d → k < length l
+    → y ≡ f (at l k) → set (paste d a (map f l) k) (a + k) y ≡ paste d a (map f l) (k + 1)
 value_turn f d a l k y h b e =
     ap (set (paste d a (map f l) k) (a + k)) (e ∙ sym (at_map f l k b))
     ∙ copy_turn d a (map f l) k h (omega (arith, length-map l f))

@@ -27,16 +27,13 @@ pub fn apply_row(
         (λ j. apply_cell op i j (lookup columns.now values.now j))
         result oc.new ov.new }
 {
-    let mut p: usize = 0;
-    while p < columns.len() {
-        let j = columns[p];
+    for (p, &j) in columns.iter().enumerate() {
         let x = values[p];
         let y = operators::apply_entry(op, x, i, j);
         oc[p] = j;
         ov[p] = y;
-        p += 1;
     }
-    p
+    columns.len()
 }
 
 // Whether an operator looks at the value alone, and not at row and column numbers.
@@ -44,9 +41,8 @@ pub fn by_value(op: ApplyOp) -> bool
     ensures { result ≡ by_value op }
 {
     match op {
-        ApplyOp::Unary(_) => true,
-        ApplyOp::BinaryScalarFirst(_, _) => true,
-        ApplyOp::BinaryScalarSecond(_, _) => true,
+        ApplyOp::Unary(_) | ApplyOp::BinaryScalarFirst(_, _) | ApplyOp::BinaryScalarSecond(_, _) =>
+            true,
         ApplyOp::IndexUnary(_, _) => false,
     }
 }
@@ -56,9 +52,7 @@ pub fn apply_values(op: ApplyOp, dst: &mut [u32], at: usize, src: &[u32])
     requires { at + length src.now ≤ length dst.old }
     ensures { dst.new ≡ overwrite at (map (value_word op) src.now) dst.old }
 {
-    let mut k = 0;
-    while k < src.len() {
-        dst[at + k] = operators::apply_entry(op, src[k], 0, 0);
-        k += 1;
+    for (k, &x) in src.iter().enumerate() {
+        dst[at + k] = operators::apply_entry(op, x, 0, 0);
     }
 }

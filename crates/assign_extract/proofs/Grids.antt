@@ -9,7 +9,7 @@ use lib.ListN.{length}
 use borrow.Author.Tests.{eqb-true}
 use Rattle.words.specs.Words.{at}
 use Rattle.conditions.proofs.Tests.{and_left, and_right}
-use Rattle.grid.specs.declared.Cell.{Cell}
+use Rattle.grid.specs.Cell.{Cell}
 use Rattle.grid.specs.Grid.{Grid, Same}
 use Rattle.operations.specs.declared.Call.{Call}
 use Rattle.operations.specs.CellOperations.{listed_cell}
@@ -23,11 +23,11 @@ use Rattle.result_rows.proofs.Inputs.{list_once}
 use Rattle.assign_extract.specs.ReadBack.{plainly}
 
 -- the two calls
-abbrev pub assigning : ℕ → Call
-assigning number = decoded (plainly number) Assign
+abbrev pub assigning : Call
+assigning = decoded plainly Assign
 
-abbrev pub extracting : ℕ → Call
-extracting number = decoded (plainly number) Extract
+abbrev pub extracting : Call
+extracting = decoded plainly Extract
 
 -- an index of a valid list stands at one place
 one_place : (n : ℕ) (l : List ℕ) → list_valid n l ≡ true → (k : ℕ) → k < length l → (h : ℕ) → h < length l
@@ -44,9 +44,9 @@ listed_cell_lem : (n : ℕ) (l : List ℕ) → list_valid n l ≡ true → (k : 
     → listed_cell (length l) l (at l k) f c ≡ f k
 listed_cell_lem n l v k m f c = listed_at (length l) l (at l k) k f c m refl (one_place n l v k m)
 
-module _ (n k : ℕ) (a b m c g b' m' d : Grid) (is js : List ℕ)
-    (s : Same g (call_final (assigning n) a b m c is js)) (v : indexes_valid (assigning n) a b c is js ≡ true)
-    (w : shapes_agree (assigning n) a b m c is js ≡ true) (u : shapes_agree (extracting k) g b' m' d is js ≡ true) where
+module _ (a b m c g b' m' d : Grid) (is js : List ℕ)
+    (s : Same g (call_final assigning a b m c is js)) (v : indexes_valid assigning a b c is js ≡ true)
+    (w : shapes_agree assigning a b m c is js ≡ true) (u : shapes_agree extracting g b' m' d is js ≡ true) where
   rows_listed : list_valid c.rows is ≡ true
   unfolding indexes_valid
   rows_listed = and_left _ _ v
@@ -74,12 +74,12 @@ module _ (n k : ℕ) (a b m c g b' m' d : Grid) (is js : List ℕ)
 
   -- the final C of the assign, at a listed place
   assigned_cell_lem : (i j : ℕ) → i < length is → j < length js
-      → (call_final (assigning n) a b m c is js).cell (at is i) (at js j) ≡ a.cell i j
+      → (call_final assigning a b m c is js).cell (at is i) (at js j) ≡ a.cell i j
   unfolding call_final write_back
   assigned_cell_lem i j p q =
       listed_cell_lem c.rows is rows_listed i p _ _ ∙ listed_cell_lem c.cols js cols_listed j q (a.cell i) _
 
-  cells : (i j : ℕ) → i < a.rows → j < a.cols → (call_final (extracting k) g b' m' d is js).cell i j ≡ a.cell i j
+  cells : (i j : ℕ) → i < a.rows → j < a.cols → (call_final extracting g b' m' d is js).cell i j ≡ a.cell i j
   unfolding call_final write_back
   cells i j p q =
       let x : i < length is = omega (arith, first_rows) in
@@ -88,7 +88,7 @@ module _ (n k : ℕ) (a b m c g b' m' d : Grid) (is js : List ℕ)
       ((list_facts c.cols js cols_listed).below j y)
       ∙ assigned_cell_lem i j x y
 
-  pub grids_back : Same (call_final (extracting k) g b' m' d is js) a
+  pub grids_back : Same (call_final extracting g b' m' d is js) a
   unfolding call_final
   grids_back = record {
     rows = sym output_rows ∙ sym first_rows;

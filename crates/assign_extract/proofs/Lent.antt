@@ -5,7 +5,8 @@ use mathlib.Core.Path.{◌≡◌, refl, sym, ap, ◌∙◌}
 use mathlib.Core.List.{List}
 use lib.ListN.{drop}
 use borrow.Author.Tests.{eq-eqb, ne_eqb}
-use Rattle.answers.specs.declared.Answer.{Answer}
+use Rattle.answers.specs.Answers.{Answer}
+use Rattle.answers.specs.Results.{answer}
 use Rattle.grid.specs.Grid.{Grid, Same}
 use Rattle.grid.proofs.Same.{same_trans}
 use Rattle.grid.specs.Revision.{updating, revision_after}
@@ -59,10 +60,10 @@ left call a b m c is js work answer c' t e =
 
 pub lent_back : {a c c' d d' is js : List ℕ} → Accepted Assign a is js c c' → Accepted Extract c' is js d d'
     → Same (grid_of d') (grid_of a)
-lent_back {a} {c} {c'} {d} {d'} {is} {js} (accepted_call n b m w w' p q r x y κs answer t e)
-    (accepted_call k b' m' v v' p' q' r' x' y' κs' answer' t' e') =
-    let f = left (assigning n) a _ _ c is js _ answer c' t.attempted e in
-    let g = left (extracting k) c' _ _ d is js _ answer' d' t'.attempted e' in
+lent_back {a} {c} {c'} {d} {d'} {is} {js} (accepted_call b m w w' p q r x y κs result t e)
+    (accepted_call b' m' v v' p' q' r' x' y' κs' result' t' e') =
+    let f = left assigning a _ _ c is js _ (answer result) c' t.attempted e in
+    let g = left extracting c' _ _ d is js _ (answer result') d' t'.attempted e' in
     same_trans g.grid
-    (grids_back n k (grid_of a) _ _ (grid_of c) (grid_of c') _ _ (grid_of d) is js f.grid f.ready.indexes
+    (grids_back (grid_of a) _ _ (grid_of c) (grid_of c') _ _ (grid_of d) is js f.grid f.ready.indexes
     f.ready.shapes g.ready.shapes)

@@ -119,7 +119,7 @@ accepted_valid {s} {s'} c {r} t e = go (store_valid s) refl
 -- the call of a slot, as the model has it
 abbrev asked : (verb : Verb) → List ℕ → List ℕ → SlotCall → OperationCall
 asked verb is js x = record {
-  options = plainly x.number;
+  options = plainly;
   verb = verb;
   named = record { first = x.first; second = x.second; mask = x.mask; output = x.output };
   is = is;
@@ -155,7 +155,7 @@ store_back {s} {s''} {is} {js} x y {r} {r'} same (call t u) e e' =
     let g : grid_at m₁ y.first ≡ operated m (operate_of (asked Assign is js x)) =
     ap (grid_at m₁) same ∙ grid_is n m f (asked Assign is js x) z in
     let back =
-    grids_back x.number y.number (grid_at m x.first) (grid_at m x.first) (grid_at m x.output)
+    grids_back (grid_at m x.first) (grid_at m x.first) (grid_at m x.output)
     (grid_at m x.output) (grid_at m₁ y.first) (grid_at m₁ y.first) (grid_at m₁ y.output) (grid_at m₁ y.output)
     is js (rw g (same_refl _)) p.indexes p.shapes q.shapes in
     let last : Same (grid_at (model_of s'') y.output) (grid_at (next n m₁ d) y.output) =

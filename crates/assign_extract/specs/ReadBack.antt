@@ -3,11 +3,12 @@
 --
 -- What a call does is taken from the contract of `calls::operate`, on lent matrices, and of `store_calls::operate`, on a
 -- store, by name: `Reads.Learnt` is what a caller learns when it returns.
-use Rattle.std.specs.Prelude.{ℕ, ◌≡◌, false, List, [], ◌∷◌}
+use Rattle.std.specs.Prelude.{ℕ, ◌≡◌, false, List, [], ◌∷◌, Result, None}
 use contract.Lifetimes.{Lfts}
 use Rattle.std.specs.Borrow.{Bor, MutBor}
 use borrow.Fn.Picked.{KnownAs}
-use Rattle.answers.specs.declared.Answer.{Answer}
+use Rattle.answers.specs.declared.Refusal.{Refusal}
+use Rattle.answers.specs.Results.{answer}
 use Rattle.words.specs.Lent.{Address, lent, lent_mut}
 use Rattle.grid.specs.Grid.{Same}
 use Rattle.matrix.specs.Layout.{grid_of}
@@ -23,33 +24,32 @@ use Rattle.model.specs.Calls.{StoreCall, operate}
 use Rattle.store_encoding.specs.Stores.{model_of}
 use Rattle.histories.specs.Lists.{Runs}
 
--- "both without mask, accumulator or flags"; the number of an accumulator that is not there is any
-abbrev pub plainly : ℕ → Options
-plainly number = record { flags = 0; has_mask = false; has_accumulator = false; accumulator = number }
+-- "both without mask, accumulator or flags"
+abbrev pub plainly : Options
+plainly = record { flags = 0; has_mask = false; accumulator = None }
 
 -- An accepted call on lent matrices by a verb, of the first input a and the lists is and js: c and c' are all words of C's
 -- buffer before the call and after it. The slices lent as a second input and a mask, which the call does not look at, and
 -- the words of the workspace are any.
 pub data Accepted (verb : Verb) (a is js c c' : List ℕ) : Type 0 where
-  accepted_call : (number : ℕ) (b mask : Bor (List ℕ)) (work work' : List ℕ) (p q r x y : Address) (κs : Lfts 6)
-      (answer : Answer)
+  accepted_call : (b mask : Bor (List ℕ)) (work work' : List ℕ) (p q r x y : Address) (κs : Lfts 6)
+      (result : Result ℕ Refusal)
       → operate_reads.Learnt κs
-      (plainly number, (verb, (lent p a, (b, (mask, (lent x is, (lent y js, (lent_mut q c, (lent_mut r work, tt))))))))) answer
-      (plainly number, (verb, (lent p a, (b, (mask, (lent x is, (lent y js, (lent_mut q c', (lent_mut r work', tt)))))))))
-      → answer.code ≡ 0 → Accepted verb a is js c c'
+      (plainly, (verb, (lent p a, (b, (mask, (lent x is, (lent y js, (lent_mut q c, (lent_mut r work, tt))))))))) result
+      (plainly, (verb, (lent p a, (b, (mask, (lent x is, (lent y js, (lent_mut q c', (lent_mut r work', tt)))))))))
+      → (answer result).code ≡ 0 → Accepted verb a is js c c'
 
 -- The same on a store: the slot of the first input, that of C, and what else the call is given and does not look at.
 pub record SlotCall : Type 0 where
   pub first : ℕ
   pub output : ℕ
-  pub number : ℕ
   pub second : ℕ
   pub mask : ℕ
   pub work : ℕ
 
 abbrev pub slot_call : Verb → List ℕ → List ℕ → SlotCall → StoreCall
 slot_call verb is js x =
-    operate (plainly x.number) verb
+    operate plainly verb
     (record { first = x.first; second = x.second; mask = x.mask; output = x.output }) is js x.work
 
 pub record ReadBack : Type 3 where

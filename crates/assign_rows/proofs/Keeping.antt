@@ -1,4 +1,5 @@
 -- The loop of `add_unlisted`: the entries of the old row before p stand at the columns that the list does not name.
+use Rattle.std.proofs.Common.{None}
 use Prim.Native.Nat.{ℕ, ◌+◌, ◌≤◌, ◌<◌}
 use native.Mathlib.Omega.{arith}
 use native.Mathlib.Decide.{ℕ_discrete}
@@ -7,8 +8,7 @@ use mathlib.Core.List.{List}
 use lib.ListN.{length, set, length-set}
 use borrow.Author.Tests.{eq-eqb, ne_eqb}
 use Rattle.words.specs.Words.{at}
-use Rattle.grid.specs.declared.Cell.{Cell}
-use Rattle.grid.specs.declared.Cell.TheVariants.{Absent}
+use Rattle.grid.specs.Cell.{Cell}
 use Rattle.rows.specs.Row.{lookup, Row}
 use Rattle.rows.proofs.Walk.{front_at, lookup_entry}
 use Rattle.dense_rows.proofs.Sweep.{Swept, swept_start, swept_step, swept_done}
@@ -20,11 +20,12 @@ use Rattle.assign_rows.specs.Assigned.{OnlyListed, with_unlisted}
 pub record Keeping (n : ℕ) (inv cols vals map₀ ov₀ : List ℕ) (top : ℕ) (map ov : List ℕ) (p : ℕ) : Type 0 where
   pub tracked : Tracked top map
   pub long : length ov ≡ length ov₀
-  pub swept : Swept n cols (flagged map₀ ov₀) (with_unlisted inv (lookup cols vals) (flagged map₀ ov₀)) (flagged map ov) p
+  pub swept : Swept n cols (flagged map₀ ov₀) (with_unlisted inv (lookup cols vals) (flagged map₀ ov₀))
+      (flagged map ov) p
 
 -- without the entries of the old row there is nothing more
 pub none_kept : (inv map ov : List ℕ) {top : ℕ} → Tracked top map → OnlyListed inv map ov → (old : ℕ → Cell)
-    → ((j : ℕ) → old j ≡ Absent) → Carries (with_unlisted inv old (flagged map ov)) top map ov
+    → ((j : ℕ) → old j ≡ None) → Carries (with_unlisted inv old (flagged map ov)) top map ov
 none_kept inv map ov t o old e = record { tracked = t; cell = λ j. go j (ℕ_discrete (at inv j) 0) }
   where
     go : (j : ℕ) → Dec (at inv j ≡ 0) → flagged map ov j ≡ with_unlisted inv old (flagged map ov) j
@@ -33,7 +34,7 @@ none_kept inv map ov t o old e = record { tracked = t; cell = λ j. go j (ℕ_di
 
 module _ (inv map₀ ov₀ : List ℕ) {n : ℕ} {cols vals : List ℕ} (w : Row n cols vals) (o : OnlyListed inv map₀ ov₀) where
   -- a column without an entry keeps what it has
-  keeps : (j : ℕ) → lookup cols vals j ≡ Absent
+  keeps : (j : ℕ) → lookup cols vals j ≡ None
       → with_unlisted inv (lookup cols vals) (flagged map₀ ov₀) j ≡ flagged map₀ ov₀ j
   keeps j e = go (ℕ_discrete (at inv j) 0)
     where

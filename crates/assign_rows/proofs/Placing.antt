@@ -1,4 +1,5 @@
 -- The loop of `place_listed`: the entries of A's row before p stand at the columns that the list has for them.
+use Rattle.std.proofs.Common.{None}
 use Prim.Native.Nat.{ℕ, ◌+◌, ◌≤◌, ◌<◌}
 use native.Mathlib.Omega.{arith}
 use native.Mathlib.Decide.{dec_lt}
@@ -10,8 +11,7 @@ use lib.Dec.{ltb}
 use borrow.Author.Tests.{lt-ltb, le-ltb}
 use Rattle.limits.specs.Limits.{max_cols}
 use Rattle.words.specs.Words.{at}
-use Rattle.grid.specs.declared.Cell.{Cell}
-use Rattle.grid.specs.declared.Cell.TheVariants.{Absent}
+use Rattle.grid.specs.Cell.{Cell}
 use Rattle.rows.specs.Row.{lookup, Row}
 use Rattle.rows.proofs.Walk.{lookup_entry}
 use Rattle.dense_rows.proofs.Sweep.{Swept, swept_start, swept_step, swept_done}
@@ -22,21 +22,21 @@ use Rattle.assign_rows.specs.Assigned.{AtListed}
 
 -- what stands at the column that the list has at k
 abbrev at_index : List ℕ → (ℕ → Cell) → ℕ → Cell
-at_index list cells k = cond (ltb k (length list)) (cells (at list k)) Absent
+at_index list cells k = cond (ltb k (length list)) (cells (at list k)) None
 
 -- the entries before p are put, nothing stands at other columns, and the buffer is as long as it was
 pub record Placing (list cols vals ov₀ : List ℕ) (top : ℕ) (map ov : List ℕ) (p : ℕ) : Type 0 where
   pub tracked : Tracked top map
   pub long : length ov ≡ length ov₀
-  pub swept : Swept (length list) cols (λ k. Absent) (lookup cols vals) (at_index list (flagged map ov)) p
-  pub others : (j : ℕ) → ((k : ℕ) → k < length list → at list k ≡ j → ⊥) → flagged map ov j ≡ Absent
+  pub swept : Swept (length list) cols (λ k. None) (lookup cols vals) (at_index list (flagged map ov)) p
+  pub others : (j : ℕ) → ((k : ℕ) → k < length list → at list k ≡ j → ⊥) → flagged map ov j ≡ None
 
 module _ {list cols vals : List ℕ} (w : Row (length list) cols vals) (ix : Indices list) where
   -- a column without an entry stays absent
-  keeps : (k : ℕ) → lookup cols vals k ≡ Absent → lookup cols vals k ≡ Absent
+  keeps : (k : ℕ) → lookup cols vals k ≡ None → lookup cols vals k ≡ None
   keeps k e = e
 
-  pub placing_start : (ov : List ℕ) {map : List ℕ} → Carries (λ j. Absent) 0 map ov
+  pub placing_start : (ov : List ℕ) {map : List ℕ} → Carries (λ j. None) 0 map ov
       → Placing list cols vals ov 0 map ov 0
   placing_start ov {map} h = record {
     tracked = h.tracked;
@@ -45,7 +45,7 @@ module _ {list cols vals : List ℕ} (w : Row (length list) cols vals) (ix : Ind
     others = λ j n. h.cell j;
   }
     where
-      none : (k : ℕ) → Dec (k < length list) → at_index list (flagged map ov) k ≡ Absent
+      none : (k : ℕ) → Dec (k < length list) → at_index list (flagged map ov) k ≡ None
       none k (yes d) = rw (lt-ltb k (length list) d) (h.cell (at list k))
       none k (no d) = rw (le-ltb k (length list) (omega arith))
 

@@ -1,9 +1,8 @@
 -- One row of an assign, in a map of bits and the values beside it: what is put at the listed columns, and what is kept at
 -- the others.
-use Rattle.std.specs.Prelude.{ℕ, ◌<◌, ◌≡◌, List, cond, length, eqb}
+use Rattle.std.specs.Prelude.{ℕ, ◌<◌, ◌≡◌, List, cond, length, eqb, None}
 use Rattle.words.specs.Words.{at}
-use Rattle.grid.specs.declared.Cell.{Cell}
-use Rattle.grid.specs.declared.Cell.TheVariants.{Absent}
+use Rattle.grid.specs.Cell.{Cell}
 use Rattle.rows.specs.Row.{lookup}
 use Rattle.bit_rows.specs.Bits.{flagged, Tracked}
 use Rattle.extract_rows.specs.Indices.{Indices, Inverse}
@@ -22,11 +21,11 @@ pub record Listed (n : ℕ) (list inv : List ℕ) : Type 0 where
 pub record AtListed (list cols vals : List ℕ) (top : ℕ) (map cells : List ℕ) : Type 0 where
   pub tracked : Tracked top map
   pub listed : (k : ℕ) → k < length list → flagged map cells (at list k) ≡ lookup cols vals k
-  pub others : (j : ℕ) → ((k : ℕ) → k < length list → at list k ≡ j → ⊥) → flagged map cells j ≡ Absent
+  pub others : (j : ℕ) → ((k : ℕ) → k < length list → at list k ≡ j → ⊥) → flagged map cells j ≡ None
 
 -- nothing stands at the columns that the list does not name
 abbrev pub OnlyListed : List ℕ → List ℕ → List ℕ → Type 0
-OnlyListed inv map cells = (j : ℕ) → at inv j ≡ 0 → flagged map cells j ≡ Absent
+OnlyListed inv map cells = (j : ℕ) → at inv j ≡ 0 → flagged map cells j ≡ None
 
 -- the row `new` at the columns that the list names, and `old` at the others
 abbrev pub with_unlisted : List ℕ → (ℕ → Cell) → (ℕ → Cell) → ℕ → Cell

@@ -3,9 +3,8 @@
 
 #![tactic(auto)]
 
-ghost use Rattle.std.specs.Prelude.{◌≡◌, ◌≤◌, length};
+ghost use Rattle.std.specs.Prelude.{◌≡◌, ◌≤◌, length, None};
 ghost use Rattle.limits.specs.Limits.{max_cols};
-ghost use Rattle.grid.specs.declared.Cell.TheVariants.{Absent};
 ghost use Rattle.operations.specs.CellOperations.{listed_cell, unlisted_cell};
 ghost use Rattle.rows.specs.Row.{lookup, Row, Holds};
 ghost use Rattle.bit_rows.specs.Bits.{flagged, Tracked, Carries};
@@ -71,13 +70,13 @@ pub fn unlisted_row(
         result oc.new ov.new }
 {
     match accumulator {
-        Accumulator::Absent => row_pairs::copy_row(places, old_columns, old_values, oc, ov),
-        Accumulator::Present(_) => 0,
+        None => row_pairs::copy_row(places, old_columns, old_values, oc, ov),
+        Some(_) => 0,
     }
 }
 
-// The entries of A's row, each put at the column that the list has for it and marked there, in a map without marks: the top
-// word.
+// The entries of A's row, each put at the column that the list has for it and marked there, in a map without marks: the
+// top word.
 fn place_listed(
     columns: &[u32],
     values: &[u32],
@@ -85,21 +84,18 @@ fn place_listed(
     map: &mut [u64; MAP_WORDS],
     ov: &mut [u32],
 ) -> u64
-    requires fact_1 { Row (length list.now) columns.now values.now }
-    requires fact_2 { Indices list.now }
-    requires fact_3 { Below (length ov.old) list.now }
-    requires fact_4 { Carries (λ j. Absent) 0 map.old ov.old }
+    requires row { Row (length list.now) columns.now values.now }
+    requires indices { Indices list.now }
+    requires list_in_bounds { Below (length ov.old) list.now }
+    requires no_marks { Carries (λ j. None) 0 map.old ov.old }
     ensures { AtListed list.now columns.now values.now result map.new
         ov.new }
 {
     let mut top: u64 = 0;
-    let mut p: usize = 0;
-    while p < columns.len() {
-        let k = columns[p] as usize;
-        let j = list[k] as usize;
+    for (p, &k) in columns.iter().enumerate() {
+        let j = list[k as usize] as usize;
         ov[j] = values[p];
         top = bit_rows::mark_column(top, map, j);
-        p += 1;
     }
     top
 }
@@ -115,18 +111,18 @@ fn keep_unlisted(
     map: &mut [u64; MAP_WORDS],
     ov: &mut [u32],
 ) -> u64
-    requires fact_1 { (places ≤ max_cols) × (places ≤ length ov.old) }
-    requires fact_2 { Row places old_columns.now old_values.now }
-    requires fact_3 { length inverse.now ≡ max_cols }
-    requires fact_4 { Tracked top map.old }
-    requires fact_5 { OnlyListed inverse.now map.old ov.old }
+    requires places_in_bounds { (places ≤ max_cols) × (places ≤ length ov.old) }
+    requires old_row { Row places old_columns.now old_values.now }
+    requires inverse_sized { length inverse.now ≡ max_cols }
+    requires tracked { Tracked top map.old }
+    requires only_listed { OnlyListed inverse.now map.old ov.old }
     ensures { Carries (with_unlisted inverse.now
         (λ j. unlisted_cell accumulator (lookup old_columns.now old_values.now j))
         (flagged map.old ov.old)) result map.new ov.new }
 {
     match accumulator {
-        Accumulator::Absent => add_unlisted(places, old_columns, old_values, inverse, top, map, ov),
-        Accumulator::Present(_) => top,
+        None => add_unlisted(places, old_columns, old_values, inverse, top, map, ov),
+        Some(_) => top,
     }
 }
 
@@ -140,24 +136,22 @@ fn add_unlisted(
     map: &mut [u64; MAP_WORDS],
     ov: &mut [u32],
 ) -> u64
-    requires fact_1 { (places ≤ max_cols) × (places ≤ length ov.old) }
-    requires fact_2 { Row places old_columns.now old_values.now }
-    requires fact_3 { length inverse.now ≡ max_cols }
-    requires fact_4 { Tracked top map.old }
-    requires fact_5 { OnlyListed inverse.now map.old ov.old }
+    requires places_in_bounds { (places ≤ max_cols) × (places ≤ length ov.old) }
+    requires old_row { Row places old_columns.now old_values.now }
+    requires inverse_sized { length inverse.now ≡ max_cols }
+    requires tracked { Tracked top map.old }
+    requires only_listed { OnlyListed inverse.now map.old ov.old }
     ensures { Carries (with_unlisted inverse.now
         (lookup old_columns.now old_values.now)
         (flagged map.old ov.old)) result map.new ov.new }
 {
     let mut t = top;
-    let mut p: usize = 0;
-    while p < old_columns.len() {
-        let j = old_columns[p] as usize;
+    for (p, &column) in old_columns.iter().enumerate() {
+        let j = column as usize;
         if inverse[j] == 0 {
             ov[j] = old_values[p];
             t = bit_rows::mark_column(t, map, j);
         }
-        p += 1;
     }
     t
 }

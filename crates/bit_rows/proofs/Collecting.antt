@@ -1,4 +1,5 @@
 -- The loops that collect the marked columns: over the bits of one word, and over the words in use.
+use Rattle.std.proofs.Common.{None, Some}
 use Prim.Native.Nat.{ℕ, ◌+◌, ◌-◌, ◌*◌, ◌/◌, ◌%◌, ◌^◌, ◌≤◌, ◌<◌}
 use native.Mathlib.Omega.{arith}
 use native.Mathlib.Decide.{dec_lt}
@@ -9,8 +10,7 @@ use lib.Seq.{get_or-set_other}
 use lib.Bits.{bit_and}
 use borrow.Author.Tests.{eq-eqb, ne_eqb}
 use Rattle.words.specs.Words.{at}
-use Rattle.grid.specs.declared.Cell.{Cell}
-use Rattle.grid.specs.declared.Cell.TheVariants.{Absent, Present}
+use Rattle.grid.specs.Cell.{Cell}
 use Rattle.rows.specs.Row.{Holds}
 use Rattle.rows.proofs.Holds.{holds_none, holds_put, holds_skip}
 use Rattle.bit_rows.specs.Bits.{bit, map_words, map_places, mark, flagged, Tracked, Room, WordRoom, Collecting}
@@ -23,7 +23,7 @@ use Rattle.bit_rows.proofs.Marks.{flagged_unmarked}
 
 module _ {f : ℕ → Cell} {ov₀ oc ov : List ℕ} {e j : ℕ} (h : Collecting f ov₀ oc ov e j) where
   -- no entries from j up to q
-  pub collecting_skip : (q : ℕ) → j ≤ q → ((k : ℕ) → j ≤ k → k < q → f k ≡ Absent) → Collecting f ov₀ oc ov e q
+  pub collecting_skip : (q : ℕ) → j ≤ q → ((k : ℕ) → j ≤ k → k < q → f k ≡ None) → Collecting f ov₀ oc ov e q
   collecting_skip q l a = record {
     most = omega (arith, h.most);
     out = holds_skip h.out q l a;
@@ -31,12 +31,12 @@ module _ {f : ℕ → Cell} {ov₀ oc ov : List ℕ} {e j : ℕ} (h : Collecting
   }
 
   -- column j has its value in its place yet, and both are moved to the front
-  pub collecting_take : j < length oc → j < length ov → f j ≡ Present (at ov₀ j)
+  pub collecting_take : j < length oc → j < length ov → f j ≡ Some (at ov₀ j)
       → Collecting f ov₀ (set oc e j) (set ov e (at ov j)) (e + 1) (j + 1)
   collecting_take a b p = record {
     most = omega (arith, h.most);
     out = holds_put h.out (omega (arith, h.most)) (omega (arith, h.most))
-        (p ∙ ap Present (sym (h.rest j (omega arith))));
+        (p ∙ ap Some (sym (h.rest j (omega arith))));
     rest = λ k m. get_or-set_other ov e k (at ov j) 0 (λ z. omega (arith, h.most)) ∙ h.rest k (omega arith);
   }
 
@@ -68,7 +68,7 @@ module _ {word base : ℕ} {oc₁ ov₁ oc ov : List ℕ} {count rest e : ℕ}
     (h : WordAt word base oc₁ ov₁ oc ov count rest e) where
   -- the columns between two places have no entries where the bits are 0
   gap : (f : ℕ → Cell) (ov₀ : List ℕ) → Says word base ov₀ f → (p q : ℕ) → q ≤ 64
-      → ((s : ℕ) → p ≤ s → s < q → bit word s ≡ 0) → (k : ℕ) → base + p ≤ k → k < base + q → f k ≡ Absent
+      → ((s : ℕ) → p ≤ s → s < q → bit word s ≡ 0) → (k : ℕ) → base + p ≤ k → k < base + q → f k ≡ None
   gap f ov₀ says p q l none k a b =
       let z : k ≡ base + (k - base) = omega arith in
       ap f z ∙ says (k - base) (omega arith)
@@ -136,7 +136,7 @@ module _ {top : ℕ} {map oc₀ ov₀ oc ov : List ℕ} {rest e : ℕ} (t : Trac
     (h : WordsAt top map oc₀ ov₀ oc ov rest e) where
   -- the columns of words that are not in use have no entries
   unused : (p q : ℕ) → ((w : ℕ) → p ≤ w → w < q → bit top w ≡ 0) → (k : ℕ) → p * 64 ≤ k → k < q * 64
-      → flagged map ov₀ k ≡ Absent
+      → flagged map ov₀ k ≡ None
   unused p q none k a b =
       flagged_unmarked map ov₀ k
       (rw (t.unused (k / 64) (none (k / 64) (omega arith) (omega arith))) (bit_none (k % 64)))

@@ -1,4 +1,5 @@
 -- Laws of the map: a new map, a column more, and what a place holds by its mark.
+use Rattle.std.proofs.Common.{None, Some}
 use Prim.Native.Nat.{ℕ, zero, suc, ◌/◌, ◌%◌, ◌≤◌, ◌<◌}
 use native.Mathlib.Omega.{arith}
 use native.Mathlib.Decide.{dec_lt, ℕ_discrete}
@@ -9,8 +10,7 @@ use lib.Seq.{get_or-set_same, get_or-set_other}
 use borrow.Author.Tests.{eq-eqb, ne_eqb}
 use Rattle.limits.specs.Limits.{max_cols}
 use Rattle.words.specs.Words.{at}
-use Rattle.grid.specs.declared.Cell.{Cell}
-use Rattle.grid.specs.declared.Cell.TheVariants.{Absent, Present}
+use Rattle.grid.specs.Cell.{Cell}
 use Rattle.bit_rows.specs.Bits.{bit, SetBit, map_words, mark, flagged, Tracked, Carries, Marking, Room}
 use Rattle.bit_rows.proofs.Bits.{bit_none}
 
@@ -18,20 +18,20 @@ use Rattle.bit_rows.proofs.Bits.{bit_none}
 
 -- how many entries a cell has
 abbrev entries : Cell → ℕ
-entries Absent = 0
-entries (Present v) = 1
+entries None = 0
+entries (Some v) = 1
 
 module _ (map cells : List ℕ) (j : ℕ) where
-  pub flagged_unmarked : mark map j ≡ 0 → flagged map cells j ≡ Absent
+  pub flagged_unmarked : mark map j ≡ 0 → flagged map cells j ≡ None
   unfolding flagged
   flagged_unmarked e = rw (eq-eqb (mark map j) 0 e)
 
-  pub flagged_marked : (mark map j ≡ 0 → ⊥) → flagged map cells j ≡ Present (at cells j)
+  pub flagged_marked : (mark map j ≡ 0 → ⊥) → flagged map cells j ≡ Some (at cells j)
   unfolding flagged
   flagged_marked e = rw (ne_eqb (mark map j) 0 e)
 
   -- an absent cell is not marked
-  unmarked_absent : flagged map cells j ≡ Absent → mark map j ≡ 0
+  unmarked_absent : flagged map cells j ≡ None → mark map j ≡ 0
   unmarked_absent e = go (ℕ_discrete (mark map j) 0)
     where
       go : Dec (mark map j ≡ 0) → mark map j ≡ 0
@@ -40,7 +40,7 @@ module _ (map cells : List ℕ) (j : ℕ) where
 
 -- a row without entries from column n on has room in n places and more
 pub carries_room : {f : ℕ → Cell} {top : ℕ} {map cells : List ℕ} → Carries f top map cells → (n : ℕ)
-    → ((j : ℕ) → n ≤ j → f j ≡ Absent) → {a b : ℕ} → n ≤ a → n ≤ b → Room map a b
+    → ((j : ℕ) → n ≤ j → f j ≡ None) → {a b : ℕ} → n ≤ a → n ≤ b → Room map a b
 carries_room {f} {top} {map} {cells} h n none {a} {b} l m = record {
   in_cols = λ j e. omega (arith, below j e);
   in_vals = λ j e. omega (arith, below j e);
@@ -72,7 +72,7 @@ pub mark_none : (j : ℕ) → mark (replicate map_words 0) j ≡ 0
 mark_none j = rw (zeros_at map_words (j / 64)) (bit_none (j % 64))
 
 -- and holds no entries, whatever the values are
-pub carries_none : (cells : List ℕ) → Carries (λ j. Absent) 0 (replicate map_words 0) cells
+pub carries_none : (cells : List ℕ) → Carries (λ j. None) 0 (replicate map_words 0) cells
 carries_none cells = record {
   tracked = tracked_none;
   cell = λ j. flagged_unmarked (replicate map_words 0) cells j (mark_none j);
@@ -106,7 +106,7 @@ marking_made {top} {map} {j} {x} {top'} t l h k =
 
 -- a value v is stored at a column that is marked: its cell, and the others
 module _ {map : List ℕ} {j top' : ℕ} {map' : List ℕ} (h : Marking j map top' map') (cells : List ℕ) (v : ℕ) where
-  pub marked_here : j < length cells → flagged map' (set cells j v) j ≡ Present v
+  pub marked_here : j < length cells → flagged map' (set cells j v) j ≡ Some v
   marked_here l =
       flagged_marked map' (set cells j v) j (λ e. omega (arith, h.here)) ∙ rw (get_or-set_same cells j v 0 l)
 

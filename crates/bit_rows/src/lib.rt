@@ -49,10 +49,7 @@ fn kept_bits(complement: bool, x: u64, y: u64) -> u64
     ensures { KeptBits complement x y result }
 {
     let both = x & y;
-    if complement {
-        return x ^ both;
-    }
-    both
+    if complement { x ^ both } else { both }
 }
 
 // Keeps of the marked columns those that `marks` has too, or with `complement` those that it has not.
@@ -60,10 +57,8 @@ pub fn keep_columns(complement: bool, marks: &[u64; MAP_WORDS], map: &mut [u64; 
     requires { length map.old ≡ map_words }
     ensures { Kept complement marks.now map.old map.new }
 {
-    let mut w: usize = 0;
-    while w < MAP_WORDS {
-        map[w] = kept_bits(complement, map[w], marks[w]);
-        w += 1;
+    for (w, word) in map.iter_mut().enumerate() {
+        *word = kept_bits(complement, *word, marks[w]);
     }
 }
 
@@ -78,28 +73,28 @@ pub fn collect(top: u64, map: &[u64; MAP_WORDS], oc: &mut [u32], ov: &mut [u32])
     let mut e: usize = 0;
     let mut used = top;
     while used != 0 {
-        let w = u64::trailing_zeros(used) as usize;
+        let w = used.trailing_zeros() as usize;
         e = collect_word(map[w], w * 64, oc, ov, e);
-        used = used & (used - 1);
+        used &= used - 1;
     }
     e
 }
 
 // The columns that one word of the map marks, from column `base` on, behind the `count` that are there.
 fn collect_word(word: u64, base: usize, oc: &mut [u32], ov: &mut [u32], count: usize) -> usize
-    requires fact_1 { (count ≤ base) × (base + 64 ≤ map_places) }
-    requires fact_2 { WordRoom word base (length oc.old) (length ov.old) }
+    requires base_in_bounds { (count ≤ base) × (base + 64 ≤ map_places) }
+    requires room { WordRoom word base (length oc.old) (length ov.old) }
     ensures { WordCollected word base oc.old ov.old count
         oc.new ov.new result }
 {
     let mut e = count;
     let mut rest = word;
     while rest != 0 {
-        let j = base + u64::trailing_zeros(rest) as usize;
+        let j = base + rest.trailing_zeros() as usize;
         oc[e] = j as u32;
         ov[e] = ov[j];
         e += 1;
-        rest = rest & (rest - 1);
+        rest &= rest - 1;
     }
     e
 }

@@ -10,7 +10,7 @@ use lib.ListN.{length, take, drop, length-take}
 use lib.Dec.{eqb}
 use borrow.Author.Tests.{eq-eqb, ne_eqb, le-leb, lt-leb, lt-ltb, le-ltb}
 use Rattle.limits.specs.Limits.{max_entries}
-use Rattle.answers.specs.declared.Answer.{Answer}
+use Rattle.answers.specs.Answers.{Answer}
 use Rattle.answers.specs.Refusals.{accepted, refused, too_many_entries, insufficient_space}
 use Rattle.words.specs.Words.{overwrite}
 use Rattle.grid.specs.Grid.{Grid}

@@ -1,6 +1,6 @@
 -- What a call on lent matrices answers, and every word that it leaves.
 use Rattle.std.specs.Prelude.{ℕ, ◌≡◌, List, cond, length, take, replicate, leb}
-use Rattle.answers.specs.declared.Answer.{Answer}
+use Rattle.answers.specs.Answers.{Answer}
 use Rattle.answers.specs.Refusals.{accepted, refused, unless_refused, insufficient_space}
 use Rattle.words.specs.Words.{overwrite}
 use Rattle.grid.specs.Revision.{updating, revision_after}

@@ -1,19 +1,19 @@
-// The operations on lent matrices. Any words and any numbers may be lent: a call answers 0 and the number of
-// entries of the final C, or the lowest refusal that applies and 0. A refused call changes no word but the workspace's,
+// The operations on lent matrices. Any words and any numbers may be lent: a call gives the number of entries of the final
+// C, or the lowest refusal that applies. A refused call changes no word but the workspace's,
 // and every call leaves the workspace all zeros.
 
 #![tactic(auto)]
 
 ghost use Rattle.std.specs.Prelude.{◌≡◌, ◌≤◌, length};
+ghost use Rattle.answers.specs.Results.{answer};
 ghost use Rattle.limits.specs.Limits.{max_entries};
 ghost use Rattle.matrix.specs.Layout.{rows, size_of};
 ghost use Rattle.matrix.specs.Facts.{Header};
 ghost use Rattle.call_codes.specs.Decoding.{decoded};
 ghost use Rattle.calls.specs.Completion.{Attempted, Completed, Committed};
 
-use answers::{Answer, INSUFFICIENT_SPACE, TOO_MANY_ENTRIES};
+use answers::Refusal;
 use call_codes::{Options, Verb};
-use compute::Outcome;
 use matrix::layout::FIXED_WORDS;
 use operations::Call;
 use products::Engine;
@@ -30,9 +30,9 @@ pub fn operate<'a>(
     js: &[u32],
     c: &mut [u32],
     work: &mut [u32],
-) -> Answer
+) -> Result<u32, Refusal>
     ensures { Completed (decoded options verb) a.now b.now mask.now
-        c.old is.now js.now work.old result c.new work.new }
+        c.old is.now js.now work.old (answer result) c.new work.new }
 {
     operate_with(
         options,
@@ -60,9 +60,9 @@ pub fn operate_with<'a>(
     c: &mut [u32],
     work: &mut [u32],
     engine: Engine,
-) -> Answer
+) -> Result<u32, Refusal>
     ensures { Completed (decoded options verb) a.now b.now mask.now
-        c.old is.now js.now work.old result c.new work.new }
+        c.old is.now js.now work.old (answer result) c.new work.new }
 {
     let call = call_codes::decode(options, verb);
     let answer = attempt(call, a, b, mask, is, js, c, work, engine);
@@ -81,46 +81,28 @@ fn attempt<'a>(
     c: &mut [u32],
     work: &mut [u32],
     engine: Engine,
-) -> Answer
+) -> Result<u32, Refusal>
     ensures { Attempted call a.now b.now mask.now c.old
-        is.now js.now (length work.old) result c.new }
+        is.now js.now (length work.old) (answer result) c.new }
 {
-    let code = requests::input_refusal(call, a, b, mask, &c[..], is, js, work.len());
-    if code != 0 {
-        return Answer {
-            code: code,
-            entries: 0,
-        };
-    }
-    let outcome = compute::compute(call, a, b, mask, &c[..], is, js, work, engine);
-    match outcome {
-        Outcome::Full => Answer {
-            code: TOO_MANY_ENTRIES,
-            entries: 0,
-        },
-        Outcome::Done(n) => commit(c, &work[..], n),
-    }
+    requests::input_refusal(call, a, b, mask, &c[..], is, js, work.len())?;
+    let n = compute::compute(call, a, b, mask, &c[..], is, js, work, engine)?;
+    commit(c, &work[..], n)
 }
 
 // The matrix of n entries at the front of the workspace is copied over C, if it fits, with the revision after that of C.
-fn commit(c: &mut [u32], work: &[u32], n: usize) -> Answer
-    requires fact_1 { Header c.old }
-    requires fact_2 { n ≤ max_entries }
-    requires fact_3 { size_of (rows c.old) n ≤ length work.now }
-    ensures { Committed c.old work.now n result c.new }
+fn commit(c: &mut [u32], work: &[u32], n: usize) -> Result<u32, Refusal>
+    requires header { Header c.old }
+    requires few { n ≤ max_entries }
+    requires written { size_of (rows c.old) n ≤ length work.now }
+    ensures { Committed c.old work.now n (answer result) c.new }
 {
     let size = matrix::row_count(&c[..]) as usize + n + n + FIXED_WORDS;
     if c.len() < size {
-        return Answer {
-            code: INSUFFICIENT_SPACE,
-            entries: 0,
-        };
+        return Err(Refusal::InsufficientSpace);
     }
     let revision = matrix::next_revision(matrix::revision(&c[..]));
     words::copy_into(c, 0, &work[..size]);
     matrix::set_revision(c, revision);
-    Answer {
-        code: 0,
-        entries: n as u32,
-    }
+    Ok(n as u32)
 }

@@ -1,6 +1,6 @@
 -- What reading one cell of a matrix answers: 3 before 7.
 use Rattle.std.specs.Prelude.{ℕ, List, cond, ltb}
-use Rattle.answers.specs.declared.CellAnswer.{CellAnswer}
+use Rattle.answers.specs.Answers.{CellAnswer}
 use Rattle.answers.specs.Refusals.{invalid_first, index_out_of_bounds}
 use Rattle.answers.specs.Reads.{found_answer, refused_read}
 use Rattle.conditions.specs.Tests.{◌and◌}

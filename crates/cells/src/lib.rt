@@ -3,35 +3,30 @@
 #![tactic(auto)]
 
 ghost use Rattle.std.specs.Prelude.{◌≡◌, ◌≤◌, ◌<◌};
-ghost use Rattle.answers.specs.Reads.{found_answer, refused_read};
+ghost use Rattle.answers.specs.Results.{cell_answer};
 ghost use Rattle.grid.specs.Position.{entry_at};
 ghost use Rattle.matrix.specs.Layout.{rows, row_columns, grid_of};
 ghost use Rattle.matrix.specs.Facts.{Matrix};
 ghost use Rattle.rows.specs.Looks.{looks_for, most_looks};
 ghost use Rattle.cells.specs.Read.{read_answer};
 
-use answers::{CellAnswer, INDEX_OUT_OF_BOUNDS, INVALID_FIRST};
+use answers::Refusal;
 use grid::EntryAt;
 use matrix::layout::{COLS_AT, ROWS_AT, STARTS_AT};
 use rows::FoundEntry;
 
-// The cell at row i and column j, with the position of its entry. INVALID_FIRST where the words are no valid matrix,
-// INDEX_OUT_OF_BOUNDS where the row or the column is past it.
-pub fn read_cell(words: &[u32], i: u32, j: u32) -> CellAnswer
-    ensures { result ≡ read_answer words.now i j }
+// The cell at row i and column j, with the position of its entry. InvalidFirst where the words are no valid matrix,
+// IndexOutOfBounds where the row or the column is past it.
+pub fn read_cell(words: &[u32], i: u32, j: u32) -> Result<EntryAt, Refusal>
+    ensures { cell_answer result ≡ read_answer words.now i j }
 {
     if !matrix::is_valid(words) {
-        return refused(INVALID_FIRST);
+        return Err(Refusal::InvalidFirst);
     }
-    if words[ROWS_AT] <= i {
-        return refused(INDEX_OUT_OF_BOUNDS);
+    if words[ROWS_AT] <= i || words[COLS_AT] <= j {
+        return Err(Refusal::IndexOutOfBounds);
     }
-    if words[COLS_AT] <= j {
-        return refused(INDEX_OUT_OF_BOUNDS);
-    }
-    let read = entry_at(words, i as usize, j);
-    let entry = read.entry;
-    found(entry)
+    Ok(entry_at(words, i as usize, j).entry)
 }
 
 // The entry of row i and column j of a valid matrix, or where it would be put, and how many column numbers were looked
@@ -49,39 +44,4 @@ pub fn entry_at(words: &[u32], i: usize, j: u32) -> FoundEntry
         words[i + STARTS_AT],
         j,
     )
-}
-
-// What a cell answers.
-pub fn found(entry: EntryAt) -> CellAnswer
-    ensures { result ≡ found_answer entry }
-{
-    match entry {
-        EntryAt::Absent { position: p } => CellAnswer {
-            code: 0,
-            present: false,
-            value: 0,
-            position: p,
-        },
-        EntryAt::Present {
-            value: v,
-            position: p,
-        } => CellAnswer {
-            code: 0,
-            present: true,
-            value: v,
-            position: p,
-        },
-    }
-}
-
-// A refusal, with no value and position 0.
-pub fn refused(code: u32) -> CellAnswer
-    ensures { result ≡ refused_read code }
-{
-    CellAnswer {
-        code: code,
-        present: false,
-        value: 0,
-        position: 0,
-    }
 }

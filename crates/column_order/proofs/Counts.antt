@@ -1,10 +1,11 @@
 -- Laws of `count`: a turn of a loop that counts, counts of two ranges, and counts that are 0.
-use Prim.Native.Nat.{ℕ, zero, suc, ◌+◌, ◌<◌}
+use Prim.Native.Nat.{ℕ, zero, suc, ◌+◌, ◌≤◌, ◌<◌}
 use native.Mathlib.Omega.{arith}
 use native.Mathlib.Numerals.{add-one}
 use native.Mathlib.Decide.{dec_lt}
 use mathlib.Core.Path.{◌≡◌, refl}
 use mathlib.Core.Bool.{Bool, true, false}
+use mir.Val.{bool_byte}
 use Rattle.column_order.specs.Falls.{one, count}
 
 -- where a loop starts
@@ -17,12 +18,24 @@ pub count_next : (n : ℕ) (p : ℕ → Bool) → count (n + 1) p ≡ count n p 
 unfolding count
 count_next n p = rw (add-one n)
 
--- a turn at which the test holds, and one at which it does not
-pub count_met : (n c : ℕ) (p : ℕ → Bool) → c ≡ count n p → p n ≡ true → c + 1 ≡ count (n + 1) p
-count_met n c p e h = rw (count_next n p, h, e)
+-- a turn of a loop: what the test says there is added, as a number, to what was counted so far
+pub count_turn : {n c r : ℕ} (p : ℕ → Bool) (b : Bool) → c ≡ count n p → r ≡ bool_byte b → b ≡ p n
+    → c + r ≡ count (n + 1) p
+count_turn {n} p b e g h = rw (count_next n p, ← h, e, g, number b)
+  where
+    number : (b : Bool) → bool_byte b ≡ one b
+    number true = refl
+    number false = refl
 
-pub count_missed : (n c : ℕ) (p : ℕ → Bool) → c ≡ count n p → p n ≡ false → c ≡ count (n + 1) p
-count_missed n c p e h = let k = count_next n p in let z : one (p n) ≡ 0 = rw h in omega arith
+-- no more than were tested
+pub count_most : (n : ℕ) (p : ℕ → Bool) → count n p ≤ n
+unfolding count
+count_most zero p = omega arith
+count_most (suc n) p = omega (arith, count_most n p, most (p n))
+  where
+    most : (b : Bool) → one b ≤ 1
+    most true = omega arith
+    most false = omega arith
 
 -- the same tests have the same count
 pub count_same : (n : ℕ) (p q : ℕ → Bool) → ((k : ℕ) → k < n → p k ≡ q k) → count n p ≡ count n q

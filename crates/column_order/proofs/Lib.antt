@@ -1,3 +1,4 @@
 pub mod Counts
+pub mod Below
 pub mod Parts
 pub mod Rising

@@ -1,5 +1,23 @@
 -- Words that follow one another: whether all are below a bound, and where one is not above the one before it.
-use Rattle.std.specs.Prelude.{ℕ, zero, suc, ◌+◌, ◌-◌, ◌≡◌, refl, List, [], ◌∷◌, Bool, true, false, cond, length, ltb, leb}
+use Rattle.std.specs.Prelude.{
+  ℕ,
+  zero,
+  suc,
+  ◌+◌,
+  ◌-◌,
+  ◌≡◌,
+  refl,
+  List,
+  [],
+  ◌∷◌,
+  Bool,
+  true,
+  false,
+  cond,
+  length,
+  ltb,
+  leb,
+}
 use Rattle.conditions.specs.Tests.{◌and◌, all}
 use Rattle.words.specs.Words.{at}
 

@@ -1,4 +1,5 @@
 -- One row of the final C, from what is known of a call whose inputs are valid and agree.
+use Rattle.std.proofs.Common.{None}
 use Prim.Native.Nat.{ℕ, ◌<◌}
 use native.Mathlib.Omega.{arith}
 use mathlib.Core.Path.{◌≡◌, refl, sym, ap, ◌∙◌}
@@ -7,8 +8,7 @@ use mathlib.Core.Bool.{Bool, true, false, cond}
 use lib.ListN.{take}
 use borrow.Author.Tests.{eqb-true}
 use Rattle.conditions.proofs.Tests.{and_left, and_right}
-use Rattle.grid.specs.declared.Cell.{Cell}
-use Rattle.grid.specs.declared.Cell.TheVariants.{Absent}
+use Rattle.grid.specs.Cell.{Cell}
 use Rattle.grid.specs.Grid.{Grid, Same}
 use Rattle.rows.specs.Row.{Holds, lookup}
 use Rattle.rows.proofs.Holds.{holds_same}
@@ -76,8 +76,8 @@ unfolding write_back
 write_inside w m c t t' e = go (inside w m) e
   where
     go : (b : Bool) → (b ≡ true → t ≡ t')
-        → cond b (accumulated w.accumulator c t) (cond w.replace Absent c)
-        ≡ cond b (accumulated w.accumulator c t') (cond w.replace Absent c)
+        → cond b (accumulated w.accumulator c t) (cond w.replace None c)
+        ≡ cond b (accumulated w.accumulator c t') (cond w.replace None c)
     go true f = ap (accumulated w.accumulator c) (f refl)
     go false f = refl
 

@@ -3,3 +3,4 @@ pub mod WriteRow
 pub mod Plain
 pub mod FinalRow
 pub mod Progress
+pub mod Straight

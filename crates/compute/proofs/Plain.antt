@@ -5,17 +5,16 @@ use mathlib.Core.List.{List}
 use mathlib.Core.Bool.{Bool, true, false, cond, not, false≢true}
 use lib.ListN.{take}
 use native.Mathlib.Omega.{arith}
+use Rattle.std.specs.Prelude.{Result, Ok, Err, None, Some}
+use Rattle.answers.specs.declared.Refusal.{Refusal}
 use Rattle.conditions.proofs.Tests.{and_left, and_right}
-use Rattle.grid.specs.declared.Cell.{Cell}
+use Rattle.grid.specs.Cell.{Cell}
 use Rattle.grid.specs.Grid.{Grid, Same}
 use Rattle.grid.proofs.Same.{same_count, same_size}
 use Rattle.encoding.proofs.Canonical.{encode_ext}
-use Rattle.operations.specs.declared.Accumulator.{Accumulator}
-use Rattle.operations.specs.declared.Accumulator.TheVariants.{Absent as NoAccumulator, Present as By}
+use Rattle.operations.specs.Accumulator.{Accumulator}
 use Rattle.operations.specs.declared.WriteBack.{WriteBack}
 use Rattle.operations.specs.WriteBacks.{write_back, accumulated}
-use Rattle.compute.specs.declared.Outcome.{Outcome}
-use Rattle.compute.specs.declared.Outcome.TheVariants.{Done, Full}
 use Rattle.compute.specs.Computing.{no_accumulator, plain, straight, Computed}
 
 unset : (b : Bool) → not b ≡ true → b ≡ false
@@ -43,11 +42,11 @@ write_plain w m c t p =
     (go w.accumulator (and_right (not w.complement) _ k))
   where
     go : (x : Accumulator) → no_accumulator x ≡ true → accumulated x c t ≡ t
-    go NoAccumulator e = refl
-    go (By op) e = absurd (false≢true e)
+    go None e = refl
+    go (Some op) e = absurd (false≢true e)
 
 -- what is computed of one grid is computed of another with the same cells
-pub computed_same : (r : Outcome) (g h : Grid) (w : List ℕ) → Same g h → Computed r g w → Computed r h w
-computed_same (Done n) g h w s (e, few, words) =
+pub computed_same : (r : Result ℕ Refusal) (g h : Grid) (w : List ℕ) → Same g h → Computed r g w → Computed r h w
+computed_same (Ok n) g h w s (e, few, words) =
     (e ∙ same_count g h s, few, ap (λ (k : ℕ). take k w) (sym (same_size g h s)) ∙ words ∙ encode_ext 0 g h s)
-computed_same Full g h w s f = omega (arith, same_count g h s)
+computed_same (Err r) g h w s (e, f) = (e, omega (arith, same_count g h s))

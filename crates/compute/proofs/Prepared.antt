@@ -45,7 +45,8 @@ use Rattle.requests.proofs.Lists.{lists_within}
 use Rattle.extract_rows.specs.Indices.{Indices, Inverses}
 use Rattle.result_rows.proofs.Inputs.{list_indices}
 use Rattle.sources.specs.Sources.{second_flag}
-use Rattle.compute.specs.declared.Outcome.{Outcome}
+use Rattle.std.specs.Prelude.{Result}
+use Rattle.answers.specs.declared.Refusal.{Refusal}
 use Rattle.compute.specs.Computing.{Prepared, Computed}
 
 -- an operation with lists has no second input
@@ -126,6 +127,6 @@ module _ {call : Call} {a b m c is js : List ℕ} (r : Ready call a b m c is js)
         (second_unread (oriented (transpose_first call) (grid_of a)) (oriented (transpose_second call) (grid_of inv))
         (oriented (transpose_second call) (grid_of b)) (grid_of c) is js call.operation alone)
 
-    pub computed_listed : (o : Outcome) (w : List ℕ) → Computed o (lent_final call a inv m c is js) w
+    pub computed_listed : (o : Result ℕ Refusal) (w : List ℕ) → Computed o (lent_final call a inv m c is js) w
         → Computed o (lent_final call a b m c is js) w
     computed_listed o w k = subst (λ (g : Grid). Computed o g w) final_listed k

@@ -8,7 +8,9 @@ use lib.ListN.{length, take, drop, replicate, length-append, length-drop, length
 use mir.Syntax.{w64}
 use mir.Val.{Fits}
 use lib.Seq.{length-take-le, take_at, drop_at, take-append-le}
+use Rattle.std.specs.Prelude.{Ok, Err}
 use Rattle.limits.specs.Limits.{max_cols, max_entries}
+use Rattle.answers.specs.declared.Refusal.TheVariants.{TooManyEntries}
 use Rattle.grid.specs.Grid.{Grid}
 use Rattle.grid.specs.Entries.{column, value, gather, flatten, entry_count}
 use Rattle.grid.proofs.Gather.{gather_length, flatten_next, flatten_grows}
@@ -24,7 +26,6 @@ use Rattle.requests.specs.Refusal.{lent_final}
 use Rattle.results.specs.Staging.{RowBounds, ResultBounds, staged_row, finished, Staged}
 use Rattle.results.proofs.Staged.{staged_none, staged_more}
 use Rattle.results.proofs.Finished.{finished_written}
-use Rattle.compute.specs.declared.Outcome.TheVariants.{Done}
 use Rattle.sources.specs.Sources.{second_flag, Sources}
 use Rattle.compute.specs.Computing.{Prepared, RowBuffers, Progress, Advanced, Computed}
 use Rattle.sources.proofs.Sources.{sources_kept}
@@ -42,10 +43,6 @@ buffers_kept tc' tv' oc' ov' b p q r s = record {
 -- a row of the result is a row of old C
 pub row_below : {i total r : ℕ} → total ≡ r → i < total → i < r
 row_below e l = omega arith
-
--- the counter comes nearer to its end
-pub counter_falls : {i total : ℕ} → i < total → total - (i + 1) < total - i
-counter_falls l = omega arith
 
 -- the workspace with its first region written
 pub result_long : (w region : List ℕ) → length region ≡ length (take max_matrix_words w)
@@ -88,9 +85,6 @@ module _ (call : Call) (a b m c is js : List ℕ) where
 
     pub region_fits : max_matrix_words ≤ length w
     region_fits = omega (arith, p.space)
-
-    pub counter_fits : i < rows → Fits w64 (i + 1)
-    counter_fits l = record { fits = omega (arith, p.rows_are, p.ready.inputs.output.header.row_range.most) }
 
     -- row i, left in the buffers
     module _ (l : i < rows) {k : ℕ} {oc' ov' : List ℕ} (h : Holds (layout.cols c) (g.cell i) k oc' ov') where
@@ -170,18 +164,6 @@ module _ (call : Call) (a b m c is js : List ℕ) where
             buffers = u;
           }
 
-      -- what one more row leads to
-      pub advanced_full : max_entries < n + k → (w' tc' tv' oc'' ov'' : List ℕ)
-          → Advanced call a b m c is js first second w' tc' tv' oc'' ov'' rows (n + k) i
-      advanced_full f w' tc' tv' oc'' ov'' = record { more = λ o. absurd (omega arith); full = progress_full }
-
-      pub advanced_more : n + k ≤ max_entries → (tc' tv' region : List ℕ) → RowBuffers tc' tv' oc' ov'
-          → region ≡ staged_row rows i n (take k oc') (take k ov') (take max_matrix_words w)
-          → length region ≡ length (take max_matrix_words w)
-          → Advanced call a b m c is js first second (region ++ drop max_matrix_words w) tc' tv' oc' ov' rows (n + k) i
-      advanced_more f tc' tv' region u e z =
-          record { more = λ o. progress_more f tc' tv' region u e z; full = λ o. absurd (omega arith) }
-
     -- all rows are staged
     module _ (l : rows ≤ i) where
       all_rows : i ≡ g.rows
@@ -196,7 +178,7 @@ module _ (call : Call) (a b m c is js : List ℕ) where
       }
 
       pub progress_done : (region : List ℕ) → region ≡ finished rows (layout.cols c) n (take max_matrix_words w)
-          → length region ≡ length (take max_matrix_words w) → Computed (Done n) g (region ++ drop max_matrix_words w)
+          → length region ≡ length (take max_matrix_words w) → Computed (Ok n) g (region ++ drop max_matrix_words w)
       progress_done region e z =
           let q : rows ≡ g.rows = p.rows_are ∙ sym final_rows in
           let s : Staged g g.rows n (take max_matrix_words w) = rw all_rows at p.staged in

@@ -4,7 +4,7 @@ use mathlib.Core.Path.{◌≡◌, refl, sym, ap, ◌∙◌}
 use mathlib.Core.List.{List, []}
 use mathlib.Core.Bool.{Bool, true, false, cond}
 use lib.ListN.{length}
-use Rattle.grid.specs.declared.Cell.{Cell}
+use Rattle.grid.specs.Cell.{Cell}
 use Rattle.rows.specs.Row.{Row, Holds, lookup}
 use Rattle.rows.proofs.Holds.{holds_same, holds_absent}
 use Rattle.rows.proofs.Walk.{absent_all}

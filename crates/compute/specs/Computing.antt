@@ -1,15 +1,16 @@
 -- What the working part needs and leaves.
-use Rattle.std.specs.Prelude.{ℕ, ◌+◌, ◌*◌, ◌≤◌, ◌<◌, ◌≡◌, List, Bool, true, false, not, length, take}
+use Rattle.std.specs.Prelude.{ℕ, ◌+◌, ◌*◌, ◌≤◌, ◌<◌, ◌≡◌, List, Bool, true, false, not, length, take, Result, Ok, Err, None, Some}
 use Rattle.conditions.specs.Tests.{◌and◌}
 use Rattle.limits.specs.Limits.{max_cols, max_entries}
+use Rattle.answers.specs.declared.Refusal.{Refusal}
+use Rattle.answers.specs.declared.Refusal.TheVariants.{TooManyEntries}
 use Rattle.grid.specs.Grid.{Grid}
 use Rattle.grid.specs.Entries.{entry_count}
 use Rattle.rows.specs.Row.{Row}
 use Rattle.matrix.specs.Layout.{rows, cols, grid_of, max_matrix_words, workspace_words}
 use Rattle.matrix.specs.Facts.{Matrix}
 use Rattle.encoding.specs.Encode.{encode, grid_size}
-use Rattle.operations.specs.declared.Accumulator.{Accumulator}
-use Rattle.operations.specs.declared.Accumulator.TheVariants.{Absent as NoAccumulator, Present as By}
+use Rattle.operations.specs.Accumulator.{Accumulator}
 use Rattle.operations.specs.declared.Call.{Call}
 use Rattle.operations.specs.declared.WriteBack.{WriteBack}
 use Rattle.operations.specs.Calls.{transpose_first, has_lists, indexes_valid, shapes_agree}
@@ -18,8 +19,7 @@ use Rattle.requests.specs.Inputs.{Valid}
 use Rattle.extract_rows.specs.Indices.{Inverses}
 use Rattle.sources.specs.Sources.{second_flag, Sources}
 use Rattle.results.specs.Staging.{Staged}
-use Rattle.compute.specs.declared.Outcome.{Outcome}
-use Rattle.compute.specs.declared.Outcome.TheVariants.{Done, Full}
+use Rattle.plain_results.specs.Rows.{Written}
 
 -- the inputs are valid and agree, and where there are lists the words b are their inverses
 pub record Prepared (call : Call) (a b m c is js : List ℕ) : Type 0 where
@@ -47,8 +47,8 @@ pub record OldRow (w : WriteBack) (m c tc tv : List ℕ) (i : ℕ) : Type 0 wher
 
 -- no mask, no complement, no accumulator: C takes T in every place
 abbrev pub no_accumulator : Accumulator → Bool
-no_accumulator NoAccumulator = true
-no_accumulator (By op) = false
+no_accumulator None = true
+no_accumulator (Some op) = false
 
 abbrev pub plain : WriteBack → Bool
 plain w = not w.has_mask and not w.complement and no_accumulator w.accumulator
@@ -77,13 +77,14 @@ pub record Progress (call : Call) (a b m c is js : List ℕ) (first second : Boo
   pub staged : Staged (lent_final call a b m c is js) i n (take max_matrix_words w)
   pub buffers : RowBuffers tc tv oc ov
 
--- after one more row the number of entries is n: the row is staged too, or there are too many
-pub record Advanced (call : Call) (a b m c is js : List ℕ) (first second : Bool) (w tc tv oc ov : List ℕ)
-    (total n i : ℕ) : Type 0 where
-  pub more : n ≤ max_entries → Progress call a b m c is js first second w tc tv oc ov total n (i + 1)
-  pub full : max_entries < n → max_entries < entry_count (lent_final call a b m c is js)
+-- after row i the number of entries is n, and the row is staged too; or there are too many
+abbrev pub Advanced : Call → List ℕ → List ℕ → List ℕ → List ℕ → List ℕ → List ℕ → Bool → Bool → List ℕ → List ℕ → List ℕ
+    → List ℕ → List ℕ → ℕ → Result ℕ Refusal → ℕ → Type 0
+Advanced call a b m c is js first second w tc tv oc ov total (Ok n) i =
+    Progress call a b m c is js first second w tc tv oc ov total n (i + 1)
+Advanced call a b m c is js first second w tc tv oc ov total (Err r) i =
+    (r ≡ TooManyEntries) × (max_entries < entry_count (lent_final call a b m c is js))
 
--- the writing of g at the front of the workspace, or too many entries
-abbrev pub Computed : Outcome → Grid → List ℕ → Type 0
-Computed (Done n) g w = (n ≡ entry_count g) × (n ≤ max_entries) × (take (grid_size g) w ≡ encode g)
-Computed Full g w = max_entries < entry_count g
+-- the writing of g at the front of the workspace, with n entries, or the refusal of too many
+abbrev pub Computed : Result ℕ Refusal → Grid → List ℕ → Type 0
+Computed result g w = Written g result w

@@ -19,23 +19,17 @@ ghost use Rattle.plain_results.specs.Rows.{Inputs};
 ghost use Rattle.compute.specs.Computing.{Prepared, MaskRow, MaskThere, OldRow, plain, straight, RowBuffers};
 ghost use Rattle.compute.specs.Computing.{Progress, Advanced, Computed};
 
+use answers::Refusal;
 use extract_rows::INVERSE_PLACES;
 use limits::{MAX_ENTRIES, ROW_PLACES};
 use matrix::layout::MAX_MATRIX_WORDS;
 use merge::Combine;
-use operations::{Accumulator, Call, Operation, WriteBack};
+use operations::{Call, Operation, WriteBack};
 use products::Engine;
 use sources::{FIRST_AT, REGIONS_END, SECOND_AT};
 
-// Done with the number of entries, or more entries than a matrix may have.
-#[derive(Clone, Copy)]
-pub enum Outcome {
-    Done(usize),
-    Full,
-}
-
-// The final C at the front of the workspace. An operation with lists has their inverses as its second input.
-// The engine is the product's.
+// The final C at the front of the workspace, and the number of its entries, or the refusal of too many. An operation with
+// lists has their inverses as its second input. The engine is the product's.
 pub fn compute<'a>(
     call: Call,
     a: &'a [u32],
@@ -46,15 +40,13 @@ pub fn compute<'a>(
     js: &[u32],
     work: &mut [u32],
     engine: Engine,
-) -> Outcome
-    requires fact_1 { Ready call a.now b.now mask.now c.now is.now js.now }
-    requires fact_2 { workspace_words ≤ length work.old }
+) -> Result<usize, Refusal>
+    requires ready { Ready call a.now b.now mask.now c.now is.now js.now }
+    requires space { workspace_words ≤ length work.old }
     ensures { Computed result (lent_final call a.now b.now mask.now c.now
         is.now js.now) work.new }
 {
-    let operation = call.operation;
-    let inputs = operations::inputs_of(operation);
-    if inputs.lists {
+    if operations::inputs_of(call.operation).lists {
         let mut inverses = [0u32; INVERSE_PLACES];
         extract_rows::invert_lists(is, js, &mut inverses);
         return compute_prepared(call, a, &inverses, mask, c, is, js, work, engine);
@@ -73,9 +65,9 @@ fn compute_prepared<'a>(
     js: &[u32],
     work: &mut [u32],
     engine: Engine,
-) -> Outcome
-    requires fact_1 { Prepared call a.now b.now mask.now c.now is.now js.now }
-    requires fact_2 { workspace_words ≤ length work.old }
+) -> Result<usize, Refusal>
+    requires prepared { Prepared call a.now b.now mask.now c.now is.now js.now }
+    requires space { workspace_words ≤ length work.old }
     ensures { Computed result (lent_final call a.now b.now mask.now c.now
         is.now js.now) work.new }
 {
@@ -90,36 +82,25 @@ fn compute_prepared<'a>(
 fn write_back_of(call: Call) -> WriteBack
     ensures { result ≡ write_back_of call }
 {
-    let flags = call.flags;
-    let accumulator = call.accumulator;
     WriteBack {
-        replace: requests::flag_set(1, flags),
-        complement: requests::flag_set(2, flags),
-        structural: requests::flag_set(4, flags),
+        replace: requests::flag_set(1, call.flags),
+        complement: requests::flag_set(2, call.flags),
+        structural: requests::flag_set(4, call.flags),
         has_mask: call.has_mask,
-        accumulator: accumulator,
+        accumulator: call.accumulator,
     }
 }
 
 // The columns and the values of the mask's row i, or none where there is no mask.
-fn mask_columns(masked: bool, mask: &[u32], i: usize) -> &[u32]
+fn mask_row<'a>(masked: bool, mask: &'a [u32], i: usize) -> (&'a [u32], &'a [u32])
     requires { masked ≡ true → MaskRow mask.now i }
-    ensures { result.now ≡ cond masked (row_columns mask.now i) [] }
+    ensures columns { result.0.now ≡ cond masked (row_columns mask.now i) [] }
+    ensures values { result.1.now ≡ cond masked (row_values mask.now i) [] }
 {
     if !masked {
-        return &mask[0..0];
+        return (&mask[0..0], &mask[0..0]);
     }
-    matrix::row_columns(mask, i)
-}
-
-fn mask_values(masked: bool, mask: &[u32], i: usize) -> &[u32]
-    requires { masked ≡ true → MaskRow mask.now i }
-    ensures { result.now ≡ cond masked (row_values mask.now i) [] }
-{
-    if !masked {
-        return &mask[0..0];
-    }
-    matrix::row_values(mask, i)
+    (matrix::row_columns(mask, i), matrix::row_values(mask, i))
 }
 
 // Row i of the final C, from old C, the mask and the row of T. Where both rows have no entries, it has none.
@@ -143,12 +124,12 @@ fn write_row(
     if both_empty(tc, c, i) {
         return 0;
     }
-    let has_mask = w.has_mask;
+    let (mc, mv) = mask_row(w.has_mask, mask, i);
     merge::merge_row(
         Combine::Write(w),
         matrix::col_count(c),
-        mask_columns(has_mask, mask, i),
-        mask_values(has_mask, mask, i),
+        mc,
+        mv,
         matrix::row_columns(c, i),
         matrix::row_values(c, i),
         tc,
@@ -160,15 +141,11 @@ fn write_row(
 
 // Whether neither the row of T nor row i of old C has entries.
 fn both_empty(tc: &[u32], c: &[u32], i: usize) -> bool
-    requires fact_1 { Header c.now }
-    requires fact_2 { RowSpan c.now i }
+    requires header { Header c.now }
+    requires span { RowSpan c.now i }
     ensures { result ≡ true → (length tc.now ≡ 0) × (length (row_columns c.now i) ≡ 0) }
 {
-    if tc.len() != 0 {
-        return false;
-    }
-    let columns = matrix::row_columns(c, i);
-    columns.len() == 0
+    tc.is_empty() && matrix::row_columns(c, i).is_empty()
 }
 
 // Row i of T, as far as the mask lets it through.
@@ -197,22 +174,8 @@ fn row_inside(
         (grid_of c.now) is.now js.now).cell i)
         result tc.new tv.new }
 {
-    let has_mask = w.has_mask;
-    masked_rows::result_row_inside(
-        engine,
-        w,
-        mask_columns(has_mask, mask, i),
-        mask_values(has_mask, mask, i),
-        operation,
-        a,
-        b,
-        c,
-        is,
-        js,
-        i,
-        tc,
-        tv,
-    )
+    let (mc, mv) = mask_row(w.has_mask, mask, i);
+    masked_rows::result_row_inside(engine, w, mc, mv, operation, a, b, c, is, js, i, tc, tv)
 }
 
 // Row i of the final C: the row of T, written back.
@@ -234,12 +197,12 @@ fn final_row<'a>(
     ov: &mut [u32],
     engine: Engine,
 ) -> usize
-    requires prepared_1 { Prepared call a.now b.now mask.now c.now is.now js.now }
-    requires prepared_2 { Sources call a.now b.now work.now }
-    requires first_value_1 { (first ≡ transpose_first call) × (second ≡ second_flag call) }
-    requires first_value_2 { workspace_words ≤ length work.now }
-    requires i_bound_1 { i < rows c.now }
-    requires i_bound_2 { RowBuffers tc.old tv.old oc.old ov.old }
+    requires prepared { Prepared call a.now b.now mask.now c.now is.now js.now }
+    requires sources { Sources call a.now b.now work.now }
+    requires flags { (first ≡ transpose_first call) × (second ≡ second_flag call) }
+    requires space { workspace_words ≤ length work.now }
+    requires row { i < rows c.now }
+    requires buffers { RowBuffers tc.old tv.old oc.old ov.old }
     ensures { Holds (cols c.now)
         ((lent_final call a.now b.now mask.now c.now
         is.now js.now).cell i)
@@ -247,13 +210,12 @@ fn final_row<'a>(
 {
     let x = sources::choose(first, &work[FIRST_AT..SECOND_AT], a);
     let y = sources::choose(second, &work[SECOND_AT..REGIONS_END], b);
-    let operation = call.operation;
     let w = write_back_of(call);
-    let t = row_inside(engine, w, mask, operation, x, y, c, is, js, i, tc, tv);
+    let t = row_inside(engine, w, mask, call.operation, x, y, c, is, js, i, tc, tv);
     write_row(w, mask, c, &tc[..t], &tv[..t], i, oc, ov)
 }
 
-// One more row: it is staged, unless there are then too many entries. The number of entries so far.
+// One more row is staged: the number of entries so far, or the refusal of too many.
 fn advance<'a>(
     call: Call,
     first: bool,
@@ -273,10 +235,10 @@ fn advance<'a>(
     oc: &mut [u32],
     ov: &mut [u32],
     engine: Engine,
-) -> usize
-    requires fact_1 { Progress call a.now b.now mask.now c.now is.now js.now first second work.old tc.old
+) -> Result<usize, Refusal>
+    requires progress { Progress call a.now b.now mask.now c.now is.now js.now first second work.old tc.old
         tv.old oc.old ov.old total n i }
-    requires fact_2 { i < total }
+    requires row { i < total }
     ensures { Advanced call a.now b.now mask.now c.now
         is.now js.now first second work.new tc.new tv.new
         oc.new ov.new total result i }
@@ -301,7 +263,7 @@ fn advance<'a>(
     );
     let next = n + m;
     if (MAX_ENTRIES as usize) < next {
-        return next;
+        return Err(Refusal::TooManyEntries);
     }
     results::stage_row(
         &mut work[..MAX_MATRIX_WORDS],
@@ -311,7 +273,7 @@ fn advance<'a>(
         &oc[..m],
         &ov[..m],
     );
-    next
+    Ok(next)
 }
 
 // All rows, one after the other.
@@ -331,26 +293,21 @@ fn all_rows<'a>(
     oc: &mut [u32],
     ov: &mut [u32],
     engine: Engine,
-) -> Outcome
-    requires prepared_1 { Prepared call a.now b.now mask.now c.now is.now js.now }
-    requires prepared_2 { Sources call a.now b.now work.old }
-    requires first_value_1 { (first ≡ transpose_first call) × (second ≡ second_flag call) }
-    requires first_value_2 { workspace_words ≤ length work.old }
-    requires row_buffers { RowBuffers tc.old tv.old oc.old ov.old }
+) -> Result<usize, Refusal>
+    requires prepared { Prepared call a.now b.now mask.now c.now is.now js.now }
+    requires sources { Sources call a.now b.now work.old }
+    requires flags { (first ≡ transpose_first call) × (second ≡ second_flag call) }
+    requires space { workspace_words ≤ length work.old }
+    requires buffers { RowBuffers tc.old tv.old oc.old ov.old }
     ensures { Computed result (lent_final call a.now b.now mask.now c.now
         is.now js.now) work.new }
 {
     let total = matrix::row_count(c) as usize;
     let mut n: usize = 0;
-    let mut i: usize = 0;
-    while i < total {
+    for i in 0..total {
         n = advance(
             call, first, second, a, b, mask, c, is, js, work, total, i, n, tc, tv, oc, ov, engine,
-        );
-        if (MAX_ENTRIES as usize) < n {
-            return Outcome::Full;
-        }
-        i += 1;
+        )?;
     }
     results::finish(
         &mut work[..MAX_MATRIX_WORDS],
@@ -358,7 +315,7 @@ fn all_rows<'a>(
         matrix::col_count(c) as usize,
         n,
     );
-    Outcome::Done(n)
+    Ok(n)
 }
 
 // All rows: written straight to their place where C takes T and no input stands in the workspace, else merged.
@@ -374,78 +331,38 @@ fn compute_rows<'a>(
     js: &[u32],
     work: &mut [u32],
     engine: Engine,
-) -> Outcome
-    requires prepared_1 { Prepared call a.now b.now mask.now c.now is.now js.now }
-    requires prepared_2 { Sources call a.now b.now work.old }
-    requires first_value_1 { (first ≡ transpose_first call) × (second ≡ second_flag call) }
-    requires first_value_2 { workspace_words ≤ length work.old }
+) -> Result<usize, Refusal>
+    requires prepared { Prepared call a.now b.now mask.now c.now is.now js.now }
+    requires sources { Sources call a.now b.now work.old }
+    requires flags { (first ≡ transpose_first call) × (second ≡ second_flag call) }
+    requires space { workspace_words ≤ length work.old }
     ensures { Computed result (lent_final call a.now b.now mask.now c.now
         is.now js.now) work.new }
 {
-    if call.has_mask {
-        return merged_rows(call, first, second, a, b, mask, c, is, js, work, engine);
-    }
     if is_straight(write_back_of(call), first, second) {
-        let operation = call.operation;
-        return plain_rows(operation, a, b, c, is, js, work, engine);
+        return plain_results::write_result(call.operation, a, b, c, is, js, work, engine);
     }
     merged_rows(call, first, second, a, b, mask, c, is, js, work, engine)
 }
 
 // Whether C takes T in every place, and no input is transposed.
+#[tactic(auto, using(requests::proofs::Tests::and_is))]
 fn is_straight(w: WriteBack, first: bool, second: bool) -> bool
     ensures { result ≡ straight w first second }
 {
-    if first {
-        return false;
-    }
-    if second {
-        return false;
-    }
-    is_plain(w)
+    !first && !second && is_plain(w)
 }
 
 // Whether C takes T in every place: no mask, no complement, no accumulator.
+#[tactic(auto, using(requests::proofs::Tests::and_is))]
 fn is_plain(w: WriteBack) -> bool
     ensures { result ≡ plain w }
 {
-    if w.has_mask {
-        return false;
-    }
-    if w.complement {
-        return false;
-    }
-    let accumulator = w.accumulator;
-    match accumulator {
-        Accumulator::Absent => true,
-        Accumulator::Present(_) => false,
-    }
+    !w.has_mask && !w.complement && matches!(w.accumulator, None)
 }
 
-// T itself.
-fn plain_rows(
-    operation: Operation,
-    a: &[u32],
-    b: &[u32],
-    c: &[u32],
-    is: &[u32],
-    js: &[u32],
-    work: &mut [u32],
-    engine: Engine,
-) -> Outcome
-    requires fact_1 { Inputs operation a.now b.now c.now is.now js.now }
-    requires fact_2 { workspace_words ≤ length work.old }
-    ensures { Computed result (result_grid operation (grid_of a.now) (grid_of b.now)
-        (grid_of c.now) is.now js.now) work.new }
-{
-    let n = plain_results::write_result(operation, a, b, c, is, js, work, engine);
-    if (MAX_ENTRIES as usize) < n {
-        return Outcome::Full;
-    }
-    Outcome::Done(n)
-}
-
-// All rows written back, with the buffers of a row on the stack.
+// All rows written back, with the buffers of a row on the stack: not inlined, so that they stand there only meanwhile.
+#[inline(never)]
 fn merged_rows<'a>(
     call: Call,
     first: bool,
@@ -458,11 +375,11 @@ fn merged_rows<'a>(
     js: &[u32],
     work: &mut [u32],
     engine: Engine,
-) -> Outcome
-    requires prepared_1 { Prepared call a.now b.now mask.now c.now is.now js.now }
-    requires prepared_2 { Sources call a.now b.now work.old }
-    requires first_value_1 { (first ≡ transpose_first call) × (second ≡ second_flag call) }
-    requires first_value_2 { workspace_words ≤ length work.old }
+) -> Result<usize, Refusal>
+    requires prepared { Prepared call a.now b.now mask.now c.now is.now js.now }
+    requires sources { Sources call a.now b.now work.old }
+    requires flags { (first ≡ transpose_first call) × (second ≡ second_flag call) }
+    requires space { workspace_words ≤ length work.old }
     ensures { Computed result (lent_final call a.now b.now mask.now c.now
         is.now js.now) work.new }
 {

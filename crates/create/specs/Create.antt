@@ -2,7 +2,7 @@
 -- held"; 8 before 11).
 use Rattle.std.specs.Prelude.{ℕ, ◌≡◌, List, cond, length, leb}
 use Rattle.limits.specs.Limits.{max_rows, max_cols}
-use Rattle.answers.specs.declared.Answer.{Answer}
+use Rattle.answers.specs.Answers.{Answer}
 use Rattle.answers.specs.Refusals.{accepted, refused, unless_refused, invalid_shape, insufficient_space}
 use Rattle.conditions.specs.Tests.{◌and◌}
 use Rattle.grid.specs.Grid.{empty_grid}

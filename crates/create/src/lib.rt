@@ -8,40 +8,26 @@ ghost use Rattle.limits.specs.Limits.{max_rows};
 ghost use Rattle.grid.specs.Grid.{empty_grid};
 ghost use Rattle.encoding.specs.Encode.{encode};
 ghost use Rattle.matrix.specs.Layout.{size_of};
+ghost use Rattle.answers.specs.Results.{answer};
 ghost use Rattle.create.specs.Create.{Created};
 
-use answers::{Answer, INSUFFICIENT_SPACE, INVALID_SHAPE};
+use answers::Refusal;
 use limits::{MAX_COLS, MAX_ROWS};
 use matrix::layout::FIXED_WORDS;
 
-// The empty matrix of the given shape at the front of the buffer: 0 and 0. INVALID_SHAPE where a number of rows or
-// columns is out of range, INSUFFICIENT_SPACE where the buffer is too short.
-pub fn new_empty(buffer: &mut [u32], rows: u32, cols: u32) -> Answer
-    ensures { Created buffer.old rows cols result buffer.new }
+// The empty matrix of the given shape at the front of the buffer: its number of entries, 0. InvalidShape where a number
+// of rows or columns is out of range, InsufficientSpace where the buffer is too short.
+pub fn new_empty(buffer: &mut [u32], rows: u32, cols: u32) -> Result<u32, Refusal>
+    ensures { Created buffer.old rows cols (answer result) buffer.new }
 {
-    if !matrix::in_range(rows, MAX_ROWS) {
-        return Answer {
-            code: INVALID_SHAPE,
-            entries: 0,
-        };
-    }
-    if !matrix::in_range(cols, MAX_COLS) {
-        return Answer {
-            code: INVALID_SHAPE,
-            entries: 0,
-        };
+    if !matrix::in_range(rows, MAX_ROWS) || !matrix::in_range(cols, MAX_COLS) {
+        return Err(Refusal::InvalidShape);
     }
     if buffer.len() < rows as usize + FIXED_WORDS {
-        return Answer {
-            code: INSUFFICIENT_SPACE,
-            entries: 0,
-        };
+        return Err(Refusal::InsufficientSpace);
     }
     write_empty(buffer, rows, cols);
-    Answer {
-        code: 0,
-        entries: 0,
-    }
+    Ok(0)
 }
 
 // The words of the empty matrix; what lies behind them stays.

@@ -4,7 +4,7 @@ use native.Mathlib.Omega.{arith}
 use mathlib.Core.Path.{◌≡◌, ap}
 use mathlib.Core.List.{List}
 use lib.ListN.{length}
-use Rattle.grid.specs.declared.Cell.{Cell}
+use Rattle.grid.specs.Cell.{Cell}
 use Rattle.grid.specs.Entries.{column, gather, entry_count}
 use Rattle.matrix.specs.Layout.{rows, cols, start, entries, row_columns, cell_of, grid_of}
 use Rattle.matrix.specs.Facts.{Matrix}

@@ -1,13 +1,17 @@
 -- The cases of folding and of reading through the pair, as the code reaches them.
 use Prim.Native.Nat.{ℕ, ◌≤◌, ◌<◌}
 use mathlib.Core.Path.{◌≡◌, refl, ap, ◌∙◌}
-use mathlib.Core.List.{List, ◌++◌}
+use mathlib.Core.List.{List}
 use mathlib.Core.Bool.{Bool, true, false, cond}
 use lib.ListN.{length}
 use borrow.Author.Tests.{ne_eqb, lt-ltb, le-ltb}
+use Rattle.std.specs.Prelude.{Err}
 use Rattle.limits.specs.Limits.{max_entries}
+use Rattle.answers.specs.declared.Refusal.{Refusal}
+use Rattle.answers.specs.Results.{number, answer, cell_answer}
+use Rattle.answers.proofs.Numbers.{number_not_0}
 use Rattle.answers.specs.Refusals.{accepted, refused, too_many_entries, insufficient_space}
-use Rattle.answers.specs.Reads.{found_answer, refused_read}
+use Rattle.answers.specs.Reads.{found_answer}
 use Rattle.grid.specs.Grid.{Grid}
 use Rattle.grid.specs.Entries.{entry_count}
 use Rattle.grid.specs.Position.{entry_at}
@@ -29,12 +33,13 @@ module _ (base day marks out : List ℕ) where
   numbered = (refl, (refl, (refl, (refl, (refl, tt)))))
 
   -- refused before anything is worked out
-  pub fold_refused : (code : ℕ) → code ≡ pair_refusal base day marks → (code ≡ 0 → ⊥)
-      → Folded base day marks out (refused code) out
+  pub fold_refused : (r : Refusal) → number r ≡ pair_refusal base day marks
+      → Folded base day marks out (answer (Err r)) out
   unfolding fold_refusal pair_refusal
-  fold_refused code e h =
-      let f = ne_eqb code 0 h in
-      let x = applying_first (pair_cases base day marks) (output_cases g (grid_size g) (length out)) code e h in
+  fold_refused r e =
+      let h = number_not_0 r in
+      let f = ne_eqb (number r) 0 h in
+      let x = applying_first (pair_cases base day marks) (output_cases g (grid_size g) (length out)) (number r) e h in
       record { answer_is = rw (← x, f); words_are = rw f }
 
   module _ (z : pair_refusal base day marks ≡ 0) where
@@ -57,10 +62,10 @@ module _ (base day marks out : List ℕ) where
       }
 
 module _ (base day marks : List ℕ) (i j : ℕ) where
-  pub read_refused : (code : ℕ) → code ≡ read_refusal base day marks i j → (code ≡ 0 → ⊥)
-      → refused_read code ≡ through_answer base day marks i j
+  pub read_refused : (r : Refusal) → number r ≡ read_refusal base day marks i j
+      → cell_answer (Err r) ≡ through_answer base day marks i j
   unfolding through_answer
-  read_refused code e h = rw (← e, ne_eqb code 0 h)
+  read_refused r e = rw (← e, ne_eqb (number r) 0 (number_not_0 r))
 
   -- the grid of the words that are shown
   shown_grid : (b : Bool) → grid_of (cond b day base) ≡ cond b (grid_of day) (grid_of base)

@@ -1,5 +1,5 @@
 -- What replacing the day's row requires and leaves, for a new row and for none.
-use Prim.Native.Nat.{ℕ, ◌+◌, ◌≤◌, ◌<◌}
+use Prim.Native.Nat.{ℕ, ◌+◌, ◌≤◌}
 use native.Mathlib.Omega.{arith}
 use mathlib.Core.Path.{◌≡◌, refl, sym, ap, ◌∙◌}
 use mathlib.Core.List.{List, []}
@@ -8,7 +8,7 @@ use Rattle.limits.specs.Limits.{max_entries}
 use Rattle.grid.specs.Entries.{column, gather, entry_count}
 use Rattle.grid.proofs.Counts.{gather_absent}
 use Rattle.rows.specs.Row.{lookup, Row}
-use Rattle.matrix.specs.Layout.{rows, cols, start, entries, row_columns, row_values, cell_of, grid_of}
+use Rattle.matrix.specs.Layout.{cols, start, entries, row_columns, row_values, cell_of, grid_of}
 use Rattle.matrix.proofs.Facts.{matrix_made, row_span}
 use Rattle.encoding.specs.Encode.{grid_size, updated_to}
 use Rattle.encoding.proofs.Canonical.{valid_row}
@@ -61,7 +61,8 @@ module _ {day marks : List ℕ} {i : ℕ} (b : Backable day marks i) where
 
 module _ {day marks new : List ℕ} {i : ℕ} (r : Rewritable day marks i new) where
   -- with the new row
-  pub count_with_lem : count_with (entries day) (start day i) (start day (i + 1)) (entries new) ≡ entry_count (day_with day i new)
+  pub count_with_lem : count_with (entries day) (start day i) (start day (i + 1)) (entries new)
+      ≡ entry_count (day_with day i new)
   count_with_lem =
       let g : length (gather column (cols day) (cell_of new 0)) ≡ entries new =
       ap (λ (n : ℕ). length (gather column n (cell_of new 0))) (sym r.new_cols)
@@ -69,14 +70,17 @@ module _ {day marks new : List ℕ} {i : ℕ} (r : Rewritable day marks i new) w
       ap (λ (k : ℕ). count_with (entries day) (start day i) (start day (i + 1)) k) (sym g)
       ∙ row_counted r.back.over.day_valid r.back.row (cell_of new 0)
 
+  pub counted_with : {n k : ℕ} → n ≡ count_with (entries day) (start day i) (start day (i + 1)) k → k ≡ entries new
+      → n ≡ entry_count (day_with day i new)
+  counted_with h e = h ∙ ap (λ (k : ℕ). count_with (entries day) (start day i) (start day (i + 1)) k) e ∙ count_with_lem
+
   module _ (cs vs : List ℕ) (e : cs ≡ row_columns new 0) (f : vs ≡ row_values new 0) where
     pub with_replaceable : entry_count (day_with day i new) ≤ max_entries → grid_size (day_with day i new) ≤ length day
         → Replaceable day i cs vs
     with_replaceable few room =
-        let n = count_with_lem in
         let k : length cs ≡ entries new = ap length e ∙ vector_row r.new_valid r.new_row in
-        let c : count_with (entries day) (start day i) (start day (i + 1)) (length cs) ≡ entry_count (day_with day i new) =
-        ap (λ (k : ℕ). count_with (entries day) (start day i) (start day (i + 1)) k) k ∙ n in
+        let c : count_with (entries day) (start day i) (start day (i + 1)) (length cs) ≡ entry_count (day_with day i new)
+        = counted_with refl k in
         let w = valid_row new (matrix_made new r.new_valid) 0 (omega (arith, r.new_row)) in
         record {
           matrix = r.back.over.day_valid;

@@ -1,19 +1,19 @@
 -- The cases of rewriting and of taking back, as the code reaches them.
 use Prim.Native.Nat.{ℕ, ◌≤◌, ◌<◌}
-use native.Mathlib.Omega.{arith}
 use mathlib.Core.Path.{◌≡◌, refl, ap, ◌∙◌}
-use mathlib.Core.List.{List, ◌++◌}
+use mathlib.Core.List.{List}
 use lib.ListN.{length}
 use borrow.Author.Tests.{ne_eqb, lt-ltb, le-ltb}
+use Rattle.std.specs.Prelude.{Err}
 use Rattle.limits.specs.Limits.{max_entries}
+use Rattle.answers.specs.declared.Refusal.{Refusal}
+use Rattle.answers.specs.Results.{number, answer}
+use Rattle.answers.proofs.Numbers.{number_not_0}
 use Rattle.answers.specs.Refusals.{accepted, refused, too_many_entries, insufficient_space}
-use Rattle.grid.specs.declared.EntryAt.{EntryAt}
-use Rattle.grid.specs.declared.EntryAt.TheVariants as entry
 use Rattle.grid.specs.Entries.{entry_count}
 use Rattle.encoding.specs.Encode.{grid_size, updated_to}
 use Rattle.refusals.specs.Cases.{first_applying}
 use Rattle.refusals.proofs.Cases.{applying_first, applying_rest, Numbered}
-use Rattle.day_marks.specs.Marks.{mark_words}
 use Rattle.day_requests.specs.Refusal.{rewrite_cases, rewrite_refusal, back_refusal}
 use Rattle.day_calls.specs.Calls.{
   day_with,
@@ -26,22 +26,18 @@ use Rattle.day_calls.specs.Calls.{
   TakenBack,
 }
 
--- a mark takes no more than two words
-pub mark_few : (e : EntryAt) → mark_words e ≤ 2
-mark_few (entry.Absent p) = omega arith
-mark_few (entry.Present v p) = omega arith
-
 module _ (day marks : List ℕ) (i : ℕ) (new : List ℕ) where
   numbered : Numbered (rewrite_cases day marks i new)
   numbered = (refl, (refl, (refl, (refl, (refl, (refl, tt))))))
 
   -- refused before anything is worked out
-  pub rewrite_refused : (code : ℕ) → code ≡ rewrite_refusal day marks i new → (code ≡ 0 → ⊥)
-      → Rewritten day marks i new (refused code) day marks
+  pub rewrite_refused : (r : Refusal) → number r ≡ rewrite_refusal day marks i new
+      → Rewritten day marks i new (answer (Err r)) day marks
   unfolding rewriting_refusal rewrite_refusal
-  rewrite_refused code e h =
-      let f = ne_eqb code 0 h in
-      let x = applying_first (rewrite_cases day marks i new) (written_cases day marks i new) code e h in
+  rewrite_refused r e =
+      let h = number_not_0 r in
+      let f = ne_eqb (number r) 0 h in
+      let x = applying_first (rewrite_cases day marks i new) (written_cases day marks i new) (number r) e h in
       record { answer_is = rw (← x, f); day_is = rw f; marks_are = rw f }
 
   module _ (z : rewrite_refusal day marks i new ≡ 0) where
@@ -85,10 +81,11 @@ module _ (day marks : List ℕ) (i : ℕ) (new : List ℕ) where
         }
 
 module _ (day marks : List ℕ) (i : ℕ) where
-  pub back_refused : (code : ℕ) → code ≡ back_refusal day marks i → (code ≡ 0 → ⊥)
-      → TakenBack day marks i (refused code) day marks
-  back_refused code e h =
-      let f = ne_eqb code 0 h in record { answer_is = rw (← e, f); day_is = rw f; marks_are = rw f }
+  pub back_refused : (r : Refusal) → number r ≡ back_refusal day marks i
+      → TakenBack day marks i (answer (Err r)) day marks
+  back_refused r e =
+      let f = ne_eqb (number r) 0 (number_not_0 r) in
+      record { answer_is = rw (← e, f); day_is = rw f; marks_are = rw f }
 
   pub back_done : back_refusal day marks i ≡ 0 → (n : ℕ) (day' marks' : List ℕ) → n ≡ entry_count (day_without day i)
       → day' ≡ updated_to (day_without day i) day → marks' ≡ updated_to (marks_without marks i) marks

@@ -1,12 +1,17 @@
 -- The cases of showing a row, as the code reaches them.
 use Prim.Native.Nat.{ℕ, ◌<◌}
 use native.Mathlib.Omega.{arith}
-use mathlib.Core.Path.{◌≡◌, refl}
+use mathlib.Core.Path.{◌≡◌, refl, sym}
 use mathlib.Core.List.{List}
 use mathlib.Core.Bool.{true, false}
 use denote.Ref.{Bor}
 use lib.Dec.{eqb, ltb}
-use borrow.Author.Tests.{eq-eqb, ne_eqb, eqb-true, ltb-true}
+use borrow.Author.Tests.{ne_eqb, eqb-true, ltb-true}
+use Rattle.std.specs.Prelude.{Result, Ok, Err}
+use Rattle.std.specs.Result.{is_ok}
+use Rattle.answers.specs.declared.Refusal.{Refusal}
+use Rattle.answers.specs.Results.{number, code_of}
+use Rattle.answers.proofs.Numbers.{number_not_0}
 use Rattle.conditions.specs.Tests.{◌and◌}
 use Rattle.conditions.proofs.Tests.{and_left, and_right}
 use Rattle.words.specs.Lent.{PartOf}
@@ -23,16 +28,26 @@ use Rattle.day_requests.proofs.Readiness.{pair_ready}
 use Rattle.day_folds.proofs.Shown.{vector_of_lem}
 use Rattle.day_calls.specs.Show.{showable, day_view}
 
+-- matrices that the test finds fitting
+module _ (base day marks : List ℕ) where
+  pub ready_told : {A : Type 0} (r : Result A Refusal) → is_ok r ≡ true → code_of r ≡ pair_refusal base day marks
+      → Pair base day marks
+  ready_told (Ok x) t e = pair_ready base day marks (sym e)
+  ready_told (Err x) t e = cc
+
 module _ (base day marks : List ℕ) (i : ℕ) where
   -- the test, as the code makes it
-  pub not_showable : (code : ℕ) → code ≡ pair_refusal base day marks → (code ≡ 0 → ⊥) → false ≡ showable base day marks i
+  pub not_showable : {A : Type 0} (r : Result A Refusal) → is_ok r ≡ false → code_of r ≡ pair_refusal base day marks
+      → false ≡ showable base day marks i
   unfolding showable ◌and◌
-  not_showable code e h = rw (← e, ne_eqb code 0 h)
+  not_showable (Ok x) t e = cc
+  not_showable (Err x) t e = rw (← e, ne_eqb (number x) 0 (number_not_0 x))
 
-  pub row_decides : (code : ℕ) → code ≡ pair_refusal base day marks → code ≡ 0
+  pub row_decides : {A : Type 0} (r : Result A Refusal) → is_ok r ≡ true → code_of r ≡ pair_refusal base day marks
       → ltb i (rows base) ≡ showable base day marks i
   unfolding showable ◌and◌
-  row_decides code e h = rw (← e, eq-eqb code 0 h)
+  row_decides (Ok x) t e = rw (← e)
+  row_decides (Err x) t e = cc
 
   -- what it says
   module _ (t : showable base day marks i ≡ true) where
@@ -74,12 +89,14 @@ module _ (section : Section) (r base day : Bor (List ℕ)) (marks : List ℕ) (i
 
 -- and its place
 module _ (section : Section) (base day marks : List ℕ) (i : ℕ) where
-  pub placed_nothing : showable base day marks i ≡ false → place_in false 0 0 ≡ place_of (day_view section base day marks i)
+  pub placed_nothing : showable base day marks i ≡ false
+      → place_in false 0 0 ≡ place_of (day_view section base day marks i)
   unfolding day_view
   placed_nothing h = rw h refl
 
   pub placed_day : showable base day marks i ≡ true → marked (grid_of marks) i ≡ true
-      → place_in true (section_from section day i) (section_to section day i) ≡ place_of (day_view section base day marks i)
+      → place_in true (section_from section day i) (section_to section day i)
+      ≡ place_of (day_view section base day marks i)
   unfolding day_view
   placed_day h m = rw (h, m) refl
 

@@ -1,8 +1,8 @@
 -- What the calls on a day matrix over a base matrix answer, and every word that they leave (document 02, A7).
 use Rattle.std.specs.Prelude.{ℕ, ◌≡◌, List, [], ◌∷◌, ◌++◌, cond, length, ltb, eqb}
 use Rattle.limits.specs.Limits.{max_entries}
-use Rattle.answers.specs.declared.Answer.{Answer}
-use Rattle.answers.specs.declared.CellAnswer.{CellAnswer}
+use Rattle.answers.specs.Answers.{Answer}
+use Rattle.answers.specs.Answers.{CellAnswer}
 use Rattle.answers.specs.Refusals.{unless_refused, too_many_entries, insufficient_space}
 use Rattle.answers.specs.Reads.{found_answer, refused_read}
 use Rattle.grid.specs.Grid.{Grid}
@@ -41,8 +41,8 @@ written_cases day marks i new =
 unfoldable pub rewriting_refusal : List ℕ → List ℕ → ℕ → List ℕ → ℕ
 rewriting_refusal day marks i new = first_applying (rewrite_cases day marks i new ++ written_cases day marks i new)
 
--- "Rewriting takes a 1 by C strip and marks with 1 ..; both return 0 and the day sheet's N"; "they change nothing" where
--- they are refused. A12: "Each accepted call that writes into a sheet adds one to that sheet's revision"
+-- "Rewriting takes a 1 by C strip and marks with 1 ..; both return 0 and the day sheet's N"; "they change nothing"
+-- where they are refused. A12: "Each accepted call that writes into a sheet adds one to that sheet's revision"
 pub record Rewritten (day marks : List ℕ) (i : ℕ) (new : List ℕ) (answer : Answer) (day' marks' : List ℕ) : Type 0 where
   pub answer_is : answer ≡ answer_for (rewriting_refusal day marks i new) (day_with day i new)
   pub day_is : day' ≡ unless_refused answer day (updated_to (day_with day i new) day)

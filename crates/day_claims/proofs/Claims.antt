@@ -7,9 +7,10 @@ use mathlib.Core.Bool.{Bool, cond}
 use lib.ListN.{length}
 use lib.Dec.{eqb}
 use borrow.Author.Tests.{eq-eqb, ne_eqb}
-use Rattle.answers.specs.declared.Answer.{Answer}
-use Rattle.answers.specs.declared.CellAnswer.{CellAnswer}
-use Rattle.grid.specs.declared.Cell.{Cell}
+use Rattle.answers.specs.Answers.{Answer}
+use Rattle.answers.specs.Answers.{CellAnswer}
+use Rattle.answers.specs.Results.{answer, cell_answer}
+use Rattle.grid.specs.Cell.{Cell}
 use Rattle.grid.specs.Grid.{Grid}
 use Rattle.grid.proofs.Same.{same_refl}
 use Rattle.matrix.specs.Layout.{rows, cols, cell_of, grid_of}
@@ -36,17 +37,17 @@ use Rattle.day_claims.proofs.Reading.{ReadAs, found_read, through_read, readable
 use Rattle.day_claims.proofs.Steps.{Kept, step_rewritten, step_taken}
 
 -- a whole list
-run_kept : (base : List ℕ) {day marks day' marks' : List ℕ} {g g' : Grid} → Run (grid_of base) day marks g day' marks' g'
-    → Kept base day marks g → Kept base day' marks' g'
+run_kept : (base : List ℕ) {day marks day' marks' : List ℕ} {g g' : Grid}
+    → Run (grid_of base) day marks g day' marks' g' → Kept base day marks g → Kept base day' marks' g'
 run_kept base done k = k
-run_kept base (rewrote κs p i new answer t r) k = run_kept base r (step_rewritten k i new answer t)
-run_kept base (took κs p i answer t r) k = run_kept base r (step_taken k i answer t)
+run_kept base (rewrote κs p i new f t r) k = run_kept base r (step_rewritten k i new (answer f) t)
+run_kept base (took κs p i f t r) k = run_kept base r (step_taken k i (answer f) t)
 
 -- a read of a folded matrix
-module _ (base day marks out out' : List ℕ) (answer : Answer) (h : Folded base day marks out answer out')
-    (e : answer.code ≡ 0) where
+module _ (base day marks out out' : List ℕ) (a : Answer) (h : Folded base day marks out a out')
+    (e : a.code ≡ 0) where
   z : fold_refusal base day marks (length out) ≡ 0
-  z = accepted_none (fold_refusal base day marks (length out)) (lent_fold base day marks) answer h.answer_is e
+  z = accepted_none (fold_refusal base day marks (length out)) (lent_fold base day marks) a h.answer_is e
 
   pub folded_holds : Holds (lent_fold base day marks) out'
   folded_holds =
@@ -57,12 +58,12 @@ module _ (base day marks out out' : List ℕ) (answer : Answer) (h : Folded base
         col_range = p.base_valid.header.col_range;
         few = fold_few base day marks (length out) z;
       })
-      (accepted_words answer out _ out' h.words_are e)
+      (accepted_words a out _ out' h.words_are e)
 
-  pub folded_read : (i j : ℕ) → i < rows base → j < cols base → (a c : CellAnswer)
-      → ReadAs a ((lent_fold base day marks).cell i j) → ReadAs c ((grid_of out').cell i j)
-      → (a.code ≡ 0) × (c.code ≡ 0) × (cell_read a ≡ cell_read c)
-  folded_read i j l m a c x y =
+  pub folded_read : (i j : ℕ) → i < rows base → j < cols base → (r c : CellAnswer)
+      → ReadAs r ((lent_fold base day marks).cell i j) → ReadAs c ((grid_of out').cell i j)
+      → (r.code ≡ 0) × (c.code ≡ 0) × (cell_read r ≡ cell_read c)
+  folded_read i j l m r c x y =
       (x.code, y.code, x.cell ∙ sym (y.cell ∙ folded_holds.same.cell i j l m))
 
 -- an answer that is known
@@ -70,7 +71,8 @@ as_read : {a b : CellAnswer} {x : Cell} → a ≡ b → ReadAs b x → ReadAs a 
 as_read e r = record { code = ap (λ (u : CellAnswer). u.code) e ∙ r.code; cell = ap cell_read e ∙ r.cell }
 
 -- a list begins with the grid that the pair shows
-first_kept : (base day marks : List ℕ) → pair_refusal base day marks ≡ 0 → Kept base day marks (lent_fold base day marks)
+first_kept : (base day marks : List ℕ) → pair_refusal base day marks ≡ 0
+    → Kept base day marks (lent_fold base day marks)
 first_kept base day marks n =
     record { pair = pair_ready base day marks n; same = same_refl (lent_fold base day marks) }
 
@@ -85,10 +87,10 @@ kept_read {base} {day} {marks} k i j l m x =
     }
 
 -- after an accepted step the plain grid is the changed one
-accepted_kept : {base day marks : List ℕ} (answer : Answer) (g h : Grid) → answer.code ≡ 0
-    → Kept base day marks (cond (eqb answer.code 0) g h) → Kept base day marks g
-accepted_kept {base} {day} {marks} answer g h e k =
-    subst (λ (b : Bool). Kept base day marks (cond b g h)) (eq-eqb answer.code 0 e) k
+accepted_kept : {base day marks : List ℕ} (a : Answer) (g h : Grid) → a.code ≡ 0
+    → Kept base day marks (cond (eqb a.code 0) g h) → Kept base day marks g
+accepted_kept {base} {day} {marks} a g h e k =
+    subst (λ (b : Bool). Kept base day marks (cond b g h)) (eq-eqb a.code 0 e) k
 
 -- reads before and after a step that puts `row` into the plain grid
 row_reads : {base day marks day' marks' : List ℕ} {g : Grid} (i : ℕ) (row : ℕ → Cell) → Kept base day marks g
@@ -112,19 +114,20 @@ claims = record {
   back_free = λ κs day marks i. tt;
   read_free = λ κs base day marks i j. tt;
   fold_free = λ κs base day marks out. tt;
-  folding = λ κs λs μs p q r base day marks out out' answer a c i j l m h e x y.
-      let w = folded_holds base day marks out out' answer h e in
-      let f = pair_ready base day marks (fold_none base day marks (length out) (z base day marks out out' answer h e)) in
-      folded_read base day marks out out' answer h e i j l m a c
-      (as_read x (through_read base day marks i j (readable f l m)))
+  folding = λ κs λs μs p q r base day marks out out' f a c i j l m h e x y.
+      let w = folded_holds base day marks out out' (answer f) h e in
+      let n = z base day marks out out' (answer f) h e in
+      let d = pair_ready base day marks (fold_none base day marks (length out) n) in
+      folded_read base day marks out out' (answer f) h e i j l m (cell_answer a) (cell_answer c)
+      (as_read x (through_read base day marks i j (readable d l m)))
       (as_read (y ∙ sym (read_found out' i j (matrix_made out' w.matrix) (omega (arith, w.same.rows))
       (omega (arith, w.same.cols)))) (found_read (grid_of out') i j));
-  rewriting = λ κs p base day marks new day' marks' i answer n t e.
+  rewriting = λ κs p base day marks new day' marks' i f n t e.
       let k = first_kept base day marks n in
-      row_reads i (cell_of new 0) k (accepted_kept answer _ _ e (step_rewritten k i new answer t));
-  taking_back = λ κs p base day marks day' marks' i answer n t e.
+      row_reads i (cell_of new 0) k (accepted_kept (answer f) _ _ e (step_rewritten k i new (answer f) t));
+  taking_back = λ κs p base day marks day' marks' i f n t e.
       let k = first_kept base day marks n in
-      row_reads i (cell_of base i) k (accepted_kept answer _ _ e (step_taken k i answer t));
+      row_reads i (cell_of base i) k (accepted_kept (answer f) _ _ e (step_taken k i (answer f) t));
   listed = λ base day marks day' marks' g n r κs p i j a l m x.
       let t = kept_read (run_kept base r (first_kept base day marks n)) i j l m x in
       (t.code, t.cell);

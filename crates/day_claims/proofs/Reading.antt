@@ -1,21 +1,20 @@
 -- A read through the pair answers the cell of the folded grid.
+use Rattle.std.proofs.Common.{None, Some}
 use Prim.Native.Nat.{ℕ, ◌<◌}
-use mathlib.Core.Path.{◌≡◌, refl, sym, ◌∙◌}
+use mathlib.Core.Path.{◌≡◌, refl, ◌∙◌}
 use mathlib.Core.List.{List}
 use mathlib.Core.Bool.{true}
 use borrow.Author.Tests.{eq-eqb, lt-leb}
-use Rattle.answers.specs.declared.CellAnswer.{CellAnswer}
+use Rattle.answers.specs.Answers.{CellAnswer}
 use Rattle.answers.specs.Reads.{found_answer}
 use Rattle.conditions.proofs.Tests.{and_both}
-use Rattle.grid.specs.declared.Cell.{Cell}
-use Rattle.grid.specs.declared.Cell.TheVariants.{Absent, Present}
+use Rattle.grid.specs.Cell.{Cell}
 use Rattle.grid.specs.Grid.{Grid}
 use Rattle.grid.specs.Position.{entry_position, entry_of, entry_at}
 use Rattle.matrix.specs.Layout.{rows, cols, grid_of}
 use Rattle.matrix.proofs.Facts.{matrix_made}
 use Rattle.day_requests.specs.Refusal.{same_shape, is_vector, read_refusal}
 use Rattle.day_requests.specs.Ready.{Pair, Readable}
-use Rattle.day_requests.proofs.Refusals.{neither_refused, read_rest}
 use Rattle.day_grids.specs.Day.{shown_from}
 use Rattle.day_folds.specs.Folding.{lent_fold}
 use Rattle.day_calls.specs.Calls.{through_answer}
@@ -28,8 +27,8 @@ pub record ReadAs (a : CellAnswer) (c : Cell) : Type 0 where
 
 -- the answer of a cell that was searched gives it
 found_of : (c : Cell) (p : ℕ) → ReadAs (found_answer (entry_of c p)) c
-found_of Absent p = record { code = refl; cell = refl }
-found_of (Present v) p = record { code = refl; cell = refl }
+found_of None p = record { code = refl; cell = refl }
+found_of (Some v) p = record { code = refl; cell = refl }
 
 -- so does the answer of a grid's cell
 pub found_read : (g : Grid) (i j : ℕ) → ReadAs (found_answer (entry_at g i j)) (g.cell i j)
@@ -50,12 +49,12 @@ module _ (base day marks : List ℕ) (i j : ℕ) (r : Readable base day marks i 
 
   -- so no refusal applies
   none : read_refusal base day marks i j ≡ 0
+  unfolding read_refusal
   none =
       let b = matrix_made base r.pair.base_valid in
       let d = matrix_made day r.pair.over.day_valid in
       let m = matrix_made marks r.pair.over.marks_valid in
-      sym (read_rest base day marks i j 0 b (sym (neither_refused day marks d m))
-      (rw (lt-leb _ _ r.row, lt-leb _ _ r.col, same_holds, vector_holds)))
+      rw (b, d, m, lt-leb _ _ r.row, lt-leb _ _ r.col, same_holds, vector_holds)
 
   -- and the cell is the folded grid's
   pub through_read : ReadAs (through_answer base day marks i j) ((lent_fold base day marks).cell i j)

@@ -1,21 +1,21 @@
 -- A step of a list keeps the pair and the plain grid alike.
-use Prim.Native.Nat.{ℕ, ◌<◌}
+use Rattle.std.proofs.Common.{None, Some}
+use Prim.Native.Nat.{ℕ}
 use native.Mathlib.Omega.{arith}
 use mathlib.Core.Path.{◌≡◌, refl, ◌∙◌}
 use mathlib.Core.List.{List}
 use mathlib.Core.Bool.{Bool, true, false, cond}
 use lib.Dec.{eqb}
 use borrow.Author.Tests.{eqb-true}
-use Rattle.answers.specs.declared.Answer.{Answer}
-use Rattle.grid.specs.declared.Cell.{Cell}
-use Rattle.grid.specs.declared.Cell.TheVariants.{Absent, Present}
+use Rattle.answers.specs.Answers.{Answer}
+use Rattle.grid.specs.Cell.{Cell}
 use Rattle.grid.specs.Grid.{Grid, Same}
 use Rattle.matrix.specs.Layout.{rows, cols, cell_of, grid_of}
 use Rattle.encoding.specs.Encode.{updated_to}
-use Rattle.day_grids.specs.Day.{through_pair, with_row, no_entries, rewritten_marks, taken_marks}
+use Rattle.day_grids.specs.Day.{through_pair, with_row, no_entries}
 use Rattle.day_grids.proofs.Through.{rewritten_through, taken_through, through_same, same_row}
 use Rattle.day_requests.specs.Refusal.{back_refusal}
-use Rattle.day_requests.specs.Ready.{Pair, Backable}
+use Rattle.day_requests.specs.Ready.{Pair}
 use Rattle.day_requests.proofs.Readiness.{rewrite_ready, back_ready}
 use Rattle.day_folds.specs.Folding.{lent_fold}
 use Rattle.day_calls.specs.Calls.{
@@ -28,7 +28,7 @@ use Rattle.day_calls.specs.Calls.{
   TakenBack,
 }
 use Rattle.day_claims.specs.Plain.{plain_rewritten, plain_taken}
-use Rattle.day_claims.proofs.Accepted.{accepted_none, accepted_words, rewrite_none, rewrite_few}
+use Rattle.day_claims.proofs.Accepted.{accepted_none, rewrite_none, rewrite_few}
 use Rattle.day_claims.proofs.Written.{
   Holds,
   written_holds,
@@ -91,7 +91,7 @@ module _ {base day marks day' marks' : List ℕ} {g : Grid} (k : Kept base day m
           changed_kept k i (cell_of new 0) (day_with day i new) (marks_with marks i)
           (written_holds _ (day_with day i new) day day'
           (row_within i (cell_of new 0) r.day_valid (rewrite_few day marks i new z)) a)
-          (written_holds _ (marks_with marks i) marks marks' (mark_within i (Present 1) r.marks_valid r.one_row) b)
+          (written_holds _ (marks_with marks i) marks marks' (mark_within i (Some 1) r.marks_valid r.one_row) b)
           refl refl refl refl
           (rewritten_through (grid_of base) (grid_of day) (grid_of marks) i (grid_of new))
 
@@ -111,6 +111,6 @@ module _ {base day marks day' marks' : List ℕ} {g : Grid} (k : Kept base day m
           let r = w.over in
           changed_kept k i (cell_of base i) (day_without day i) (marks_without marks i)
           (written_holds _ (day_without day i) day day' (row_within i no_entries r.day_valid (without_few w)) a)
-          (written_holds _ (marks_without marks i) marks marks' (mark_within i Absent r.marks_valid r.one_row) b)
+          (written_holds _ (marks_without marks i) marks marks' (mark_within i None r.marks_valid r.one_row) b)
           refl refl refl refl
           (taken_through (grid_of base) (grid_of day) (grid_of marks) i)

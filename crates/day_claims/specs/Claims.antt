@@ -1,14 +1,15 @@
 -- Claims of a day matrix over a base matrix (document 02, A7). What a function does is taken from its own contract, by
 -- name: `Reads.Learnt` of a function is what a caller learns when it returns, `Reads.Asked` what it has to show, and
 -- `Statement.statement` says that the code returns, does nothing undefined and ends as its contract says.
-use Rattle.std.specs.Prelude.{ℕ, ◌<◌, ◌≡◌, List}
+use Rattle.std.specs.Prelude.{ℕ, ◌<◌, ◌≡◌, List, Result}
 use contract.Lifetimes.{Lfts}
 use Rattle.std.specs.Borrow.{Bor, MutBor}
 use borrow.Fn.Picked.{KnownAs}
-use Rattle.answers.specs.declared.Answer.{Answer}
-use Rattle.answers.specs.declared.CellAnswer.{CellAnswer}
+use Rattle.answers.specs.declared.Refusal.{Refusal}
+use Rattle.answers.specs.Results.{answer, cell_answer}
 use Rattle.words.specs.Lent.{Address, lent, lent_mut}
-use Rattle.grid.specs.declared.Cell.{Cell}
+use Rattle.grid.specs.Cell.{Cell}
+use Rattle.grid.specs.declared.EntryAt.{EntryAt}
 use Rattle.grid.specs.Grid.{Grid}
 use Rattle.matrix.specs.Layout.{rows, cols, grid_of}
 use Rattle.cells.proofs.read_cell.Reads as read_cell_reads
@@ -36,57 +37,57 @@ pub record Places : Type 0 where
   pub other : Address
 
 -- What the contracts tell a caller. Of rewriting row i by the words `new`, and of taking it back:
-abbrev pub RewriteTold : Lfts 3 → Places → List ℕ → List ℕ → ℕ → List ℕ → Answer → List ℕ → List ℕ → Type 0
-RewriteTold κs p day marks i new answer day' marks' =
-    rewrite_reads.Learnt κs (lent_mut p.day day, (lent_mut p.marks marks, (i, (lent p.other new, tt)))) answer
+abbrev pub RewriteTold : Lfts 3 → Places → List ℕ → List ℕ → ℕ → List ℕ → Result ℕ Refusal → List ℕ → List ℕ → Type 0
+RewriteTold κs p day marks i new result day' marks' =
+    rewrite_reads.Learnt κs (lent_mut p.day day, (lent_mut p.marks marks, (i, (lent p.other new, tt)))) result
     (lent_mut p.day day', (lent_mut p.marks marks', (i, (lent p.other new, tt))))
 
-abbrev pub BackTold : Lfts 2 → Places → List ℕ → List ℕ → ℕ → Answer → List ℕ → List ℕ → Type 0
-BackTold κs p day marks i answer day' marks' =
-    back_reads.Learnt κs (lent_mut p.day day, (lent_mut p.marks marks, (i, tt))) answer
+abbrev pub BackTold : Lfts 2 → Places → List ℕ → List ℕ → ℕ → Result ℕ Refusal → List ℕ → List ℕ → Type 0
+BackTold κs p day marks i result day' marks' =
+    back_reads.Learnt κs (lent_mut p.day day, (lent_mut p.marks marks, (i, tt))) result
     (lent_mut p.day day', (lent_mut p.marks marks', (i, tt)))
 
 -- of reading a cell through the pair, and of folding into `out`
-abbrev pub ReadTold : Lfts 2 → Places → List ℕ → List ℕ → List ℕ → ℕ → ℕ → CellAnswer → Type 0
-ReadTold κs p base day marks i j answer =
-    read_reads.Learnt κs (lent p.base base, (lent p.day day, (lent p.marks marks, (i, (j, tt))))) answer
+abbrev pub ReadTold : Lfts 2 → Places → List ℕ → List ℕ → List ℕ → ℕ → ℕ → Result EntryAt Refusal → Type 0
+ReadTold κs p base day marks i j result =
+    read_reads.Learnt κs (lent p.base base, (lent p.day day, (lent p.marks marks, (i, (j, tt))))) result
     (lent p.base base, (lent p.day day, (lent p.marks marks, (i, (j, tt)))))
 
-abbrev pub FoldTold : Lfts 3 → Places → List ℕ → List ℕ → List ℕ → List ℕ → Answer → List ℕ → Type 0
-FoldTold κs p base day marks out answer out' =
+abbrev pub FoldTold : Lfts 3 → Places → List ℕ → List ℕ → List ℕ → List ℕ → Result ℕ Refusal → List ℕ → Type 0
+FoldTold κs p base day marks out result out' =
     fold_reads.Learnt κs (lent p.base base, (lent p.day day, (lent p.marks marks, (lent_mut p.other out, tt))))
-    answer (lent p.base base, (lent p.day day, (lent p.marks marks, (lent_mut p.other out', tt))))
+    result (lent p.base base, (lent p.day day, (lent p.marks marks, (lent_mut p.other out', tt))))
 
 -- "Folding gives in each place what reading through the pair gives": a read of the folded matrix, and one of the pair
 abbrev pub Folding : Type 0
 Folding =
     (κs : Lfts 3) (λs : Lfts 2) (μs : Lfts 1) (p q : Places) (r : Address) (base day marks out out' : List ℕ)
-    (answer : Answer) (a c : CellAnswer) (i j : ℕ) → i < rows base → j < cols base
-    → FoldTold κs p base day marks out answer out' → answer.code ≡ 0
+    (f : Result ℕ Refusal) (a c : Result EntryAt Refusal) (i j : ℕ) → i < rows base → j < cols base
+    → FoldTold κs p base day marks out f out' → (answer f).code ≡ 0
     → ReadTold λs q base day marks i j a
     → read_cell_reads.Learnt μs (lent r out', (i, (j, tt))) c (lent r out', (i, (j, tt)))
-    → (a.code ≡ 0) × (c.code ≡ 0) × (cell_read a ≡ cell_read c)
+    → ((cell_answer a).code ≡ 0) × ((cell_answer c).code ≡ 0) × (cell_read (cell_answer a) ≡ cell_read (cell_answer c))
 
 -- reads through the pair, before a call and after it: row i reads as `row`, and every other row as before
 abbrev pub RowReads : List ℕ → List ℕ → List ℕ → List ℕ → List ℕ → ℕ → (ℕ → Cell) → Type 0
 RowReads base day marks day' marks' i row =
-    (κs λs : Lfts 2) (p q : Places) (r j : ℕ) (before after : CellAnswer) → r < rows base → j < cols base
+    (κs λs : Lfts 2) (p q : Places) (r j : ℕ) (before after : Result EntryAt Refusal) → r < rows base → j < cols base
     → ReadTold κs p base day marks r j before → ReadTold λs q base day' marks' r j after
-    → (before.code ≡ 0) × (after.code ≡ 0) × (r ≡ i → cell_read after ≡ row j)
-    × ((r ≡ i → ⊥) → cell_read after ≡ cell_read before)
+    → ((cell_answer before).code ≡ 0) × ((cell_answer after).code ≡ 0) × (r ≡ i → cell_read (cell_answer after) ≡ row j)
+    × ((r ≡ i → ⊥) → cell_read (cell_answer after) ≡ cell_read (cell_answer before))
 
 -- "Rewriting takes a 1 by C strip": after an accepted rewrite the row reads as the new row
 abbrev pub Rewriting : Type 0
 Rewriting =
-    (κs : Lfts 3) (p : Places) (base day marks new day' marks' : List ℕ) (i : ℕ) (answer : Answer)
-    → pair_refusal base day marks ≡ 0 → RewriteTold κs p day marks i new answer day' marks' → answer.code ≡ 0
+    (κs : Lfts 3) (p : Places) (base day marks new day' marks' : List ℕ) (i : ℕ) (f : Result ℕ Refusal)
+    → pair_refusal base day marks ≡ 0 → RewriteTold κs p day marks i new f day' marks' → (answer f).code ≡ 0
     → RowReads base day marks day' marks' i ((grid_of new).cell 0)
 
 -- "taking back empties the day row and its mark, if any": after an accepted taking back it reads as the base's row
 abbrev pub TakingBack : Type 0
 TakingBack =
-    (κs : Lfts 2) (p : Places) (base day marks day' marks' : List ℕ) (i : ℕ) (answer : Answer)
-    → pair_refusal base day marks ≡ 0 → BackTold κs p day marks i answer day' marks' → answer.code ≡ 0
+    (κs : Lfts 2) (p : Places) (base day marks day' marks' : List ℕ) (i : ℕ) (f : Result ℕ Refusal)
+    → pair_refusal base day marks ≡ 0 → BackTold κs p day marks i f day' marks' → (answer f).code ≡ 0
     → RowReads base day marks day' marks' i ((grid_of base).cell i)
 
 -- a finite list of rewrites and takings back, refused ones among them, each on the words that the one before left; the
@@ -94,19 +95,20 @@ TakingBack =
 pub data Run (base : Grid) : List ℕ → List ℕ → Grid → List ℕ → List ℕ → Grid → Type 0 where
   done : {day marks : List ℕ} {g : Grid} → Run base day marks g day marks g
   rewrote : {day marks day₁ marks₁ day' marks' : List ℕ} {g g' : Grid} (κs : Lfts 3) (p : Places) (i : ℕ)
-      (new : List ℕ) (answer : Answer) → RewriteTold κs p day marks i new answer day₁ marks₁
-      → Run base day₁ marks₁ (plain_rewritten answer i (grid_of new) g) day' marks' g' → Run base day marks g day' marks' g'
+      (new : List ℕ) (f : Result ℕ Refusal) → RewriteTold κs p day marks i new f day₁ marks₁
+      → Run base day₁ marks₁ (plain_rewritten (answer f) i (grid_of new) g) day' marks' g'
+      → Run base day marks g day' marks' g'
   took : {day marks day₁ marks₁ day' marks' : List ℕ} {g g' : Grid} (κs : Lfts 2) (p : Places) (i : ℕ)
-      (answer : Answer) → BackTold κs p day marks i answer day₁ marks₁
-      → Run base day₁ marks₁ (plain_taken answer i base g) day' marks' g' → Run base day marks g day' marks' g'
+      (f : Result ℕ Refusal) → BackTold κs p day marks i f day₁ marks₁
+      → Run base day₁ marks₁ (plain_taken (answer f) i base g) day' marks' g' → Run base day marks g day' marks' g'
 
 -- after every such list, reading through the pair equals the plain grid, which begins as what the pair shows
 abbrev pub Listed : Type 0
 Listed =
     (base day marks day' marks' : List ℕ) (g : Grid) → pair_refusal base day marks ≡ 0
     → Run (grid_of base) day marks (lent_fold base day marks) day' marks' g
-    → (κs : Lfts 2) (p : Places) (i j : ℕ) (a : CellAnswer) → i < rows base → j < cols base
-    → ReadTold κs p base day' marks' i j a → (a.code ≡ 0) × (cell_read a ≡ g.cell i j)
+    → (κs : Lfts 2) (p : Places) (i j : ℕ) (a : Result EntryAt Refusal) → i < rows base → j < cols base
+    → ReadTold κs p base day' marks' i j a → ((cell_answer a).code ≡ 0) × (cell_read (cell_answer a) ≡ g.cell i j)
 
 -- the claims, with what makes them claims of the code: each call meets its contract, what a caller learns follows from
 -- that, and a caller has nothing to show

@@ -1,9 +1,8 @@
 -- A plain grid that is given the same rewrites and takings back as a day matrix over a base matrix.
-use Rattle.std.specs.Prelude.{ℕ, cond, eqb}
-use Rattle.answers.specs.declared.Answer.{Answer}
-use Rattle.answers.specs.declared.CellAnswer.{CellAnswer}
-use Rattle.grid.specs.declared.Cell.{Cell}
-use Rattle.grid.specs.declared.Cell.TheVariants.{Absent, Present}
+use Rattle.std.specs.Prelude.{ℕ, cond, eqb, None, Some}
+use Rattle.answers.specs.Answers.{Answer}
+use Rattle.answers.specs.Answers.{CellAnswer}
+use Rattle.grid.specs.Cell.{Cell}
 use Rattle.grid.specs.Grid.{Grid}
 use Rattle.day_grids.specs.Day.{with_row}
 
@@ -17,4 +16,4 @@ plain_taken answer i base g = cond (eqb answer.code 0) (with_row g i (base.cell 
 
 -- the cell that a read answered
 abbrev pub cell_read : CellAnswer → Cell
-cell_read a = cond a.present (Present a.value) Absent
+cell_read a = cond a.present (Some a.value) None

@@ -20,33 +20,26 @@ pub fn folded_count<'a>(base: &'a [u32], day: &'a [u32], marks: &[u32]) -> usize
     ensures { result ≡ entry_count (lent_fold base.now day.now marks.now) }
 {
     let r = matrix::row_count(base) as usize;
-    let mut n: usize = 0;
-    let mut i: usize = 0;
-    while i < r {
-        n = n + row_length(base, day, marks, i);
-        i += 1;
-    }
-    n
+    (0..r).map(|i| row_length(base, day, marks, i)).sum()
 }
 
 // How many entries row i of the folded matrix has.
 fn row_length<'a>(base: &'a [u32], day: &'a [u32], marks: &[u32], i: usize) -> usize
-    requires fact_1 { Pair base.now day.now marks.now }
-    requires fact_2 { i < rows base.now }
-    ensures fact_1 { result ≡ length (row_columns (shown_words base.now day.now marks.now i) i) }
-    ensures fact_2 { result ≤ max_cols }
+    requires pair { Pair base.now day.now marks.now }
+    requires row { i < rows base.now }
+    ensures columns { result ≡ length (row_columns (shown_words base.now day.now marks.now i) i) }
+    ensures within { result ≤ max_cols }
 {
     let source = day_marks::shown(base, day, marks, i as u32);
-    let columns = matrix::row_columns(source, i);
-    columns.len()
+    matrix::row_columns(source, i).len()
 }
 
 // The folded matrix, which has n entries and fits, over the front of `out`, whatever that held.
 pub fn write_folded<'a>(base: &'a [u32], day: &'a [u32], marks: &[u32], n: usize, out: &mut [u32])
-    requires fact_1 { Pair base.now day.now marks.now }
-    requires fact_2 { n ≡ entry_count (lent_fold base.now day.now marks.now) }
-    requires fact_3 { n ≤ max_entries }
-    requires fact_4 { grid_size (lent_fold base.now day.now marks.now) ≤ length out.old }
+    requires pair { Pair base.now day.now marks.now }
+    requires entries { n ≡ entry_count (lent_fold base.now day.now marks.now) }
+    requires few { n ≤ max_entries }
+    requires space { grid_size (lent_fold base.now day.now marks.now) ≤ length out.old }
     ensures { out.new ≡ written_over (lent_fold base.now day.now marks.now)
         out.old }
 {
@@ -55,24 +48,22 @@ pub fn write_folded<'a>(base: &'a [u32], day: &'a [u32], marks: &[u32], n: usize
     let c = matrix::col_count(base) as usize;
     stage_rows(base, day, marks, &mut staged);
     results::finish(&mut staged, r, c, n);
-    words::copy_into(out, 0, &staged[..r + n + n + FIXED_WORDS]);
+    words::copy_into(out, 0, &staged[..r + 2 * n + FIXED_WORDS]);
 }
 
 // All rows are staged.
 fn stage_rows<'a>(base: &'a [u32], day: &'a [u32], marks: &[u32], work: &mut [u32])
-    requires fact_1 { Pair base.now day.now marks.now }
-    requires fact_2 { entry_count (lent_fold base.now day.now marks.now) ≤ max_entries }
-    requires fact_3 { max_matrix_words ≤ length work.old }
+    requires pair { Pair base.now day.now marks.now }
+    requires few { entry_count (lent_fold base.now day.now marks.now) ≤ max_entries }
+    requires space { max_matrix_words ≤ length work.old }
     ensures { Staged (lent_fold base.now day.now marks.now)
         (rows base.now) (entry_count (lent_fold base.now day.now marks.now))
         work.new }
 {
     let r = matrix::row_count(base) as usize;
     let mut n: usize = 0;
-    let mut i: usize = 0;
-    while i < r {
+    for i in 0..r {
         n = stage_row(base, day, marks, i, n, work);
-        i += 1;
     }
 }
 
@@ -85,11 +76,11 @@ fn stage_row<'a>(
     n: usize,
     work: &mut [u32],
 ) -> usize
-    requires fact_1 { Pair base.now day.now marks.now }
-    requires fact_2 { i < rows base.now }
-    requires fact_3 { entry_count (lent_fold base.now day.now marks.now) ≤ max_entries }
-    requires fact_4 { max_matrix_words ≤ length work.old }
-    requires fact_5 { Staged (lent_fold base.now day.now marks.now) i n work.old }
+    requires pair { Pair base.now day.now marks.now }
+    requires row { i < rows base.now }
+    requires few { entry_count (lent_fold base.now day.now marks.now) ≤ max_entries }
+    requires space { max_matrix_words ≤ length work.old }
+    requires staged { Staged (lent_fold base.now day.now marks.now) i n work.old }
     ensures { Staged (lent_fold base.now day.now marks.now) (i + 1) result
         work.new }
 {

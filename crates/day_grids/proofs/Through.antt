@@ -4,7 +4,7 @@ use native.Mathlib.Decide.{ℕ_discrete}
 use mathlib.Core.Path.{◌≡◌, refl, ap, ◌∙◌}
 use mathlib.Core.Bool.{Bool, true, false, cond, true≢false, false≢true}
 use borrow.Author.Tests.{eq-eqb, ne_eqb}
-use Rattle.grid.specs.declared.Cell.{Cell}
+use Rattle.grid.specs.Cell.{Cell}
 use Rattle.grid.specs.Grid.{Grid, Same}
 use Rattle.day_grids.specs.Day.{
   marking,

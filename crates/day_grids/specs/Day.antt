@@ -1,15 +1,14 @@
 -- "Day sheet over base sheet" (document 02, A7) on plain grids: `base` and `day` are "both of one shape", and `marks` is
 -- "a strip 1 by R whose entries, whatever their value, mark the rewritten rows".
-use Rattle.std.specs.Prelude.{ℕ, Bool, true, false, cond, eqb}
-use Rattle.grid.specs.declared.Cell.{Cell}
-use Rattle.grid.specs.declared.Cell.TheVariants.{Absent, Present}
+use Rattle.std.specs.Prelude.{ℕ, Bool, true, false, cond, eqb, None, Some}
+use Rattle.grid.specs.Cell.{Cell}
 use Rattle.grid.specs.Grid.{Grid}
 use Rattle.grid.specs.Update.{with_cell}
 
 -- "whose entries, whatever their value, mark"
 unfoldable pub marking : Cell → Bool
-marking Absent = false
-marking (Present v) = true
+marking None = false
+marking (Some v) = true
 
 -- whether row i is marked
 abbrev pub marked : Grid → ℕ → Bool
@@ -41,14 +40,14 @@ abbrev pub rewritten_day : Grid → ℕ → Grid → Grid
 rewritten_day day i new = with_row day i (new.cell 0)
 
 abbrev pub rewritten_marks : Grid → ℕ → Grid
-rewritten_marks marks i = with_cell marks 0 i (Present 1)
+rewritten_marks marks i = with_cell marks 0 i (Some 1)
 
 -- "taking back empties the day row and its mark, if any"
 abbrev pub no_entries : ℕ → Cell
-no_entries j = Absent
+no_entries j = None
 
 abbrev pub taken_day : Grid → ℕ → Grid
 taken_day day i = with_row day i no_entries
 
 abbrev pub taken_marks : Grid → ℕ → Grid
-taken_marks marks i = with_cell marks 0 i Absent
+taken_marks marks i = with_cell marks 0 i None

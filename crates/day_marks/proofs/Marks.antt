@@ -1,18 +1,18 @@
 -- A mark that was searched: what is known where it was found and where it was missed.
-use Prim.Native.Nat.{ℕ, ◌+◌, ◌≤◌, ◌<◌}
+use Rattle.std.proofs.Common.{None}
+use Prim.Native.Nat.{ℕ, ◌+◌, ◌≤◌}
 use native.Mathlib.Omega.{arith}
 use native.Mathlib.Decide.{ℕ_discrete}
 use mathlib.Core.Path.{◌≡◌, refl, sym, ap, ◌∙◌}
 use mathlib.Core.Bool.{true, false}
 use mathlib.Core.List.{List, ◌++◌}
 use lib.ListN.{length, drop}
-use Rattle.grid.specs.declared.Cell.TheVariants.{Absent}
 use Rattle.grid.specs.declared.EntryAt.{EntryAt}
 use Rattle.grid.specs.declared.EntryAt.TheVariants as entry
 use Rattle.grid.specs.Grid.{Grid, Same}
 use Rattle.grid.specs.Entries.{column, flatten}
 use Rattle.grid.specs.Revision.{next_revision}
-use Rattle.grid.specs.Position.{position_of, entry_at, AbsentAt, PresentAt}
+use Rattle.grid.specs.Position.{position_of, entry_at, AbsentAt}
 use Rattle.grid.proofs.Gather.{gather_most}
 use Rattle.grid.proofs.Position.{absent_at, present_at}
 use Rattle.grid.proofs.Same.{same_size}
@@ -29,17 +29,6 @@ use Rattle.day_marks.specs.Marks.{Vector, mark_words}
 -- its column
 pub in_vector : {s : List ℕ} {i : ℕ} → Vector s i → InMatrix s 0 i
 in_vector v = record { matrix = v.matrix; row = omega (arith, v.one_row); col = v.col }
-
--- where a mark that was missed would be put
-pub absent_placed : {g : Grid} {i p q : ℕ} {e : EntryAt} → e ≡ entry_at g 0 i → e ≡ entry.Absent p → q ≡ position_of e
-    → AbsentAt g 0 i q
-absent_placed h k l =
-    let a = absent_at (sym h ∙ k) in record { cell = a.cell; position = l ∙ ap position_of k ∙ a.position }
-
--- where a mark that was found is
-pub present_placed : {g : Grid} {i v p : ℕ} {e : EntryAt} → e ≡ entry_at g 0 i → e ≡ entry.Present v p
-    → PresentAt g 0 i p
-present_placed h k = present_at (sym h ∙ k)
 
 -- a row whose mark was missed is not marked
 pub found_unmarked : (g : Grid) (i : ℕ) {p : ℕ} {e : EntryAt} → e ≡ entry_at g 0 i → e ≡ entry.Absent p
@@ -62,6 +51,12 @@ vector_few {s} v =
     let g = gather_most column (cell_of s 0) (cols s) in
     omega arith
 
+-- where a mark that was missed would be put
+pub absent_placed : {g : Grid} {i p q : ℕ} {e : EntryAt} → e ≡ entry_at g 0 i → e ≡ entry.Absent p → q ≡ position_of e
+    → AbsentAt g 0 i q
+absent_placed h k l =
+    let a = absent_at (sym h ∙ k) in record { cell = a.cell; position = l ∙ ap position_of k ∙ a.position }
+
 -- so one more is within the limit
 pub has_space : {s : List ℕ} {i p : ℕ} {e : EntryAt} → Vector s i → e ≡ entry.Absent p
     → size s + mark_words e ≤ length s → HasSpace s
@@ -79,13 +74,13 @@ taken_cells g i p a = record {
 }
   where
     go : (r c : ℕ) → Dec (r ≡ 0) → Dec (c ≡ i) → (taken_marks g i).cell r c ≡ g.cell r c
-    go r c (yes d) (yes f) = rw (d, f) (changed_here g 0 i Absent ∙ sym a.cell)
-    go r c (yes d) (no f) = changed_other g 0 i Absent r c (λ x y. f y)
-    go r c (no d) f = changed_other g 0 i Absent r c (λ x y. d x)
+    go r c (yes d) (yes f) = rw (d, f) (changed_here g 0 i None ∙ sym a.cell)
+    go r c (yes d) (no f) = changed_other g 0 i None r c (λ x y. f y)
+    go r c (no d) f = changed_other g 0 i None r c (λ x y. d x)
 
 -- so the words stay, but for the revision
 pub taken_none : {s : List ℕ} {i p : ℕ} → Vector s i → AbsentAt (grid_of s) 0 i p
-    → touched s ≡ updated s 0 i Absent
+    → touched s ≡ updated s 0 i None
 taken_none {s} {i} {p} v a =
     let h = matrix_made s v.matrix in
     let c = taken_cells (grid_of s) i p a in

@@ -2,24 +2,26 @@
 use Prim.Native.Nat.{ℕ, ◌<◌}
 use mathlib.Core.Path.{◌≡◌, refl, sym, ◌∙◌}
 use mathlib.Core.List.{List}
-use mathlib.Core.Bool.{true}
+use mathlib.Core.Bool.{true, not, cond}
 use lib.Dec.{eqb}
 use borrow.Author.Tests.{not-false, eqb-true, leb-false}
 use Rattle.conditions.proofs.Tests.{and_left, and_right}
 use Rattle.grid.specs.Grid.{Grid}
 use Rattle.matrix.specs.Layout.{rows, cols, grid_of}
+use Rattle.matrix.specs.Facts.{Matrix}
 use Rattle.matrix.specs.Valid.{valid}
 use Rattle.matrix.proofs.Facts.{matrix_facts}
 use Rattle.refusals.proofs.Cases.{later}
 use Rattle.day_requests.specs.Refusal.{
   same_shape,
   is_vector,
+  day_refusal,
   pair_refusal,
   read_refusal,
   rewrite_refusal,
   back_refusal,
 }
-use Rattle.day_requests.specs.Ready.{Day, Pair, Readable, Backable, Rewritable}
+use Rattle.day_requests.specs.Ready.{Pair, Readable, Backable, Rewritable}
 
 -- matrices of one shape have the same rows and columns
 same_facts : (base day : Grid) → same_shape base day ≡ true → (day.rows ≡ base.rows) × (day.cols ≡ base.cols)
@@ -33,9 +35,22 @@ unfolding is_vector
 vector_facts g n h =
     (eqb-true _ _ (and_left (eqb g.rows 1) _ h), eqb-true _ _ (and_right (eqb g.rows 1) _ h))
 
+-- where neither 4 nor 5 applies
+module _ (day marks : List ℕ) (h : 0 ≡ day_refusal day marks) where
+  pub day_matrix : Matrix day
+  unfolding day_refusal
+  day_matrix = matrix_facts day (not-false _ (later _ 4 _ refl (sym h)).here)
+
+  pub marks_matrix : Matrix marks
+  unfolding day_refusal
+  marks_matrix =
+      let k = later (not (valid day)) 4 (cond (not (valid marks)) 5 0) refl (sym h) in
+      matrix_facts marks (not-false _ (later (not (valid marks)) 5 0 refl k.rest).here)
+
 -- three matrices that fit together
 pair_made : {base day marks : List ℕ} → valid base ≡ true → valid day ≡ true → valid marks ≡ true
-    → same_shape (grid_of base) (grid_of day) ≡ true → is_vector (grid_of marks) (rows base) ≡ true → Pair base day marks
+    → same_shape (grid_of base) (grid_of day) ≡ true → is_vector (grid_of marks) (rows base) ≡ true
+    → Pair base day marks
 pair_made {base} {day} {marks} a b c s v =
     let t = same_facts (grid_of base) (grid_of day) s in
     let u = vector_facts (grid_of marks) (rows base) v in

@@ -1,7 +1,7 @@
 -- The ways through `put_decimal` and `put_signed`: the room that each call finds, and what is appended in the end.
 use Prim.Native.Nat.{ℕ, ◌+◌, ◌-◌, ◌/◌, ◌%◌, ◌^◌, ◌≤◌, ◌<◌}
 use native.Mathlib.Omega.{arith}
-use mathlib.Core.Path.{◌≡◌, ap}
+use mathlib.Core.Path.{◌≡◌, ap, ◌∙◌}
 use mathlib.Core.List.{List, [], ◌∷◌}
 use lib.ListN.{length, length-append}
 use Rattle.append.specs.Appended.{Appended}
@@ -45,10 +45,18 @@ module _ (at w : ℕ) (s : List ℕ) (h : 2147483648 ≤ w) (l : w < 2 ^ 32) whe
   pub minus_room : Room at (signed_decimal w) s → at < length s
   minus_room p = let e = ap length (signed_large w h l) in omega arith
 
-  pub negative_room : {t : List ℕ} {b : ℕ} → Room at (signed_decimal w) s → Appended (minus ∷ []) s t at b
-      → Room b (decimal (4294967295 - w + 1)) t
-  negative_room p q = let e = ap length (signed_large w h l) in omega (arith, q.next, q.kept)
+  -- n is what is left without the sign
+  module _ (n : ℕ) (q : (n + w) % 2 ^ 32 ≡ 0) (k : n < 2 ^ 32) where
+    negative : signed_decimal w ≡ minus ∷ decimal n
+    negative = signed_large w h l ∙ ap (λ (x : ℕ). minus ∷ decimal x) (left w n h l q k)
+      where
+        left : (w n : ℕ) → 2147483648 ≤ w → w < 2 ^ 32 → (n + w) % 2 ^ 32 ≡ 0 → n < 2 ^ 32 → 4294967295 - w + 1 ≡ n
+        left w n h l q k = omega arith
 
-  pub negative_appended : {t u : List ℕ} {b r : ℕ} → Appended (minus ∷ []) s t at b
-      → Appended (decimal (4294967295 - w + 1)) t u b r → Appended (signed_decimal w) s u at r
-  negative_appended p q = rw (signed_large w h l) (appended_then p q)
+    pub negative_room : {t : List ℕ} {b : ℕ} → Room at (signed_decimal w) s → Appended (minus ∷ []) s t at b
+        → Room b (decimal n) t
+    negative_room p q = let e = ap length negative in omega (arith, q.next, q.kept)
+
+    pub negative_appended : {t u : List ℕ} {b r : ℕ} → Appended (minus ∷ []) s t at b
+        → Appended (decimal n) t u b r → Appended (signed_decimal w) s u at r
+    negative_appended p q = rw negative (appended_then p q)

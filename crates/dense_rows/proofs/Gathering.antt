@@ -1,11 +1,11 @@
 -- The loops that write the present ones of the cells f 0, f 1, .. to the front of two buffers.
+use Rattle.std.proofs.Common.{None, Some}
 use Prim.Native.Nat.{ℕ, ◌+◌, ◌≤◌, ◌<◌}
 use native.Mathlib.Omega.{arith}
 use mathlib.Core.Path.{◌≡◌, refl, ◌∙◌}
 use mathlib.Core.List.{List}
 use lib.ListN.{length, set, length-set}
-use Rattle.grid.specs.declared.Cell.{Cell}
-use Rattle.grid.specs.declared.Cell.TheVariants.{Absent, Present}
+use Rattle.grid.specs.Cell.{Cell}
 use Rattle.rows.specs.Row.{Holds}
 use Rattle.rows.proofs.Holds.{holds_none, holds_put, holds_skip}
 
@@ -29,7 +29,7 @@ gathering_start n f oc ov = record {
 module _ {n : ℕ} {f : ℕ → Cell} {oc₀ ov₀ oc ov : List ℕ} {e j : ℕ} (h : Gathering n f oc₀ ov₀ oc ov e j)
     (l : j < n) where
   -- the cell at j is present
-  pub gathering_put : {v : ℕ} → n ≤ length oc₀ → n ≤ length ov₀ → f j ≡ Present v
+  pub gathering_put : {v : ℕ} → n ≤ length oc₀ → n ≤ length ov₀ → f j ≡ Some v
       → Gathering n f oc₀ ov₀ (set oc e j) (set ov e v) (e + 1) (j + 1)
   gathering_put {v} a b p = record {
     within = omega arith;
@@ -40,7 +40,7 @@ module _ {n : ℕ} {f : ℕ → Cell} {oc₀ ov₀ oc ov : List ℕ} {e j : ℕ}
   }
 
   -- it is absent
-  pub gathering_skip : f j ≡ Absent → Gathering n f oc₀ ov₀ oc ov e (j + 1)
+  pub gathering_skip : f j ≡ None → Gathering n f oc₀ ov₀ oc ov e (j + 1)
   gathering_skip p = record {
     within = omega arith;
     most = omega arith;

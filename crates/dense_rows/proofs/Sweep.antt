@@ -1,5 +1,6 @@
 -- A sweep over the entries of a row that changes one place for each: what is done and what waits, at entry p. Cited by
 -- the loops that add a row to a dense row, or put its entries at their places.
+use Rattle.std.proofs.Common.{None}
 use Prim.Native.Nat.{ℕ, ◌+◌, ◌≤◌, ◌<◌}
 use native.Mathlib.Omega.{arith}
 use native.Mathlib.Decide.{dec_lt, ℕ_discrete}
@@ -7,8 +8,7 @@ use mathlib.Core.Path.{◌≡◌, sym, ◌∙◌}
 use mathlib.Core.List.{List}
 use lib.ListN.{length}
 use Rattle.words.specs.Words.{at}
-use Rattle.grid.specs.declared.Cell.{Cell}
-use Rattle.grid.specs.declared.Cell.TheVariants.{Absent}
+use Rattle.grid.specs.Cell.{Cell}
 use Rattle.rows.specs.Row.{lookup, Row}
 use Rattle.rows.proofs.Walk.{front, front_at, front_end, front_above, absent_first, absent_next, absent_past}
 
@@ -19,7 +19,7 @@ pub record Swept (n : ℕ) (cols : List ℕ) (old goal new : ℕ → Cell) (p : 
 
 -- a place without an entry shall keep what it had
 module _ {n : ℕ} {cols vals : List ℕ} (w : Row n cols vals) {old goal : ℕ → Cell}
-    (keeps : (j : ℕ) → lookup cols vals j ≡ Absent → goal j ≡ old j) where
+    (keeps : (j : ℕ) → lookup cols vals j ≡ None → goal j ≡ old j) where
   pub swept_start : {new : ℕ → Cell} → ((j : ℕ) → new j ≡ old j) → Swept n cols old goal new 0
   swept_start f = record { done = λ j l. f j ∙ sym (keeps j (absent_first w j l)); rest = λ j l. f j }
 

@@ -1,13 +1,12 @@
 -- A dense row: a mark and a value at every place, in two arrays of a row's size.
-use Rattle.std.specs.Prelude.{ℕ, ◌≡◌, List, cond, length, eqb}
+use Rattle.std.specs.Prelude.{ℕ, ◌≡◌, List, cond, length, eqb, None, Some}
 use Rattle.limits.specs.Limits.{max_cols}
 use Rattle.words.specs.Words.{at}
-use Rattle.grid.specs.declared.Cell.{Cell}
-use Rattle.grid.specs.declared.Cell.TheVariants.{Absent, Present}
+use Rattle.grid.specs.Cell.{Cell}
 
 -- the cell that a mark and a value give: present where the mark is not 0
 abbrev pub marked : ℕ → ℕ → Cell
-marked m v = cond (eqb m 0) Absent (Present v)
+marked m v = cond (eqb m 0) None (Some v)
 
 -- the cell at place j
 unfoldable pub dense : List ℕ → List ℕ → ℕ → Cell

@@ -22,14 +22,12 @@ pub fn gather_row(
         ov.new }
 {
     let mut e: usize = 0;
-    let mut j: usize = 0;
-    while j < places {
+    for j in 0..places {
         if marks[j] != 0 {
             oc[e] = j as u32;
             ov[e] = cells[j];
             e += 1;
         }
-        j += 1;
     }
     e
 }

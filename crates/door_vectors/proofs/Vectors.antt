@@ -1,14 +1,13 @@
 -- Laws of `round_at`, and the vector that the rounds leave: the first rounds of the doors, as a row.
-use Prim.Native.Nat.{ℕ, ◌+◌, ◌-◌, ◌≤◌}
+use Rattle.std.proofs.Common.{None, Some}
+use Prim.Native.Nat.{ℕ, ◌+◌, ◌-◌}
 use native.Mathlib.Omega.{arith}
 use native.Mathlib.Numerals.{add-one}
 use mathlib.Core.Path.{◌≡◌, refl, ap, ◌∙◌}
 use mathlib.Core.List.{List}
-use lib.ListN.{length, take, length-take}
 use borrow.Author.Tests.{eq-eqb, ne_eqb}
 use Rattle.words.specs.Words.{at}
-use Rattle.grid.specs.declared.Cell.{Cell}
-use Rattle.grid.specs.declared.Cell.TheVariants.{Absent, Present}
+use Rattle.grid.specs.Cell.{Cell}
 use Rattle.grid.specs.Grid.{Grid, Same}
 use Rattle.grid.proofs.Same.{same_count, same_size}
 use Rattle.encoding.proofs.Canonical.{encode_ext}
@@ -16,24 +15,20 @@ use Rattle.key_rounds.specs.Rounds.{first_before, in_hand, door_vector}
 use Rattle.key_marks.specs.Marks.{door_word, Rounds}
 use Rattle.door_vectors.specs.Vectors.{round_at, vector_of, Written}
 
--- the first n words of a longer buffer: a word for each key or door
-pub prefix_length : (n : ℕ) (s : List ℕ) → n ≤ length s → n ≡ length (take n s)
-prefix_length n s l = omega (arith, length-take n s)
-
-pub round_shut : (doors : List ℕ) (d : ℕ) → at doors d ≡ 0 → round_at doors d ≡ Absent
+pub round_shut : (doors : List ℕ) (d : ℕ) → at doors d ≡ 0 → round_at doors d ≡ None
 unfolding round_at
 round_shut doors d e = rw (eq-eqb (at doors d) 0 e)
 
-pub round_open : (doors : List ℕ) (d : ℕ) → (at doors d ≡ 0 → ⊥) → round_at doors d ≡ Present (at doors d - 1)
+pub round_open : (doors : List ℕ) (d : ℕ) → (at doors d ≡ 0 → ⊥) → round_at doors d ≡ Some (at doors d - 1)
 unfolding round_at
 round_open doors d e = rw (ne_eqb (at doors d) 0 e)
 
 -- a door's word is read back
 round_word : (doors : List ℕ) (d : ℕ) (c : Cell) → at doors d ≡ door_word c → round_at doors d ≡ c
 unfolding door_word
-round_word doors d Absent e = round_shut doors d e
-round_word doors d (Present r) e =
-    round_open doors d (λ z. omega arith) ∙ ap Present (omega (arith, e))
+round_word doors d None e = round_shut doors d e
+round_word doors d (Some r) e =
+    round_open doors d (λ z. omega arith) ∙ ap Some (omega (arith, e))
 
 -- the vector of what the rounds leave is the answer
 vector_answer : (vector : Grid) (allowance : ℕ) {locks cabinets : Grid} {n : ℕ} {keys doors : List ℕ}

@@ -1,16 +1,15 @@
 -- The doors' words read as a row of cells.
-use Rattle.std.specs.Prelude.{ℕ, ◌-◌, ◌≤◌, ◌≡◌, List, cond, length, eqb}
+use Rattle.std.specs.Prelude.{ℕ, ◌-◌, ◌≤◌, ◌≡◌, List, cond, length, eqb, None, Some}
 use Rattle.limits.specs.Limits.{max_cols}
 use Rattle.words.specs.Words.{at}
-use Rattle.grid.specs.declared.Cell.{Cell}
-use Rattle.grid.specs.declared.Cell.TheVariants.{Absent, Present}
+use Rattle.grid.specs.Cell.{Cell}
 use Rattle.grid.specs.Grid.{Grid}
 use Rattle.grid.specs.Entries.{entry_count}
 use Rattle.encoding.specs.Encode.{written_over}
 
 -- the first round of door d, where it opened
 unfoldable pub round_at : List ℕ → ℕ → Cell
-round_at doors d = cond (eqb (at doors d) 0) Absent (Present (at doors d - 1))
+round_at doors d = cond (eqb (at doors d) 0) None (Some (at doors d - 1))
 
 -- room for every door
 pub record Room (doors oc ov : List ℕ) : Type 0 where

@@ -15,18 +15,26 @@ ghost use Rattle.door_vectors.specs.Vectors.{round_at, vector_of, Room, Written}
 
 use limits::ROW_PLACES;
 
-// The vector for matrices that fit, with the marks of keys and doors on the stack; its number of entries.
-// `by_questions` chooses the two questions that ask each other, else the product is repeated.
+// The two programs that find the doors' first rounds: the product is repeated, or two questions ask each other. They
+// give the same rounds.
+#[derive(Clone, Copy, Debug, PartialEq, Eq)]
+pub enum Program {
+    Rounds,
+    Questions,
+}
+
+// The vector for matrices that fit, by either program, with the marks of keys and doors on the stack; its number of
+// entries.
 pub fn door_vector(
-    by_questions: bool,
+    program: Program,
     allowance: u32,
     locks: &[u32],
     cabinets: &[u32],
     hand: &[u32],
     work: &mut [u32],
 ) -> usize
-    requires fact_1 { Ready allowance locks.now cabinets.now hand.now }
-    requires fact_2 { max_matrix_words ≤ length work.old }
+    requires ready { Ready allowance locks.now cabinets.now hand.now }
+    requires workspace { max_matrix_words ≤ length work.old }
     ensures { Written (lent_doors allowance locks.now cabinets.now hand.now) result
         work.new }
 {
@@ -35,7 +43,7 @@ pub fn door_vector(
     let key_count = matrix::row_count(locks) as usize;
     let door_count = matrix::col_count(locks) as usize;
     vector_from(
-        by_questions,
+        program,
         allowance,
         locks,
         cabinets,
@@ -48,7 +56,7 @@ pub fn door_vector(
 
 // The same, with a word for each key and each door.
 fn vector_from(
-    by_questions: bool,
+    program: Program,
     allowance: u32,
     locks: &[u32],
     cabinets: &[u32],
@@ -57,20 +65,20 @@ fn vector_from(
     doors: &mut [u32],
     work: &mut [u32],
 ) -> usize
-    requires ready_1 { Ready allowance locks.now cabinets.now hand.now }
-    requires ready_2 { max_matrix_words ≤ length work.old }
-    requires keys_len_1 { length keys.old ≡ rows locks.now }
-    requires keys_len_2 { length doors.old ≡ cols locks.now }
+    requires ready { Ready allowance locks.now cabinets.now hand.now }
+    requires workspace { max_matrix_words ≤ length work.old }
+    requires keys_size { length keys.old ≡ rows locks.now }
+    requires doors_size { length doors.old ≡ cols locks.now }
     ensures { Written (lent_doors allowance locks.now cabinets.now hand.now) result
         work.new }
 {
-    first_rounds(by_questions, allowance, locks, cabinets, hand, keys, doors);
+    first_rounds(program, allowance, locks, cabinets, hand, keys, doors);
     write_opened(&doors[..], work)
 }
 
-// The doors' first rounds, by one of the two programs.
+// The doors' first rounds, by either program.
 fn first_rounds(
-    by_questions: bool,
+    program: Program,
     allowance: u32,
     locks: &[u32],
     cabinets: &[u32],
@@ -78,20 +86,21 @@ fn first_rounds(
     keys: &mut [u32],
     doors: &mut [u32],
 )
-    requires { (Asked locks.now cabinets.now hand.now keys.old doors.old) × (allowance ≤ max_allowance) }
+    requires asked { Asked locks.now cabinets.now hand.now keys.old doors.old }
+    requires allowed { allowance ≤ max_allowance }
     ensures { Rounds (grid_of locks.now) (grid_of cabinets.now)
         (in_hand (grid_of hand.now)) allowance (allowance + 1) keys.new doors.new }
 {
-    if by_questions {
-        key_marks::doors_asked(allowance, locks, cabinets, hand, keys, doors);
-    } else {
-        key_marks::doors_within(allowance, locks, cabinets, hand, keys, doors);
+    match program {
+        Program::Rounds => key_marks::doors_within(allowance, locks, cabinets, hand, keys, doors),
+        Program::Questions => key_marks::doors_asked(allowance, locks, cabinets, hand, keys, doors),
     }
 }
 
 // The vector of the doors that opened, with the buffers of a row on the stack.
 fn write_opened(doors: &[u32], out: &mut [u32]) -> usize
-    requires { (length doors.now ≤ max_cols) × (max_matrix_words ≤ length out.old) }
+    requires few { length doors.now ≤ max_cols }
+    requires space { max_matrix_words ≤ length out.old }
     ensures { Written (vector_of doors.now) result out.new }
 {
     let mut oc = [0u32; ROW_PLACES];
@@ -101,8 +110,8 @@ fn write_opened(doors: &[u32], out: &mut [u32]) -> usize
 
 // The vector of the doors that opened, written at the front of `out`; its number of entries.
 fn write_vector(doors: &[u32], oc: &mut [u32], ov: &mut [u32], out: &mut [u32]) -> usize
-    requires fact_1 { Room doors.now oc.old ov.old }
-    requires fact_2 { max_matrix_words ≤ length out.old }
+    requires room { Room doors.now oc.old ov.old }
+    requires space { max_matrix_words ≤ length out.old }
     ensures { Written (vector_of doors.now) result out.new }
 {
     let n = gather_doors(doors, oc, ov);
@@ -119,14 +128,12 @@ fn gather_doors(doors: &[u32], oc: &mut [u32], ov: &mut [u32]) -> usize
         ov.new }
 {
     let mut e: usize = 0;
-    let mut d: usize = 0;
-    while d < doors.len() {
-        if doors[d] != 0 {
+    for (d, &door) in doors.iter().enumerate() {
+        if door != 0 {
             oc[e] = d as u32;
-            ov[e] = doors[d] - 1;
+            ov[e] = door - 1;
             e += 1;
         }
-        d += 1;
     }
     e
 }

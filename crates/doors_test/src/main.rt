@@ -43,7 +43,14 @@ fn by_rounds(
 ) -> io::Result<()> {
     refill(out, work);
     let r = key_calls::open_doors(allowance, locks, cabinets, hand, out, work);
-    report(rt, b"rounds", r.code, r.entries, &out[..], &work[..])
+    report(
+        rt,
+        b"rounds",
+        test_support::code(r),
+        test_support::value(r),
+        &out[..],
+        &work[..],
+    )
 }
 
 fn by_questions(
@@ -57,7 +64,14 @@ fn by_questions(
 ) -> io::Result<()> {
     refill(out, work);
     let r = key_calls::ask_doors(allowance, locks, cabinets, hand, out, work);
-    report(rt, b"questions", r.code, r.entries, &out[..], &work[..])
+    report(
+        rt,
+        b"questions",
+        test_support::code(r),
+        test_support::value(r),
+        &out[..],
+        &work[..],
+    )
 }
 
 fn refill(out: &mut [u32], work: &mut [u32]) {
@@ -119,10 +133,10 @@ fn house_within(
 fn refusals_in_order(rt: &impl Print, work: &mut Workspace) -> io::Result<()> {
     let none: &[u32] = &[];
     let mut words = [0u32; 10];
-    create::new_empty(&mut words, 1, 1);
+    let _ = create::new_empty(&mut words, 1, 1);
     let sound: &[u32] = &words;
     let mut rows = [0u32; 11];
-    create::new_empty(&mut rows, 2, 1);
+    let _ = create::new_empty(&mut rows, 2, 1);
     let tall: &[u32] = &rows;
     let mut out = [0u32; 10];
     refused(rt, b"locks", 1001, none, none, none)?;

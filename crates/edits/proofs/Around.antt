@@ -1,5 +1,6 @@
 -- The entries of a grid around one cell: what comes before and after it does not depend on that cell. Cited by every
 -- change of one cell; `emit` is the column or the value, so that one lemma serves both.
+use Rattle.std.proofs.Common.{None, Some}
 use Prim.Native.Nat.{ℕ, zero, suc, ◌+◌, ◌<◌}
 use native.Mathlib.Omega.{arith}
 use native.Mathlib.Decide.{dec_lt, ℕ_discrete}
@@ -7,8 +8,7 @@ use mathlib.Core.Path.{◌≡◌, refl, sym, ap, ◌∙◌}
 use mathlib.Core.List.{List, [], ◌++◌, append-nil, append_assoc}
 use lib.ListN.{length, length-append}
 use borrow.Author.Tests.{eq-eqb, ne_eqb}
-use Rattle.grid.specs.declared.Cell.{Cell}
-use Rattle.grid.specs.declared.Cell.TheVariants.{Absent, Present}
+use Rattle.grid.specs.Cell.{Cell}
 use Rattle.grid.specs.Grid.{Grid}
 use Rattle.grid.specs.Entries.{one, gather, flatten}
 use Rattle.grid.specs.Update.{with_cell}
@@ -16,14 +16,14 @@ use Rattle.grid.proofs.Gather.{gather_same, flatten_same}
 
 -- how many entries a cell has
 abbrev pub cell_count : Cell → ℕ
-cell_count Absent = 0
-cell_count (Present v) = 1
+cell_count None = 0
+cell_count (Some v) = 1
 
 -- as many as it gives items
 pub one_length : {A : Type 0} (emit : ℕ → ℕ → A) (j : ℕ) (c : Cell) → length (one emit j c) ≡ cell_count c
 unfolding one
-one_length emit j Absent = refl
-one_length emit j (Present v) = refl
+one_length emit j None = refl
+one_length emit j (Some v) = refl
 
 module _ {A : Type 0} (emit : ℕ → ℕ → A) where
   -- the first n columns of any row that is `row` but for column j

@@ -1,4 +1,5 @@
 -- The words after an entry was put in, section by section.
+use Rattle.std.proofs.Common.{None, Some}
 use Prim.Native.Nat.{ℕ, ◌+◌, ◌-◌, ◌≤◌, ◌<◌}
 use native.Mathlib.Omega.{arith}
 use mathlib.Core.Path.{◌≡◌, ◌∙◌}
@@ -6,12 +7,11 @@ use mathlib.Core.List.{List}
 use lib.ListN.{length, set, length-set}
 use lib.Seq.{get_or-set_same, get_or-set_other}
 use Rattle.words.specs.Words.{at}
-use Rattle.grid.specs.declared.Cell.TheVariants.{Absent, Present}
 use Rattle.grid.specs.Entries.{one}
 use Rattle.grid.specs.Position.{AbsentAt}
 use Rattle.matrix.specs.Layout.{starts_at, count_at, columns_at, count_again_at, values_at, size_of, rows, entries, grid_of}
 use Rattle.matrix.specs.HeaderWords.{touched}
-use Rattle.edits.specs.Changes.{InMatrix, updated, HasSpace, PutBounds, moved, spread, entry_put, raised, Mapped}
+use Rattle.edits.specs.Changes.{InMatrix, updated, HasSpace, PutBounds, moved, spread, entry_put, shifted, Mapped}
 use Rattle.edits.proofs.Place.{absent_within}
 use Rattle.edits.proofs.Moves.{moved_length, moved_here, moved_before, moved_after}
 use Rattle.edits.proofs.Located.{located_one}
@@ -123,7 +123,7 @@ module _ (r n p j v : ℕ) (w : List ℕ) (b : PutBounds r n p w) where
 
 -- the words after `insert_entry`: the starts behind row i are raised, and then the entry is put in
 module _ {s w : List ℕ} {i j p : ℕ} (m : InMatrix s i j) (place : AbsentAt (grid_of s) i j p) (a : HasSpace s)
-    (h : Mapped raised (i + 1 + starts_at) (rows s + 1 + starts_at) s w) where
+    (h : Mapped (shifted 1 0) (i + 1 + starts_at) (rows s + 1 + starts_at) s w) where
   -- what `put_entry` requires
   pub put_bounds : PutBounds (rows s) (entries s) p w
   put_bounds = record {
@@ -134,7 +134,7 @@ module _ {s w : List ℕ} {i j p : ℕ} (m : InMatrix s i j) (place : AbsentAt (
   }
 
   -- each section of the words
-  inserted : (v : ℕ) → Changed s (entry_put (rows s) (entries s) p j v w) i j p (entries s + 1) Absent (Present v)
+  inserted : (v : ℕ) → Changed s (entry_put (rows s) (entries s) p j v w) i j p (entries s + 1) None (Some v)
   unfolding one
   inserted v =
       let r = rows s in
@@ -175,5 +175,5 @@ module _ {s w : List ℕ} {i j p : ℕ} (m : InMatrix s i j) (place : AbsentAt (
 
   -- so they are the writing of the grid with the entry
   pub inserted_written : (v : ℕ)
-      → touched (entry_put (rows s) (entries s) p j v w) ≡ updated s i j (Present v)
+      → touched (entry_put (rows s) (entries s) p j v w) ≡ updated s i j (Some v)
   inserted_written v = changed_written m place.cell place.position (inserted v)

@@ -1,12 +1,15 @@
 -- Words changed one after the other, each by f: the turns of the loops over the row starts.
-use Prim.Native.Nat.{ℕ, ◌+◌, ◌≤◌, ◌<◌}
+use Prim.Native.Nat.{ℕ, ◌+◌, ◌-◌, ◌≤◌, ◌<◌}
 use native.Mathlib.Omega.{arith}
 use native.Mathlib.Decide.{dec_lt}
-use mathlib.Core.Path.{◌≡◌, refl, ap, ◌∙◌}
-use mathlib.Core.List.{List}
-use lib.ListN.{length, set, length-set}
+use mathlib.Core.Path.{◌≡◌, refl, sym, ap, ◌∙◌}
+use mathlib.Core.List.{List, ◌++◌, append_assoc}
+use lib.ListN.{length, take, drop, set, length-set}
 use lib.Seq.{get_or-set_same, get_or-set_other}
-use Rattle.words.specs.Words.{at}
+use borrow.Rule.Slice.PartMut.{put_mid, Post-is}
+use Rattle.words.specs.Words.{at, part, overwrite}
+use Rattle.words.proofs.Parts.{length_part, part_at}
+use Rattle.words.proofs.Overwrite.{overwrite_length, overwrite_before, overwrite_at, overwrite_after}
 use Rattle.edits.specs.Changes.{Mapped}
 
 -- at first no word is changed
@@ -33,3 +36,28 @@ mapped_more {f} {a} {k} {s} {t} h l m = record {
     go x b e (no d) =
         let q : x ≡ k = omega arith in
         rw q (get_or-set_same t k (f (at t k)) 0 (omega (arith, h.same)) ∙ ap f (h.after k (omega arith)))
+
+-- a part put back is written over what was there
+put_over : (a e : ℕ) (s t : List ℕ) → a ≤ e → length t ≡ e - a → put_mid a (e - a) s t ≡ overwrite a t s
+unfolding overwrite
+put_over a e s t o n =
+    let q : e ≡ a + length t = omega arith in
+    ap (λ (z : List ℕ). take a s ++ (t ++ z)) (Post-is a e s o)
+    ∙ ap (λ (n : ℕ). take a s ++ (t ++ drop n s)) q ∙ sym (append_assoc (take a s) t (drop (a + length t) s))
+
+-- the changed words of a part, put back
+pub mapped_back : {f : ℕ → ℕ} {a e n : ℕ} {s t : List ℕ} → a ≤ e → e ≤ length s → n ≡ e - a
+    → Mapped f 0 n (part a e s) t → Mapped f a e s (put_mid a (e - a) s t)
+mapped_back {f} {a} {e} {n} {s} {t} o l g h =
+    let m : length t ≡ e - a = h.same ∙ length_part a e s l in
+    let b : a + length t ≤ length s = omega arith in
+    rw (put_over a e s t o m) (record {
+      same = overwrite_length a t s b;
+      before = overwrite_before a t s b;
+      within = λ k d c.
+          let q : a + (k - a) ≡ k = omega arith in
+          sym (ap (λ (i : ℕ). at (overwrite a t s) i) q) ∙ overwrite_at a t s b (k - a) (omega arith)
+          ∙ h.within (k - a) (omega arith) (omega arith)
+          ∙ ap f (part_at a e (k - a) s (omega arith) ∙ ap (at s) q);
+      after = λ k c. overwrite_after a t s b k (omega arith);
+    })

@@ -1,4 +1,5 @@
 -- The position of a cell of a valid matrix is within bounds.
+use Rattle.std.proofs.Common.{None, Some}
 use Prim.Native.Nat.{ℕ, ◌+◌, ◌-◌, ◌≤◌, ◌<◌}
 use native.Mathlib.Omega.{arith}
 use mathlib.Core.Path.{◌≡◌, refl, ap}
@@ -6,8 +7,7 @@ use mathlib.Core.Bool.{true}
 use mathlib.Core.List.{List}
 use Rattle.limits.specs.Limits.{max_entries}
 use Rattle.words.specs.Words.{at}
-use Rattle.grid.specs.declared.Cell.{Cell}
-use Rattle.grid.specs.declared.Cell.TheVariants.{Absent, Present}
+use Rattle.grid.specs.Cell.{Cell}
 use Rattle.grid.specs.Entries.{column}
 use Rattle.grid.specs.Position.{entry_position, AbsentAt, PresentAt}
 use Rattle.matrix.specs.Layout.{starts_at, rows, cols, start, entries, cell_of, grid_of}
@@ -41,12 +41,12 @@ module _ {s : List ℕ} {i j : ℕ} (m : InMatrix s i j) where
 
   -- a position is within N
   pub absent_within : {p : ℕ} → AbsentAt (grid_of s) i j p → p ≤ entries s
-  absent_within a = omega (arith, position_most Absent a.cell, a.position)
+  absent_within a = omega (arith, position_most None a.cell, a.position)
 
   pub present_below : {p : ℕ} → PresentAt (grid_of s) i j p → p < entries s
-  present_below a = omega (arith, position_most (Present a.value) a.cell, a.position)
+  present_below a = omega (arith, position_most (Some a.value) a.cell, a.position)
 
-  -- each later row start counts the entry; this is what raising and lowering them require
+  -- each later row start counts the entry; this is what shifting them requires
   pub later_starts : (c : Cell) → cell_of s i j ≡ c
       → Bounded (cell_count c) max_entries (i + 1 + starts_at) (rows s + 1 + starts_at) s
   later_starts c e = record {

@@ -1,4 +1,5 @@
 -- The words after an entry was taken out, section by section.
+use Rattle.std.proofs.Common.{None, Some}
 use Prim.Native.Nat.{ℕ, ◌+◌, ◌-◌, ◌≤◌, ◌<◌}
 use native.Mathlib.Omega.{arith}
 use mathlib.Core.Path.{◌≡◌, ◌∙◌}
@@ -6,12 +7,11 @@ use mathlib.Core.List.{List}
 use lib.ListN.{length, set, length-set}
 use lib.Seq.{get_or-set_same, get_or-set_other}
 use Rattle.words.specs.Words.{at}
-use Rattle.grid.specs.declared.Cell.TheVariants.{Absent, Present}
 use Rattle.grid.specs.Entries.{one}
 use Rattle.grid.specs.Position.{PresentAt}
 use Rattle.matrix.specs.Layout.{starts_at, count_at, columns_at, count_again_at, values_at, size_of, rows, entries, grid_of}
 use Rattle.matrix.specs.HeaderWords.{touched}
-use Rattle.edits.specs.Changes.{InMatrix, updated, TakeBounds, moved, closed, entry_taken, lowered, Mapped}
+use Rattle.edits.specs.Changes.{InMatrix, updated, TakeBounds, moved, closed, entry_taken, shifted, Mapped}
 use Rattle.edits.proofs.Place.{present_below, later_starts}
 use Rattle.edits.proofs.Moves.{moved_length, moved_here, moved_before, moved_after}
 use Rattle.edits.proofs.Located.{located_none}
@@ -100,7 +100,7 @@ module _ (r n p : ℕ) (w : List ℕ) (b : TakeBounds r n p w) where
 
 -- the words after `remove_entry`: the starts behind row i are lowered, and then the entry is taken out
 module _ {s w : List ℕ} {i j p : ℕ} (m : InMatrix s i j) (place : PresentAt (grid_of s) i j p)
-    (h : Mapped lowered (i + 1 + starts_at) (rows s + 1 + starts_at) s w) where
+    (h : Mapped (shifted 0 1) (i + 1 + starts_at) (rows s + 1 + starts_at) s w) where
   -- what `take_entry` requires
   pub take_bounds : TakeBounds (rows s) (entries s) p w
   take_bounds = record {
@@ -111,7 +111,7 @@ module _ {s w : List ℕ} {i j p : ℕ} (m : InMatrix s i j) (place : PresentAt 
   }
 
   -- each section of the words
-  removed : Changed s (entry_taken (rows s) (entries s) p w) i j p (entries s - 1) (Present place.value) Absent
+  removed : Changed s (entry_taken (rows s) (entries s) p w) i j p (entries s - 1) (Some place.value) None
   unfolding one
   removed =
       let r = rows s in
@@ -120,7 +120,7 @@ module _ {s w : List ℕ} {i j p : ℕ} (m : InMatrix s i j) (place : PresentAt 
       let l = m.row in
       let u = present_below m place in
       let z = m.matrix.header.fits in
-      let g = later_starts m (Present place.value) place.cell in
+      let g = later_starts m (Some place.value) place.cell in
       let long = length_taken r n p w b in
       let before = taken_before r n p w b in
       let down_one = taken_one r n p w b in
@@ -153,5 +153,5 @@ module _ {s w : List ℕ} {i j p : ℕ} (m : InMatrix s i j) (place : PresentAt 
       }
 
   -- so they are the writing of the grid without the entry
-  pub removed_written : touched (entry_taken (rows s) (entries s) p w) ≡ updated s i j Absent
+  pub removed_written : touched (entry_taken (rows s) (entries s) p w) ≡ updated s i j None
   removed_written = changed_written m place.cell place.position removed

@@ -1,4 +1,5 @@
 -- The words after the value of an entry was replaced, section by section.
+use Rattle.std.proofs.Common.{Some}
 use Prim.Native.Nat.{ℕ, ◌+◌}
 use native.Mathlib.Omega.{arith}
 use mathlib.Core.Path.{◌≡◌, ap, ◌∙◌}
@@ -6,7 +7,6 @@ use mathlib.Core.List.{List}
 use lib.ListN.{set, length-set}
 use lib.Seq.{get_or-set_same, get_or-set_other}
 use Rattle.words.specs.Words.{at}
-use Rattle.grid.specs.declared.Cell.TheVariants.{Present}
 use Rattle.grid.specs.Entries.{one}
 use Rattle.grid.specs.Position.{PresentAt}
 use Rattle.matrix.specs.Layout.{starts_at, columns_at, values_at, rows, entries, grid_of}
@@ -21,7 +21,7 @@ module _ {s : List ℕ} {i j p : ℕ} (m : InMatrix s i j) (place : PresentAt (g
   value_at = values_at (rows s) (entries s) + p
 
   -- each section of the words
-  replaced : (v : ℕ) → Changed s (set s value_at v) i j p (entries s) (Present place.value) (Present v)
+  replaced : (v : ℕ) → Changed s (set s value_at v) i j p (entries s) (Some place.value) (Some v)
   unfolding one
   replaced v =
       let r = rows s in
@@ -52,5 +52,5 @@ module _ {s : List ℕ} {i j p : ℕ} (m : InMatrix s i j) (place : PresentAt (g
       }
 
   -- so they are the writing of the grid with the value
-  pub replaced_written : (v : ℕ) → touched (set s value_at v) ≡ updated s i j (Present v)
+  pub replaced_written : (v : ℕ) → touched (set s value_at v) ≡ updated s i j (Some v)
   replaced_written v = changed_written m place.cell place.position (replaced v)

@@ -2,7 +2,7 @@
 use Rattle.std.specs.Prelude.{ℕ, ◌+◌, ◌-◌, ◌≤◌, ◌<◌, ◌≡◌, List, length, set}
 use Rattle.limits.specs.Limits.{max_rows, max_entries}
 use Rattle.words.specs.Words.{at, part, overwrite}
-use Rattle.grid.specs.declared.Cell.{Cell}
+use Rattle.grid.specs.Cell.{Cell}
 use Rattle.grid.specs.Update.{with_cell}
 use Rattle.matrix.specs.Layout.{
   count_at,
@@ -35,11 +35,9 @@ pub record HasSpace (s : List ℕ) : Type 0 where
 abbrev pub updated : List ℕ → ℕ → ℕ → Cell → List ℕ
 updated s i j x = updated_to (with_cell (grid_of s) i j x) s
 
-abbrev pub raised : ℕ → ℕ
-raised x = x + 1
-
-abbrev pub lowered : ℕ → ℕ
-lowered x = x - 1
+-- a later row start, where entries are put in and taken out before it
+abbrev pub shifted : ℕ → ℕ → ℕ → ℕ
+shifted more less x = x + more - less
 
 -- t is s with f done to each word from a up to, and not including, e
 pub record Mapped (f : ℕ → ℕ) (a e : ℕ) (s t : List ℕ) : Type 0 where

@@ -2,13 +2,12 @@
 
 #![tactic(auto)]
 
-ghost use Rattle.std.specs.Prelude.{◌≡◌};
+ghost use Rattle.std.specs.Prelude.{◌≡◌, ◌≤◌, None, Some};
 ghost use Rattle.limits.specs.Limits.{max_entries};
-ghost use Rattle.grid.specs.declared.Cell.TheVariants.{Absent, Present};
 ghost use Rattle.grid.specs.Position.{AbsentAt, PresentAt};
 ghost use Rattle.matrix.specs.Layout.{grid_of};
 ghost use Rattle.edits.specs.Changes.{InMatrix, HasSpace, PutBounds, entry_put, TakeBounds, entry_taken};
-ghost use Rattle.edits.specs.Changes.{updated, raised, lowered, Mapped, Bounded};
+ghost use Rattle.edits.specs.Changes.{updated, shifted, Mapped, Bounded};
 
 use matrix::layout::{COLUMNS_PAST, COUNT_AGAIN_PAST, COUNT_PAST, ROWS_AT, STARTS_AT, VALUES_PAST};
 
@@ -16,7 +15,7 @@ use matrix::layout::{COLUMNS_PAST, COUNT_AGAIN_PAST, COUNT_PAST, ROWS_AT, STARTS
 pub fn replace_value(words: &mut [u32], i: usize, j: u32, p: usize, v: u32)
     requires fact_1 { InMatrix words.old i j }
     requires fact_2 { PresentAt (grid_of words.old) i j p }
-    ensures { words.new ≡ updated words.old i j (Present v) }
+    ensures { words.new ≡ updated words.old i j (Some v) }
 {
     let r = words[ROWS_AT] as usize;
     let n = words[r + COUNT_PAST] as usize;
@@ -29,11 +28,11 @@ pub fn insert_entry(words: &mut [u32], i: usize, j: u32, p: usize, v: u32)
     requires fact_1 { InMatrix words.old i j }
     requires fact_2 { AbsentAt (grid_of words.old) i j p }
     requires fact_3 { HasSpace words.old }
-    ensures { words.new ≡ updated words.old i j (Present v) }
+    ensures { words.new ≡ updated words.old i j (Some v) }
 {
     let r = words[ROWS_AT] as usize;
     let n = words[r + COUNT_PAST] as usize;
-    raise_words(words, i + 1 + STARTS_AT, r + 1 + STARTS_AT);
+    shift_words(words, i + 1 + STARTS_AT, r + 1 + STARTS_AT, 1, 0);
     put_entry(words, r, n, p, j, v);
     matrix::touch(words);
 }
@@ -42,11 +41,11 @@ pub fn insert_entry(words: &mut [u32], i: usize, j: u32, p: usize, v: u32)
 pub fn remove_entry(words: &mut [u32], i: usize, j: u32, p: usize)
     requires fact_1 { InMatrix words.old i j }
     requires fact_2 { PresentAt (grid_of words.old) i j p }
-    ensures { words.new ≡ updated words.old i j Absent }
+    ensures { words.new ≡ updated words.old i j None }
 {
     let r = words[ROWS_AT] as usize;
     let n = words[r + COUNT_PAST] as usize;
-    lower_words(words, i + 1 + STARTS_AT, r + 1 + STARTS_AT);
+    shift_words(words, i + 1 + STARTS_AT, r + 1 + STARTS_AT, 0, 1);
     take_entry(words, r, n, p);
     matrix::touch(words);
 }
@@ -82,26 +81,13 @@ fn take_entry(words: &mut [u32], r: usize, n: usize, p: usize)
     words[r + fewer + COUNT_AGAIN_PAST] = fewer as u32;
 }
 
-// One more in each word from `from` up to, and not including, `to`.
-fn raise_words(words: &mut [u32], from: usize, to: usize)
-    requires { Bounded 0 max_entries from to words.old }
-    ensures { Mapped raised from to words.old words.new }
+// Each word from `from` up to, and not including, `to` grows by `more` and shrinks by `less`.
+pub fn shift_words(words: &mut [u32], from: usize, to: usize, more: u32, less: u32)
+    requires bounded { Bounded less max_entries from to words.old }
+    requires small { more ≤ max_entries }
+    ensures { Mapped (shifted more less) from to words.old words.new }
 {
-    let mut k = from;
-    while k < to {
-        words[k] = words[k] + 1;
-        k += 1;
-    }
-}
-
-// One less in each word from `from` up to, and not including, `to`.
-fn lower_words(words: &mut [u32], from: usize, to: usize)
-    requires { Bounded 1 max_entries from to words.old }
-    ensures { Mapped lowered from to words.old words.new }
-{
-    let mut k = from;
-    while k < to {
-        words[k] = words[k] - 1;
-        k += 1;
+    for word in words[from..to].iter_mut() {
+        *word = *word + more - less;
     }
 }

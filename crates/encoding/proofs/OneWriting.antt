@@ -1,4 +1,5 @@
 -- Demand 2's "one writing", proved: the theorems of Canonical and Encoded put together, and the size of the words.
+use Rattle.std.proofs.Common.{None, Some}
 use Prim.Native.Nat.{ℕ, zero, suc, ◌+◌, ◌-◌, ◌^◌, ◌<◌}
 use native.Mathlib.Omega.{arith}
 use native.Mathlib.Decide.{dec_lt}
@@ -9,8 +10,7 @@ use lib.ListN.{length, take, drop, get_or-append}
 use lib.Seq.{take_at, get_or-append-add, get_or-drop}
 use lib.Dec.{eqb}
 use Rattle.words.specs.Words.{at, part}
-use Rattle.grid.specs.declared.Cell.{Cell}
-use Rattle.grid.specs.declared.Cell.TheVariants.{Absent, Present}
+use Rattle.grid.specs.Cell.{Cell}
 use Rattle.grid.specs.Grid.{Grid, Same}
 use Rattle.grid.specs.Entries.{column, value, one, gather, flatten, grid_columns, grid_values}
 use Rattle.grid.proofs.Gather.{flatten_grows}
@@ -94,14 +94,14 @@ words_tabulate f (suc n) h =
     (words_cons (f n) [] (h n (omega arith)) words_none)
 
 -- what is taken of a row's entries, and of all entries, where each is a word
-words_one : (emit : ℕ → ℕ → ℕ) (j : ℕ) (c : Cell) → ((v : ℕ) → c ≡ Present v → emit j v < 2 ^ 32)
+words_one : (emit : ℕ → ℕ → ℕ) (j : ℕ) (c : Cell) → ((v : ℕ) → c ≡ Some v → emit j v < 2 ^ 32)
     → AreWords (one emit j c)
 unfolding one
-words_one emit j Absent h = words_none
-words_one emit j (Present v) h = words_cons (emit j v) [] (h v refl) words_none
+words_one emit j None h = words_none
+words_one emit j (Some v) h = words_cons (emit j v) [] (h v refl) words_none
 
 words_gather : (emit : ℕ → ℕ → ℕ) (n : ℕ) (row : ℕ → Cell)
-    → ((j v : ℕ) → j < n → row j ≡ Present v → emit j v < 2 ^ 32) → AreWords (gather emit n row)
+    → ((j v : ℕ) → j < n → row j ≡ Some v → emit j v < 2 ^ 32) → AreWords (gather emit n row)
 unfolding gather
 words_gather emit zero row h = words_none
 words_gather emit (suc n) row h =
@@ -109,7 +109,7 @@ words_gather emit (suc n) row h =
     (words_one emit n (row n) (λ v. h n v (omega arith)))
 
 words_flatten : (emit : ℕ → ℕ → ℕ) (n : ℕ) (cell : ℕ → ℕ → Cell) (r : ℕ)
-    → ((i j v : ℕ) → i < r → j < n → cell i j ≡ Present v → emit j v < 2 ^ 32) → AreWords (flatten emit n cell r)
+    → ((i j v : ℕ) → i < r → j < n → cell i j ≡ Some v → emit j v < 2 ^ 32) → AreWords (flatten emit n cell r)
 unfolding flatten
 words_flatten emit n cell zero h = words_none
 words_flatten emit n cell (suc r) h =
@@ -143,14 +143,14 @@ encode_words v g b w h =
     (words_counted values (omega (arith, values_length g)) (words_flatten value g.cols g.cell g.rows h)))))
 
 -- a value that is looked up is one of the words
-lookup_word : (cs vs : List ℕ) (j v : ℕ) → AreWords vs → lookup cs vs j ≡ Present v → v < 2 ^ 32
+lookup_word : (cs vs : List ℕ) (j v : ℕ) → AreWords vs → lookup cs vs j ≡ Some v → v < 2 ^ 32
 unfolding lookup
 lookup_word [] vs j v h e = let z : ◌≡◌ {A = ℕ} 0 1 = cc in omega arith
 lookup_word (c ∷ cs) [] j v h e = let z : ◌≡◌ {A = ℕ} 0 1 = cc in omega arith
 lookup_word (c ∷ cs) (x ∷ vs) j v h e = go (eqb c j) (lookup_word cs vs j v (λ k. h (suc k))) e
   where
     -- the first value, or one of the others
-    go : (b : Bool) → (lookup cs vs j ≡ Present v → v < 2 ^ 32) → cond b (Present x) (lookup cs vs j) ≡ Present v
+    go : (b : Bool) → (lookup cs vs j ≡ Some v → v < 2 ^ 32) → cond b (Some x) (lookup cs vs j) ≡ Some v
         → v < 2 ^ 32
     go true r f = let q : x ≡ v = cc in rw (← q) (h zero)
     go false r f = r f

@@ -1,9 +1,8 @@
 -- Document 01, "How a sheet is written", with document 02's A12, by examples that the checker computes: what is written, what is read back, and
 -- which words beside them are no matrix.
-use Rattle.std.specs.Prelude.{ℕ, ◌≡◌, refl, List, [], ◌∷◌, ◌++◌, true, false, cond, take, drop, eqb}
+use Rattle.std.specs.Prelude.{ℕ, ◌≡◌, refl, List, [], ◌∷◌, ◌++◌, true, false, cond, take, drop, eqb, None, Some}
 use Rattle.conditions.specs.Tests.{◌and◌, all}
-use Rattle.grid.specs.declared.Cell.{Cell}
-use Rattle.grid.specs.declared.Cell.TheVariants.{Absent, Present}
+use Rattle.grid.specs.Cell.{Cell}
 use Rattle.grid.specs.Grid.{Grid, empty_grid}
 use Rattle.grid.specs.Entries.{one, gather, flatten}
 use Rattle.rows.specs.Row.{lookup}
@@ -13,7 +12,7 @@ use Rattle.encoding.specs.Encode.{tabulate, encode_revised, encode}
 
 -- "The 1 by 4 strip with 10, 20, 40 at columns 0, 1, 3"
 abbrev vector_cell : ℕ → Cell
-vector_cell j = cond (eqb j 0) (Present 10) (cond (eqb j 1) (Present 20) (cond (eqb j 3) (Present 40) Absent))
+vector_cell j = cond (eqb j 0) (Some 10) (cond (eqb j 1) (Some 20) (cond (eqb j 3) (Some 40) None))
 
 abbrev vector : Grid
 vector = record { rows = 1; cols = 4; cell = λ i j. vector_cell j }
@@ -55,11 +54,11 @@ unfolding encode_revised tabulate flatten gather one
 empty_encoded = refl
 
 -- what is read from the words of the vector: a value, and none where there is no entry
-vector_read : (grid_of vector_words).cell 0 3 ≡ Present 40
+vector_read : (grid_of vector_words).cell 0 3 ≡ Some 40
 unfolding cell_of lookup
 vector_read = refl
 
-vector_absent : (grid_of vector_words).cell 0 2 ≡ Absent
+vector_absent : (grid_of vector_words).cell 0 2 ≡ None
 unfolding cell_of lookup
 vector_absent = refl
 
@@ -67,7 +66,7 @@ vector_absent = refl
 -- is an entry", at (1, 1), and "The value -5 is stored as 4294967291", at (0, 0)
 abbrev square_cell : ℕ → ℕ → Cell
 square_cell i j =
-    cond (eqb i 0) (cond (eqb j 0) (Present 4294967291) (Present 7)) (cond (eqb j 0) (Present 8) (Present 0))
+    cond (eqb i 0) (cond (eqb j 0) (Some 4294967291) (Some 7)) (cond (eqb j 0) (Some 8) (Some 0))
 
 square_encoded : encode (record { rows = 2; cols = 2; cell = square_cell })
     ≡ 1 ∷ 0 ∷ 2 ∷ 2 ∷ 2 ∷ 3 ∷ 0 ∷ 2 ∷ 4 ∷ 4 ∷ 0 ∷ 1 ∷ 0 ∷ 1 ∷ 4 ∷ 4294967291 ∷ 7 ∷ 8 ∷ 0 ∷ []

@@ -6,9 +6,8 @@
 --
 -- Words are natural numbers here. In a contract they are the words of a lent slice of u32, each below 2 ^ 32 by the
 -- slice's type: `AreWords` says that of a list. A value is kept as its word in two's complement (grid/specs/Grid).
-use Rattle.std.specs.Prelude.{ℕ, ◌^◌, ◌<◌, ◌≡◌, List, ◌++◌, true, length, take}
+use Rattle.std.specs.Prelude.{ℕ, ◌^◌, ◌<◌, ◌≡◌, List, ◌++◌, true, length, take, Some}
 use Rattle.words.specs.Words.{at}
-use Rattle.grid.specs.declared.Cell.TheVariants.{Present}
 use Rattle.grid.specs.Grid.{Grid, Same}
 use Rattle.matrix.specs.Layout.{revision, size, grid_of}
 use Rattle.matrix.specs.Valid.{valid}
@@ -20,7 +19,7 @@ AreWords s = (k : ℕ) → at s k < 2 ^ 32
 
 -- every value within the shape is such a word
 abbrev pub ValuesAreWords : Grid → Type 0
-ValuesAreWords g = (i j v : ℕ) → i < g.rows → j < g.cols → g.cell i j ≡ Present v → v < 2 ^ 32
+ValuesAreWords g = (i j v : ℕ) → i < g.rows → j < g.cols → g.cell i j ≡ Some v → v < 2 ^ 32
 
 -- the words of the matrix "at the front of a lent buffer": "Words after the sheet are spare."
 abbrev pub matrix_words : List ℕ → List ℕ

@@ -1,5 +1,7 @@
 -- Every code that a call answers is below `code_limit`, and every position and place is small: packing and `Unpacking` cite
 -- it.
+use Rattle.std.proofs.Common.{None, Option, Some}
+use Rattle.operators.specs.declared.Monoid.{Monoid}
 use Prim.Native.Nat.{ℕ, ◌<◌}
 use mathlib.Core.Path.{◌≡◌, ap}
 use mathlib.Core.Bool.{Bool, true, false, cond}
@@ -8,7 +10,7 @@ use native.Mathlib.Omega.{arith}
 use lib.ListN.{length}
 use lib.Dec.{leb, ltb, eqb}
 use Rattle.limits.specs.Limits.{max_rows, max_cols}
-use Rattle.answers.specs.declared.Answer.{Answer}
+use Rattle.answers.specs.Answers.{Answer}
 use Rattle.answers.specs.Refusals.{
   invalid_first,
   index_out_of_bounds,
@@ -29,14 +31,12 @@ use Rattle.matrix.specs.Layout.{rows, cols, entries, grid_of}
 use Rattle.matrix.specs.Valid.{in_range, valid, check_answer}
 use Rattle.encoding.specs.Encode.{grid_size}
 use Rattle.create.specs.Create.{create_answer}
-use Rattle.answers.specs.declared.CellAnswer.{CellAnswer}
+use Rattle.answers.specs.Answers.{CellAnswer}
 use Rattle.answers.specs.Reads.{found_answer, refused_read}
 use Rattle.cells.specs.Read.{read_answer}
 use Rattle.cells.proofs.Positions.{read_position}
-use Rattle.answers.specs.declared.NumberAnswer.{NumberAnswer}
+use Rattle.answers.specs.Answers.{NumberAnswer}
 use Rattle.answers.specs.Numbers.{number_answer, refused_number}
-use Rattle.operator_codes.specs.declared.MonoidCode.{MonoidCode}
-use Rattle.operator_codes.specs.declared.MonoidCode.TheVariants.{Known, Unknown}
 use Rattle.operator_codes.specs.Codes.{monoid_numbered}
 use Rattle.reductions.specs.Reductions.{grid_total}
 use Rattle.reduce.specs.Reduce.{answer_by, reduce_answer}
@@ -123,11 +123,11 @@ pub reduce_small : (s : List ℕ) (monoid : ℕ) → SmallNumber (reduce_answer 
 unfolding reduce_answer
 reduce_small s monoid = go (monoid_numbered monoid)
   where
-    go : (m : MonoidCode) → SmallNumber (answer_by m s)
-    go (Known m) =
+    go : (m : Option Monoid) → SmallNumber (answer_by m s)
+    go (Some m) =
         either_number (valid s) (number_answer (grid_total m (grid_of s))) (refused_number invalid_first) (omega arith)
         (omega arith)
-    go Unknown = omega arith
+    go None = omega arith
 
 -- a place lies within the largest matrix
 pub place_small : (section : Section) (a b : List ℕ) (i : ℕ) → SmallPlace (place_of (row_view section a b i))

@@ -4,7 +4,7 @@ use native.Mathlib.Omega.{arith}
 use mathlib.Core.Path.{ap}
 use mathlib.Core.List.{List, ◌++◌}
 use lib.ListN.{length}
-use Rattle.answers.specs.declared.Answer.{Answer}
+use Rattle.answers.specs.Answers.{Answer}
 use Rattle.answers.specs.Refusals.{code_limit}
 use Rattle.refusals.proofs.Codes.{Coded, coded_append, applying_coded}
 use Rattle.key_requests.specs.Refusal.{input_cases, output_cases, lent_doors, doors_refusal}

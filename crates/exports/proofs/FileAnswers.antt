@@ -6,13 +6,13 @@ use mathlib.Core.List.{List}
 use native.Mathlib.Omega.{arith}
 use lib.ListN.{length}
 use lib.Dec.{leb}
-use Rattle.answers.specs.declared.Answer.{Answer}
+use Rattle.answers.specs.Answers.{Answer}
 use Rattle.answers.specs.Refusals.{code_limit, accepted, refused, invalid_first, insufficient_space, invalid_file}
 use Rattle.matrix.specs.Layout.{size, entries, grid_of}
 use Rattle.matrix.specs.Valid.{valid}
 use Rattle.word_bytes.specs.Bytes.{words_of}
 use Rattle.files.specs.File.{form_words, form_bytes, file_of, taken_answer, written_answer}
-use Rattle.text.specs.declared.TextAnswer.{TextAnswer}
+use Rattle.text.specs.Text.{TextAnswer}
 use Rattle.text.specs.Text.{text_of, max_text_bytes, text_answer}
 use Rattle.exports.specs.Packing.{packed}
 use Rattle.exports.specs.Unpacked.{Unpacked}

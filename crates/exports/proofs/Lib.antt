@@ -3,3 +3,4 @@ pub mod Unpacking
 pub mod FileAnswers
 pub mod Doors
 pub mod Days
+pub mod Packed

@@ -5,11 +5,11 @@ use mathlib.Core.Bool.{Bool, true, false, cond}
 use mathlib.Core.List.{List}
 use native.Mathlib.Omega.{arith}
 use lib.ListN.{length}
-use Rattle.answers.specs.declared.Answer.{Answer}
+use Rattle.answers.specs.Answers.{Answer}
 use Rattle.matrix.specs.Valid.{check_answer}
-use Rattle.answers.specs.declared.CellAnswer.{CellAnswer}
+use Rattle.answers.specs.Answers.{CellAnswer}
 use Rattle.cells.specs.Read.{read_answer}
-use Rattle.answers.specs.declared.NumberAnswer.{NumberAnswer}
+use Rattle.answers.specs.Answers.{NumberAnswer}
 use Rattle.reduce.specs.Reduce.{reduce_answer}
 use Rattle.row_view.specs.declared.Section.{Section}
 use Rattle.row_view.specs.declared.Place.{Place}

@@ -1,7 +1,7 @@
 -- What the exported calls on a day matrix over a base matrix answer and leave: each call's own definition, with the answer
 -- in one number r.
 use Rattle.std.specs.Prelude.{ℕ, ◌≡◌, List}
-use Rattle.answers.specs.declared.Answer.{Answer}
+use Rattle.answers.specs.Answers.{Answer}
 use Rattle.day_calls.specs.Calls.{Rewritten, TakenBack, Folded}
 use Rattle.exports.specs.Packing.{packed}
 

@@ -1,7 +1,7 @@
 -- What the exported call of "keys behind doors" answers and leaves: the call's own definition, with the answer in one
 -- number r.
 use Rattle.std.specs.Prelude.{ℕ, ◌≡◌, List}
-use Rattle.answers.specs.declared.Answer.{Answer}
+use Rattle.answers.specs.Answers.{Answer}
 use Rattle.key_calls.specs.Doors.{Completed}
 use Rattle.exports.specs.Packing.{packed}
 

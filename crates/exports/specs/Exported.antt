@@ -1,8 +1,8 @@
 -- What an exported call answers and leaves: the call's own definitions, with the answer in one number r.
-use Rattle.std.specs.Prelude.{ℕ, ◌≡◌, not, cond, List, eqb}
-use Rattle.answers.specs.declared.Answer.{Answer}
-use Rattle.answers.specs.declared.CellAnswer.{CellAnswer}
-use Rattle.answers.specs.declared.NumberAnswer.{NumberAnswer}
+use Rattle.std.specs.Prelude.{ℕ, ◌≡◌, not, cond, List, eqb, None, Some}
+use Rattle.answers.specs.Answers.{Answer}
+use Rattle.answers.specs.Answers.{CellAnswer}
+use Rattle.answers.specs.Answers.{NumberAnswer}
 use Rattle.row_view.specs.declared.Section.{Section}
 use Rattle.row_view.specs.declared.Section.TheVariants.{Columns, Values}
 use Rattle.create.specs.Create.{Created}
@@ -15,13 +15,12 @@ use Rattle.model.specs.Calls.{StoreCall}
 use Rattle.store_encoding.specs.Stores.{reply_on, Performed}
 use Rattle.exports.specs.Packing.{packed, packed_cell, packed_number}
 
--- the flags, whether there is a mask, whether there is an accumulator and its number; 0 is no, any other number is yes
+-- the flags, whether there is a mask, and the accumulator's number if there is one; 0 is no, any other number is yes
 abbrev pub options_of : ℕ → ℕ → ℕ → ℕ → Options
 options_of flags mask accumulated number = record {
   flags = flags;
   has_mask = not (eqb mask 0);
-  has_accumulator = not (eqb accumulated 0);
-  accumulator = number;
+  accumulator = cond (eqb accumulated 0) None (Some number);
 }
 
 -- the slots that a call names for A, B, the mask and C

@@ -1,9 +1,9 @@
 -- What the exported calls on files and texts answer and leave: the calls' own definitions, with the answer in one
 -- number r.
 use Rattle.std.specs.Prelude.{ℕ, ◌+◌, ◌*◌, ◌%◌, ◌/◌, ◌≡◌, List}
-use Rattle.answers.specs.declared.Answer.{Answer}
+use Rattle.answers.specs.Answers.{Answer}
 use Rattle.files.specs.File.{FileRead, FileWritten}
-use Rattle.text.specs.declared.TextAnswer.{TextAnswer}
+use Rattle.text.specs.Text.{TextAnswer}
 use Rattle.text.specs.Text.{TextWritten}
 use Rattle.exports.specs.Packing.{code_limit, upper_word, packed}
 

@@ -1,13 +1,13 @@
 -- An answer in one number of 64 bits: the code in the lower word, the entries or the value in the upper; of a read the
 -- position too is in the lower.
 use Rattle.std.specs.Prelude.{ℕ, ◌+◌, ◌*◌, ◌^◌, ◌<◌, ◌≡◌, refl, Bool, true, false, cond}
-use Rattle.answers.specs.declared.Answer.{Answer}
+use Rattle.answers.specs.Answers.{Answer}
 use Rattle.answers.specs.Refusals.{accepted, refused}
 pub use Rattle.answers.specs.Refusals.{code_limit}
 use Rattle.grid.specs.declared.EntryAt.TheVariants as entry
-use Rattle.answers.specs.declared.CellAnswer.{CellAnswer}
+use Rattle.answers.specs.Answers.{CellAnswer}
 use Rattle.answers.specs.Reads.{found_answer, refused_read}
-use Rattle.answers.specs.declared.NumberAnswer.{NumberAnswer}
+use Rattle.answers.specs.Answers.{NumberAnswer}
 use Rattle.answers.specs.Numbers.{number_answer, refused_number}
 use Rattle.row_view.specs.declared.Place.{Place}
 use Rattle.row_view.specs.View.{first, second, place_of}

@@ -2,9 +2,9 @@
 -- upper word; of a read bit 8 says whether the cell is present, and the upper half of the lower word is the position; of a
 -- place the lowest bit says which matrix, the three bytes above the lowest how many words, and the upper word from where on.
 use Rattle.std.specs.Prelude.{ℕ, ◌%◌, ◌/◌, ◌≡◌, cond}
-use Rattle.answers.specs.declared.Answer.{Answer}
-use Rattle.answers.specs.declared.CellAnswer.{CellAnswer}
-use Rattle.answers.specs.declared.NumberAnswer.{NumberAnswer}
+use Rattle.answers.specs.Answers.{Answer}
+use Rattle.answers.specs.Answers.{CellAnswer}
+use Rattle.answers.specs.Answers.{NumberAnswer}
 use Rattle.row_view.specs.declared.Place.{Place}
 use Rattle.exports.specs.Packing.{code_limit, upper_word, position_unit, count_limit, second_bit}
 

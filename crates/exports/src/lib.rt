@@ -8,6 +8,7 @@
 #![tactic(auto)]
 
 ghost use Rattle.std.specs.Prelude.{◌≡◌, [], ◌≤◌, length, replicate};
+ghost use Rattle.answers.specs.Results.{answer, cell_answer};
 ghost use Rattle.matrix.specs.Valid.{check_answer};
 ghost use Rattle.cells.specs.Read.{read_answer};
 ghost use Rattle.reduce.specs.Reduce.{reduce_answer};
@@ -16,22 +17,22 @@ ghost use Rattle.row_view.specs.View.{row_view, place_of};
 ghost use Rattle.call_codes.specs.declared.Verb.TheVariants as verbs;
 ghost use Rattle.call_codes.specs.Decoding.{decoded};
 ghost use Rattle.model.specs.Calls.{new_empty, drop_slot, set_cell, clear_cell, read_cell, operate, reduce_slot, formula_into};
-ghost use Rattle.exports.specs.Packing.{packed, packed_cell, packed_number, present_bit, SmallRead, packed_place};
-ghost use Rattle.exports.specs.Packing.{second_bit, SmallPlace, code_limit};
+ghost use Rattle.exports.specs.Packing.{packed, packed_cell, packed_number, SmallRead, packed_place};
+ghost use Rattle.exports.specs.Packing.{second_bit, SmallPlace};
 ghost use Rattle.exports.specs.Exported.{options_of, roles_named, section_of};
-ghost use Rattle.exports.specs.Files.{packed_text, LentFileRead, LentFileWritten, LentTextWritten};
+ghost use Rattle.exports.specs.Files.{LentFileRead, LentFileWritten, LentTextWritten};
 ghost use Rattle.exports.specs.Exported.{LentCreated, LentCompleted, StorePerformed, StoreRead, StoreTotalled};
 ghost use Rattle.exports.specs.Doors.{LentDoors};
 ghost use Rattle.day_calls.specs.Calls.{through_answer};
 ghost use Rattle.day_calls.specs.Show.{day_view};
 ghost use Rattle.exports.specs.Days.{LentRewritten, LentTakenBack, LentFolded};
 
-use answers::{Answer, CellAnswer, NumberAnswer};
+use answers::Refusal;
 use call_codes::{Options, Verb};
+use grid::EntryAt;
 use model::Roles;
 use products::Engine;
 use row_view::{Place, Section};
-use text::TextAnswer;
 
 // In the answer of a read, what stands for a cell that is present.
 const PRESENT: u64 = 256;
@@ -481,14 +482,14 @@ pub fn ostrubel_kronecker<'a>(
 pub fn ostrubel_reduce(monoid: u32, words: &[u32]) -> u64
     ensures { result ≡ packed_number (reduce_answer words.now monoid) }
 {
-    pack_number(reduce::reduce(words, monoid))
+    pack(reduce::reduce(words, monoid))
 }
 
 // The revision of a matrix.
 pub fn ostrubel_revision(words: &[u32]) -> u64
     ensures { result ≡ packed_number (revision_answer words.now) }
 {
-    pack_number(revision::revision_of(words))
+    pack(revision::revision_of(words))
 }
 
 // An empty matrix in a slot, whatever was there.
@@ -902,7 +903,7 @@ pub fn ostrubel_store_kronecker(
 pub fn ostrubel_store_reduce(slot: usize, monoid: u32, store: &[u32]) -> u64
     ensures { StoreTotalled store.now (reduce_slot slot monoid) result }
 {
-    pack_number(store_reduce::reduce(store, slot, monoid))
+    pack(store_reduce::reduce(store, slot, monoid))
 }
 
 // The value of a formula over the slots, in the target's place. The monoid and the operator are the semiring's.
@@ -988,35 +989,28 @@ fn stored(
     pack(store_calls::operate(store, options, verb, named, is, js, work))
 }
 
-// The code in the lower word, the entries in the upper.
-fn pack(answer: Answer) -> u64
-    ensures { result ≡ packed answer }
+// The number of a refusal in the lower word; the entries, the number or the bytes in the upper.
+fn pack(outcome: Result<u32, Refusal>) -> u64
+    ensures { result ≡ packed (answer outcome) }
 {
-    answer.code as u64 + answer.entries as u64 * UPPER_WORD
+    match outcome {
+        Ok(n) => n as u64 * UPPER_WORD,
+        Err(refusal) => refusal.number() as u64,
+    }
 }
 
-// The code, whether the cell is present and the position in the lower word, the value in the upper.
-fn pack_cell(answer: CellAnswer) -> u64
-    requires { SmallRead answer }
-    ensures { result ≡ packed_cell answer }
+// The number of a refusal, whether the cell is present and the position in the lower word, the value in the upper.
+fn pack_cell(outcome: Result<EntryAt, Refusal>) -> u64
+    requires { SmallRead (cell_answer outcome) }
+    ensures { result ≡ packed_cell (cell_answer outcome) }
 {
-    answer.code as u64
-        + present_bit(answer.present)
-        + answer.position as u64 * POSITION_UNIT
-        + answer.value as u64 * UPPER_WORD
-}
-
-fn present_bit(present: bool) -> u64
-    ensures { (result ≡ present_bit present) × (result ≤ code_limit) }
-{
-    if present { PRESENT } else { 0 }
-}
-
-// The code in the lower word, the number in the upper.
-fn pack_number(answer: NumberAnswer) -> u64
-    ensures { result ≡ packed_number answer }
-{
-    answer.code as u64 + answer.value as u64 * UPPER_WORD
+    match outcome {
+        Ok(EntryAt::Present { value, position }) => {
+            PRESENT + position as u64 * POSITION_UNIT + value as u64 * UPPER_WORD
+        }
+        Ok(EntryAt::Absent { position }) => position as u64 * POSITION_UNIT,
+        Err(refusal) => refusal.number() as u64,
+    }
 }
 
 // The matrix in the lowest byte, the count in the rest of the lower word, where the part begins in the upper.
@@ -1047,10 +1041,13 @@ fn options_of(flags: u32, has_mask: u32, has_accumulator: u32, accumulator: u32)
     ensures { result ≡ options_of flags has_mask has_accumulator accumulator }
 {
     Options {
-        flags: flags,
+        flags,
         has_mask: has_mask != 0,
-        has_accumulator: has_accumulator != 0,
-        accumulator: accumulator,
+        accumulator: if has_accumulator != 0 {
+            Some(accumulator)
+        } else {
+            None
+        },
     }
 }
 
@@ -1072,14 +1069,7 @@ pub fn ostrubel_write_file(words: &[u32], bytes: &mut [u8]) -> u64
 pub fn ostrubel_write_text(words: &[u32], bytes: &mut [u8]) -> u64
     ensures { LentTextWritten words.now bytes.old result bytes.new }
 {
-    pack_text(text::write_text(words, bytes))
-}
-
-// The code in the lower word, the number of bytes in the upper.
-fn pack_text(answer: TextAnswer) -> u64
-    ensures { result ≡ packed_text answer }
-{
-    answer.code as u64 + answer.length as u64 * UPPER_WORD
+    pack(text::write_text(words, bytes))
 }
 
 // "Keys behind doors": the doors that open within an allowance of rounds, as a vector in `out`.

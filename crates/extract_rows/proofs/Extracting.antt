@@ -1,5 +1,6 @@
 -- The loop of `extract_row`: the entries before p that the list names stand at their places; and the row collected from
 -- there.
+use Rattle.std.proofs.Common.{None}
 use Prim.Native.Nat.{ℕ, zero, suc, ◌+◌, ◌≤◌, ◌<◌}
 use native.Mathlib.Omega.{arith}
 use native.Mathlib.Numerals.{add-one}
@@ -8,8 +9,7 @@ use mathlib.Core.List.{List}
 use lib.ListN.{length, set, length-set}
 use Rattle.limits.specs.Limits.{max_cols}
 use Rattle.words.specs.Words.{at}
-use Rattle.grid.specs.declared.Cell.{Cell}
-use Rattle.grid.specs.declared.Cell.TheVariants.{Absent}
+use Rattle.grid.specs.Cell.{Cell}
 use Rattle.grid.specs.Entries.{column, value}
 use Rattle.grid.proofs.Gather.{gather_skip}
 use Rattle.rows.specs.Row.{lookup, Row, Holds}
@@ -30,7 +30,7 @@ unfolding pick
 pick_same zero c f g h = refl
 pick_same (suc j) c f g h = h j refl
 
-pick_none : (n : ℕ) (c : Cell) → c ≡ Absent → c ≡ pick n c (λ j. Absent)
+pick_none : (n : ℕ) (c : Cell) → c ≡ None → c ≡ pick n c (λ j. None)
 unfolding pick
 pick_none zero c e = refl
 pick_none (suc j) c e = e
@@ -42,17 +42,17 @@ seen inv row cells k = pick (at inv k) (row k) cells
 pub record Extracting (list inv cols vals : List ℕ) (ov₀ : List ℕ) (top : ℕ) (map ov : List ℕ) (p : ℕ) : Type 0 where
   pub tracked : Tracked top map
   pub long : length ov ≡ length ov₀
-  pub swept : Swept max_cols cols (seen inv (lookup cols vals) (λ j. Absent)) (lookup cols vals)
+  pub swept : Swept max_cols cols (seen inv (lookup cols vals) (λ j. None)) (lookup cols vals)
       (seen inv (lookup cols vals) (flagged map ov)) p
-  pub beyond : (j : ℕ) → length list ≤ j → flagged map ov j ≡ Absent
+  pub beyond : (j : ℕ) → length list ≤ j → flagged map ov j ≡ None
 
 module _ {list inv cols vals : List ℕ} (w : Row max_cols cols vals) (ix : Indices list) (iv : Inverse list inv) where
   -- a column without an entry keeps none
-  keeps : (k : ℕ) → lookup cols vals k ≡ Absent → lookup cols vals k ≡ seen inv (lookup cols vals) (λ j. Absent) k
+  keeps : (k : ℕ) → lookup cols vals k ≡ None → lookup cols vals k ≡ seen inv (lookup cols vals) (λ j. None) k
   unfolding seen
   keeps k e = pick_none (at inv k) (lookup cols vals k) e
 
-  pub extracting_start : (ov : List ℕ) {top : ℕ} {map : List ℕ} → Carries (λ j. Absent) top map ov
+  pub extracting_start : (ov : List ℕ) {top : ℕ} {map : List ℕ} → Carries (λ j. None) top map ov
       → Extracting list inv cols vals ov top map ov 0
   unfolding seen
   extracting_start ov h = record {
@@ -137,7 +137,7 @@ module _ {list inv cols vals : List ℕ} (w : Row max_cols cols vals) (ix : Indi
         → Holds (length list) (λ j. lookup cols vals (at list j)) e oc' ov'
     extracting_done m c =
         let l : length list ≤ map_places = omega (arith, ix.few) in
-        let none : (j : ℕ) → length list ≤ j → j < map_places → flagged map ov j ≡ Absent = λ j u v. h.beyond j u in
+        let none : (j : ℕ) → length list ≤ j → j < map_places → flagged map ov j ≡ None = λ j u v. h.beyond j u in
         let front : Holds (length list) (flagged map ov) _ _ _ = record {
           count = c.count ∙ ap length (gather_skip column (flagged map ov) (length list) map_places l none);
           columns = c.columns ∙ gather_skip column (flagged map ov) (length list) map_places l none;

@@ -30,15 +30,12 @@ pub fn invert_lists(is: &[u32], js: &[u32], out: &mut [u32])
 // The inverse of an index list, in zeros: at each column that the list names its place in the list, counted
 // from 1.
 fn invert(list: &[u32], out: &mut [u32])
-    requires fact_1 { Indices list.now }
-    requires fact_2 { out.old ≡ replicate max_cols 0 }
+    requires indices { Indices list.now }
+    requires zeros { out.old ≡ replicate max_cols 0 }
     ensures { Inverse list.now out.new }
 {
-    let mut j: usize = 0;
-    while j < list.len() {
-        let k = list[j] as usize;
-        out[k] = j as u32 + 1;
-        j += 1;
+    for (j, &k) in list.iter().enumerate() {
+        out[k as usize] = j as u32 + 1;
     }
 }
 
@@ -60,31 +57,29 @@ pub fn extract_row(
         (λ j. lookup columns.now values.now (at list.now j))
         result oc.new ov.new }
 {
-    if columns.len() == 0 {
+    if columns.is_empty() {
         return 0;
     }
     let mut map = [0u64; MAP_WORDS];
     let mut top: u64 = 0;
-    let mut p: usize = 0;
-    while p < columns.len() {
-        let k = columns[p] as usize;
-        top = place_entry(top, &mut map, ov, inverse[k], values[p]);
-        p += 1;
+    for (p, &k) in columns.iter().enumerate() {
+        top = place_entry(top, &mut map, ov, inverse[k as usize], values[p]);
     }
     bit_rows::collect(top, &map, oc, ov)
 }
 
 // Puts a value at its place, counted from 1, and marks it there; 0 is no place. The new top word.
 fn place_entry(top: u64, map: &mut [u64; MAP_WORDS], ov: &mut [u32], place: u32, value: u32) -> u64
-    requires fact_1 { (place ≤ max_cols) × (place ≤ length ov.old) }
-    requires fact_2 { Tracked top map.old }
+    requires place_in_bounds { (place ≤ max_cols) × (place ≤ length ov.old) }
+    requires tracked { Tracked top map.old }
     ensures { Placed place value top map.old ov.old result map.new
         ov.new }
 {
     if place == 0 {
-        return top;
+        top
+    } else {
+        let j = place as usize - 1;
+        ov[j] = value;
+        bit_rows::mark_column(top, map, j)
     }
-    let j = place as usize - 1;
-    ov[j] = value;
-    bit_rows::mark_column(top, map, j)
 }

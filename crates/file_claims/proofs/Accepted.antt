@@ -8,7 +8,7 @@ use lib.ListN.{length, drop}
 use lib.Dec.{leb, eqb}
 use borrow.Author.Tests.{le-leb, leb-true, eq-eqb, eqb-true}
 use Rattle.conditions.proofs.Tests.{and_left, and_right, and_both}
-use Rattle.answers.specs.declared.Answer.{Answer}
+use Rattle.answers.specs.Answers.{Answer}
 use Rattle.answers.specs.Refusals.{accepted, refused, insufficient_space, invalid_file, invalid_first}
 use Rattle.matrix.specs.Layout.{size, entries}
 use Rattle.matrix.specs.Valid.{valid}

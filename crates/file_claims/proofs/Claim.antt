@@ -11,7 +11,7 @@ use borrow.Author.Tests.{eqb-true}
 use Rattle.conditions.specs.Tests.{◌and◌}
 use Rattle.conditions.proofs.Tests.{and_left, and_right}
 use Rattle.words.specs.Words.{at}
-use Rattle.answers.specs.declared.Answer.{Answer}
+use Rattle.answers.specs.Answers.{Answer}
 use Rattle.answers.specs.Refusals.{accepted}
 use Rattle.grid.specs.Grid.{Same}
 use Rattle.matrix.specs.Layout.{revision, size, entries, grid_of}
@@ -44,10 +44,10 @@ use Rattle.file_claims.proofs.OldFiles.{file_taken}
 
 -- what the contracts tell
 read_told : {f w w' : List ℕ} {x : Answer} → Reading f w x w' → FileRead f w x w'
-read_told (reading p q κs t) = t
+read_told (reading p q κs r t) = t
 
 write_told : {s b b' : List ℕ} {x : Answer} → Writing s b x b' → FileWritten s b x b'
-write_told (writing p q κs t) = t
+write_told (writing p q κs r t) = t
 
 -- ---- a file that was written
 wrote : {s b b' : List ℕ} {x : Answer} → Writing s b x b' → x.code ≡ 0 → Wrote s b x b'

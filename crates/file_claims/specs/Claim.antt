@@ -3,11 +3,13 @@
 --
 -- The calls are `files::read_file` and `files::write_file`, and what they do is taken from their own contracts, by
 -- name: `Reads.Learnt` is what a caller learns when the function returns.
-use Rattle.std.specs.Prelude.{ℕ, ◌+◌, ◌*◌, ◌≤◌, ◌≡◌, true, false, List, ◌∷◌, ◌++◌, length, take, drop}
+use Rattle.std.specs.Prelude.{ℕ, ◌+◌, ◌*◌, ◌≤◌, ◌≡◌, true, false, List, ◌∷◌, ◌++◌, length, take, drop, Result}
 use contract.Lifetimes.{Lfts}
 use Rattle.std.specs.Borrow.{Bor, MutBor}
 use borrow.Fn.Picked.{KnownAs}
-use Rattle.answers.specs.declared.Answer.{Answer}
+use Rattle.answers.specs.Answers.{Answer}
+use Rattle.answers.specs.declared.Refusal.{Refusal}
+use Rattle.answers.specs.Results.{answer}
 use Rattle.words.specs.Lent.{Address, lent, lent_mut}
 use Rattle.grid.specs.Grid.{Same}
 use Rattle.matrix.specs.Layout.{revision, size, entries, grid_of}
@@ -24,16 +26,16 @@ use Rattle.files.proofs.write_file.Kinds as write_file_kinds
 use Rattle.file_claims.specs.OldRule.{old_file}
 
 -- the bytes f are read into the words w, which are w' afterwards
-pub data Reading (f w : List ℕ) (answer : Answer) (w' : List ℕ) : Type 0 where
-  reading : (p q : Address) (κs : Lfts 2)
-      → read_file_reads.Learnt κs (lent p f, (lent_mut q w, tt)) answer (lent p f, (lent_mut q w', tt))
-      → Reading f w answer w'
+pub data Reading (f w : List ℕ) : Answer → List ℕ → Type 0 where
+  reading : {w' : List ℕ} (p q : Address) (κs : Lfts 2) (r : Result ℕ Refusal)
+      → read_file_reads.Learnt κs (lent p f, (lent_mut q w, tt)) r (lent p f, (lent_mut q w', tt))
+      → Reading f w (answer r) w'
 
 -- the matrix in the words s is written into the bytes b, which are b' afterwards
-pub data Writing (s b : List ℕ) (answer : Answer) (b' : List ℕ) : Type 0 where
-  writing : (p q : Address) (κs : Lfts 2)
-      → write_file_reads.Learnt κs (lent p s, (lent_mut q b, tt)) answer (lent p s, (lent_mut q b', tt))
-      → Writing s b answer b'
+pub data Writing (s b : List ℕ) : Answer → List ℕ → Type 0 where
+  writing : {b' : List ℕ} (p q : Address) (κs : Lfts 2) (r : Result ℕ Refusal)
+      → write_file_reads.Learnt κs (lent p s, (lent_mut q b, tt)) r (lent p s, (lent_mut q b', tt))
+      → Writing s b (answer r) b'
 
 -- the file at the front of the bytes that the matrix in the words s was written into
 abbrev pub written : List ℕ → List ℕ → List ℕ

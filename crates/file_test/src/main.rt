@@ -94,7 +94,12 @@ fn read_largest(rt: &impl Print, bytes: &[u8]) -> io::Result<()> {
     read(rt, bytes, MAX_FILE_BYTES, &mut held, MAX_MATRIX_WORDS)?;
     let mut out = [0u8; MAX_TEXT_BYTES];
     let answer = text::write_text(&held, &mut out);
-    test_support::print_pair(rt, b"text: ", answer.code, answer.length)
+    test_support::print_pair(
+        rt,
+        b"text: ",
+        test_support::code(answer),
+        test_support::value(answer),
+    )
 }
 
 // The first n words as a file into the first m bytes.
@@ -108,7 +113,13 @@ fn write(rt: &impl Print, words: &[u32], n: usize, bytes: &mut [u8], m: usize) -
 fn write_front(rt: &impl Print, words: &[u32], bytes: &mut [u8], m: usize) -> io::Result<()> {
     if m <= bytes.len() {
         let answer = files::write_file(words, &mut bytes[..m]);
-        print_answer(rt, b"written, bytes ", m, answer.code, answer.entries)?;
+        print_answer(
+            rt,
+            b"written, bytes ",
+            m,
+            test_support::code(answer),
+            test_support::value(answer),
+        )?;
     }
     Ok(())
 }
@@ -128,8 +139,8 @@ fn read_front(rt: &impl Print, bytes: &[u8], words: &mut [u32], m: usize) -> io:
             rt,
             b"read, bytes ",
             bytes.len(),
-            answer.code,
-            answer.entries,
+            test_support::code(answer),
+            test_support::value(answer),
         )?;
     }
     Ok(())
@@ -164,8 +175,13 @@ fn print_text(
 fn print_text_front(rt: &impl Print, words: &[u32], out: &mut [u8], m: usize) -> io::Result<()> {
     if m <= out.len() {
         let answer = text::write_text(words, &mut out[..m]);
-        test_support::print_pair(rt, b"text: ", answer.code, answer.length)?;
-        print_front(rt, &out[..], answer.length as usize)?;
+        test_support::print_pair(
+            rt,
+            b"text: ",
+            test_support::code(answer),
+            test_support::value(answer),
+        )?;
+        print_front(rt, &out[..], test_support::value(answer) as usize)?;
     }
     Ok(())
 }
@@ -182,21 +198,17 @@ fn show_byte(rt: &impl Print, bytes: &[u8], at: usize) -> io::Result<()> {
         rt.write_all(b"byte ")?;
         rt.print(at as u64)?;
         rt.write_all(b" is ")?;
-        rt.print(wide(bytes[at]))?;
+        rt.print(u64::from(bytes[at]))?;
         rt.write_all(b"\n")?;
     }
     Ok(())
-}
-
-fn wide(byte: u8) -> u64 {
-    byte as u64
 }
 
 // n words from `at` on get larger by this.
 fn add(words: &mut [u32], at: usize, n: usize, by: u32) {
     for k in 0..n {
         let here = test_support::past(at, k);
-        let sum = std::num::wrapping_add_u32(test_support::word(&words[..], here), by);
+        let sum = test_support::word(&words[..], here).wrapping_add(by);
         test_support::put(words, here, sum);
     }
 }

@@ -2,7 +2,7 @@
 use Prim.Native.Nat.{ℕ, ◌+◌, ◌-◌, ◌*◌, ◌/◌, ◌≤◌, ◌<◌}
 use native.Mathlib.Omega.{arith}
 use native.Mathlib.Nat.{le_refl}
-use mathlib.Core.Path.{◌≡◌, refl, ap, ◌∙◌}
+use mathlib.Core.Path.{◌≡◌, ap, ◌∙◌}
 use mathlib.Core.List.{List, [], ◌∷◌, ◌++◌, append_assoc}
 use mathlib.Core.Bool.{Bool, true, false, cond}
 use lib.ListN.{length, take, drop}
@@ -12,7 +12,7 @@ use borrow.Author.Tests.{le-leb, lt-leb, eq-eqb, ne_eqb, eqb-true}
 use Rattle.limits.specs.Sizes.{max_matrix_words}
 use Rattle.conditions.specs.Tests.{◌and◌}
 use Rattle.conditions.proofs.Tests.{refuted, and_left, and_right}
-use Rattle.answers.specs.declared.Answer.{Answer}
+use Rattle.answers.specs.Answers.{Answer}
 use Rattle.answers.specs.Refusals.{accepted, refused, insufficient_space, invalid_file}
 use Rattle.words.specs.Words.{part, overwrite}
 use Rattle.matrix.specs.Layout.{size, entries}
@@ -87,11 +87,6 @@ too_long b w l =
     let v = size_most h (and_left _ (eqb n (size h * 4)) t) in
     let e : n ≡ size h * 4 = eqb-true _ _ (and_right (valid h) _ t) in
     omega arith))
-
--- no words have the new form, which is none
-pub no_form : (h : List ℕ) → length h ≡ 0 → false ≡ old_form h
-no_form [] e = refl
-no_form (x ∷ h) e = absurd (omega arith)
 
 -- what is taken of an old file, and of a new one
 module _ (b w : List ℕ) (x : Answer) (w' : List ℕ) where

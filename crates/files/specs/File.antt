@@ -4,7 +4,7 @@
 use Rattle.std.specs.Prelude.{ℕ, ◌+◌, ◌*◌, ◌≡◌, refl, List, ◌∷◌, ◌++◌, Bool, cond, length, drop, leb, eqb}
 use Rattle.limits.specs.Sizes.{max_matrix_words}
 use Rattle.conditions.specs.Tests.{◌and◌}
-use Rattle.answers.specs.declared.Answer.{Answer}
+use Rattle.answers.specs.Answers.{Answer}
 use Rattle.answers.specs.Refusals.{
   accepted,
   refused,

@@ -139,7 +139,12 @@ fn check_first(rt: &impl Print, words: &[u32], n: u32) -> io::Result<()> {
     if end <= words.len() {
         let answer = matrix::check(&words[..end]);
         test_support::print_number(rt, n)?;
-        test_support::print_pair(rt, b" words: ", answer.code, answer.entries)?;
+        test_support::print_pair(
+            rt,
+            b" words: ",
+            test_support::code(answer),
+            test_support::value(answer),
+        )?;
     }
     Ok(())
 }
@@ -164,7 +169,13 @@ fn check_with(rt: &impl Print, words: &mut [u32], place: u32, word: u32) -> io::
         words[at] = word;
         let answer = matrix::check(words);
         words[at] = old;
-        print_change(rt, place, word, answer.code, answer.entries)?;
+        print_change(
+            rt,
+            place,
+            word,
+            test_support::code(answer),
+            test_support::value(answer),
+        )?;
     }
     Ok(())
 }
@@ -184,8 +195,14 @@ fn reads(rt: &impl Print, words: &[u32], cases: &[u32]) -> io::Result<()> {
 
 fn read(rt: &impl Print, words: &[u32], i: u32, j: u32) -> io::Result<()> {
     let answer = cells::read_cell(words, i, j);
-    print_cell(rt, i, j, answer.code, answer.present, answer.value)?;
-    test_support::print_word(rt, b" at position", answer.position)
+    print_cell(
+        rt,
+        i,
+        j,
+        test_support::code(answer),
+        test_support::cell_value(answer),
+    )?;
+    test_support::print_word(rt, b" at position", test_support::cell_position(answer))
 }
 
 // Makes an empty matrix for each three of a length, rows and columns.
@@ -206,7 +223,14 @@ fn create_first(rt: &impl Print, buffer: &mut [u32], n: u32, r: u32, c: u32) -> 
     let end = n as usize;
     if end <= buffer.len() {
         let answer = create::new_empty(&mut buffer[..end], r, c);
-        print_created(rt, n, r, c, answer.code, answer.entries)?;
+        print_created(
+            rt,
+            n,
+            r,
+            c,
+            test_support::code(answer),
+            test_support::value(answer),
+        )?;
     }
     Ok(())
 }
@@ -229,25 +253,19 @@ fn views<'a>(rt: &impl Print, first: &'a [u32], second: &'a [u32]) -> io::Result
     Ok(())
 }
 
-fn print_cell(
-    rt: &impl Print,
-    i: u32,
-    j: u32,
-    code: u32,
-    present: bool,
-    value: u32,
-) -> io::Result<()> {
+fn print_cell(rt: &impl Print, i: u32, j: u32, code: u32, value: Option<u32>) -> io::Result<()> {
     rt.write_all(b"cell ")?;
     test_support::print_number(rt, i)?;
     rt.write_all(b" ")?;
     test_support::print_number(rt, j)?;
     rt.write_all(b": ")?;
     test_support::print_number(rt, code)?;
-    if present {
-        rt.write_all(b" present: ")?;
-        test_support::print_number(rt, value)
-    } else {
-        rt.write_all(b" absent")
+    match value {
+        Some(value) => {
+            rt.write_all(b" present: ")?;
+            test_support::print_number(rt, value)
+        }
+        None => rt.write_all(b" absent"),
     }
 }
 

@@ -5,6 +5,10 @@ use native.Mathlib.Omega.{arith}
 use mathlib.Core.Path.{◌≡◌, refl, sym, ap, subst, ◌∙◌}
 use mathlib.Core.List.{List, ◌∷◌}
 use lib.ListN.{length, get_or, drop}
+use Rattle.std.specs.Prelude.{Result, Ok, Err}
+use Rattle.answers.specs.declared.Refusal.{Refusal}
+use Rattle.answers.specs.Results.{number}
+use Rattle.answers.proofs.Numbers.{number_not_0}
 use Rattle.operators.specs.declared.BinaryOp.{BinaryOp}
 use Rattle.operators.specs.declared.Monoid.{Monoid}
 use Rattle.grid.specs.Grid.{Grid}
@@ -34,8 +38,6 @@ use Rattle.formula_texts.proofs.Once.{tail_same, apart_not}
 use Rattle.formula_texts.proofs.Joined.{at_byte}
 use Rattle.formula_values.specs.Values.{Failure, Value, worth, fails, value_code, step, sum_of, product_of}
 use Rattle.formula_values.proofs.Failures.{onto_failure, term_onto_failure}
-use Rattle.formula_evaluation.specs.declared.Evaluated.{Evaluated}
-use Rattle.formula_evaluation.specs.declared.Evaluated.TheVariants.{Ends, Missing, Refused}
 use Rattle.formula_evaluation.specs.Evaluating.{
   slot_worth,
   formula_worth,
@@ -51,7 +53,7 @@ use Rattle.formula_evaluation.specs.Evaluating.{
   more_onto,
   Standing,
   Worked,
-  Result,
+  ResultOf,
   Ahead,
   Evaluates,
   Continues,
@@ -149,10 +151,9 @@ failed k (worth g) e n = absurd (n e)
 failed k (fails x) e n = (x, refl)
 
 -- ahead of p is ahead of what comes before p
-pub ahead_from : (at p n : ℕ) (o : Evaluated) → at ≤ p → Ahead p n o → Ahead at n o
-ahead_from at p n (Ends q) h a = (omega (arith, a.0), a.1)
-ahead_from at p n Missing h a = tt
-ahead_from at p n (Refused k) h a = tt
+pub ahead_from : (at p n : ℕ) (o : Result ℕ Refusal) → at ≤ p → Ahead p n o → Ahead at n o
+ahead_from at p n (Ok q) h a = (omega (arith, a.0), a.1)
+ahead_from at p n (Err why) h a = tt
 
 module _ {T P : Type 0} {b : ℕ} {In : T → ℕ → Type 0} {In' : P → ℕ → Type 0} {Stops Stops' : List ℕ → Type 0}
     {bytes : T → List ℕ → List ℕ} {bytes' : P → List ℕ → List ℕ} {worthOf : T → Value} {onto : T → Value → Value}
@@ -160,54 +161,43 @@ module _ {T P : Type 0} {b : ℕ} {In : T → ℕ → Type 0} {In' : P → ℕ �
     (text : List ℕ) (at d : ℕ) where
   -- ---- a whole phrase: its first part, and what follows
   -- no first part, or it fails: so does the whole
-  pub whole_fails : (w w' : List ℕ) (o : Evaluated) → ((q : ℕ) → o ≡ Ends q → ⊥)
-      → Evaluates In' Stops' bytes' worth' text at d w o → Evaluates In Stops bytes worthOf text at d w' o
-  whole_fails w w' (Ends q) n e = absurd (n q refl)
-  whole_fails w w' Missing n e = record { ahead = tt; some_grid = tt; result = go }
+  pub whole_fails : (w w' : List ℕ) (why : Refusal) → Evaluates In' Stops' bytes' worth' text at d w (Err why)
+      → Evaluates In Stops bytes worthOf text at d w' (Err why)
+  whole_fails w w' why e = record { ahead = tt; some_grid = tt; result = go }
     where
-      go : (t : T) (r : List ℕ) → In t d → Stops r → drop at text ≡ bytes t r → ⊥
-      go t r i h z =
-          let p = C.parts t in
-          e.result p.first (more_before b bytes p.others r) (p.within d i).0 (C.stops p.others r h)
-          (z ∙ p.bytes_are r)
-  whole_fails w w' (Refused k) n e = record { ahead = tt; some_grid = tt; result = go }
-    where
-      go : (t : T) (r : List ℕ) → In t d → Stops r → drop at text ≡ bytes t r → Result (worthOf t) text r w' (Refused k)
+      go : (t : T) (r : List ℕ) → In t d → Stops r → drop at text ≡ bytes t r → number why ≡ value_code (worthOf t)
       go t r i h z =
           let p = C.parts t in
           let x =
           e.result p.first (more_before b bytes p.others r) (p.within d i).0 (C.stops p.others r h)
           (z ∙ p.bytes_are r) in
-          let f = failed k (worth' p.first) x.0 x.1 in
+          let f = failed (number why) (worth' p.first) x (number_not_0 why) in
           let u : worthOf t ≡ fails f.0 =
           p.worth_is ∙ ap (more_onto onto p.others) f.1 ∙ C.failing p.others f.0 in
-          (x.0 ∙ ap value_code (f.1 ∙ sym u), x.1)
+          x ∙ ap value_code (f.1 ∙ sym u)
 
   -- the first part ends at p: what follows decides
-  pub whole_goes_on : (w w' : List ℕ) (o o' : Evaluated) (p : ℕ) → o ≡ Ends p
-      → Evaluates In' Stops' bytes' worth' text at d w o → Continues b In Stops bytes onto text p d w w' o'
-      → Evaluates In Stops bytes worthOf text at d w' o'
-  whole_goes_on w w' o o' q z e c =
-      let f : Evaluates In' Stops' bytes' worth' text at d w (Ends q) =
-      subst (λ (x : Evaluated). Evaluates In' Stops' bytes' worth' text at d w x) z e in
-      record {
-        ahead = ahead_from at q (length text) o' f.ahead.0 c.ahead;
-        some_grid = c.some_grid;
-        result = λ t r i h y.
-            let p = C.parts t in
-            let k =
-            f.result p.first (more_before b bytes p.others r) (p.within d i).0 (C.stops p.others r h)
-            (y ∙ p.bytes_are r) in
-            let u : worthOf t ≡ more_onto onto p.others (worth k.grid) =
-            p.worth_is ∙ ap (more_onto onto p.others) k.value_is in
-            subst (λ (v : Value). Result v text r w' o') (sym u)
-            (c.result k.grid k.standing p.others r (p.within d i).1 h k.rest);
-      }
+  pub whole_goes_on : (w w' : List ℕ) (o : Result ℕ Refusal) (q : ℕ)
+      → Evaluates In' Stops' bytes' worth' text at d w (Ok q) → Continues b In Stops bytes onto text q d w w' o
+      → Evaluates In Stops bytes worthOf text at d w' o
+  whole_goes_on w w' o q f c = record {
+    ahead = ahead_from at q (length text) o f.ahead.0 c.ahead;
+    some_grid = c.some_grid;
+    result = λ t r i h y.
+        let p = C.parts t in
+        let k =
+        f.result p.first (more_before b bytes p.others r) (p.within d i).0 (C.stops p.others r h)
+        (y ∙ p.bytes_are r) in
+        let u : worthOf t ≡ more_onto onto p.others (worth k.grid) =
+        p.worth_is ∙ ap (more_onto onto p.others) k.value_is in
+        subst (λ (v : Value). ResultOf v text r w' o) (sym u)
+        (c.result k.grid k.standing p.others r (p.within d i).1 h k.rest);
+  }
 
   -- ---- what follows a first part
   -- the joining byte does not follow: nothing does
   pub nothing_follows : (w : List ℕ) → at ≤ length text → (g : Grid) × Standing g w → Apart b (drop at text)
-      → Continues b In Stops bytes onto text at d w w (Ends at)
+      → Continues b In Stops bytes onto text at d w w (Ok at)
   nothing_follows w l k a = record { ahead = (omega arith, l); some_grid = k; result = go }
     where
       go : (g : Grid) → Standing g w → (m : More T) (r : List ℕ) → MoreWithin In m d → Stops r
@@ -242,44 +232,31 @@ module _ {T P : Type 0} {b : ℕ} {In : T → ℕ → Type 0} {In' : P → ℕ �
         }
 
     -- it is missing, or fails
-    pub next_fails : (w y w' : List ℕ) (o : Evaluated) → ((q : ℕ) → o ≡ Ends q → ⊥)
-        → Evaluates In' Stops' bytes' worth' text (at + 1) d y o → Continues b In Stops bytes onto text at d w w' o
-    next_fails w y w' (Ends q) n e = absurd (n q refl)
-    next_fails w y w' Missing n e = record { ahead = tt; some_grid = tt; result = go }
+    pub next_fails : (w y w' : List ℕ) (why : Refusal) → Evaluates In' Stops' bytes' worth' text (at + 1) d y (Err why)
+        → Continues b In Stops bytes onto text at d w w' (Err why)
+    next_fails w y w' why e = record { ahead = tt; some_grid = tt; result = go }
       where
         go : (g : Grid) → Standing g w → (m : More T) (r : List ℕ) → MoreWithin In m d → Stops r
-            → drop at text ≡ more_before b bytes m r → ⊥
-        go g s m r i h z =
-            let p = next g m r i h z in
-            e.result p.phrase (more_before b bytes p.others r) p.within.0 (C.stops p.others r h)
-            p.bytes_are
-    next_fails w y w' (Refused k) n e = record { ahead = tt; some_grid = tt; result = go }
-      where
-        go : (g : Grid) → Standing g w → (m : More T) (r : List ℕ) → MoreWithin In m d → Stops r
-            → drop at text ≡ more_before b bytes m r → Result (more_onto onto m (worth g)) text r w' (Refused k)
+            → drop at text ≡ more_before b bytes m r → number why ≡ value_code (more_onto onto m (worth g))
         go g s m r i h z =
             let p = next g m r i h z in
             let u =
             e.result p.phrase (more_before b bytes p.others r) p.within.0 (C.stops p.others r h)
             p.bytes_are in
-            let f = failed k (worth' p.phrase) u.0 u.1 in
+            let f = failed (number why) (worth' p.phrase) u (number_not_0 why) in
             let v : more_onto onto m (worth g) ≡ fails f.0 =
             p.value_is (worth g)
             ∙ ap (λ (c : Value). more_onto onto p.others (step op (worth g) c)) f.1
             ∙ C.failing p.others f.0 in
-            (u.0 ∙ ap value_code (f.1 ∙ sym v), u.1)
+            u ∙ ap value_code (f.1 ∙ sym v)
 
     -- it ends at q, and its grid stands in the words y behind the first region
-    module _ (w y : List ℕ) (o : Evaluated) (q : ℕ) (z : o ≡ Ends q)
-        (e : Evaluates In' Stops' bytes' worth' text (at + 1) d y o) where
-      found : Evaluates In' Stops' bytes' worth' text (at + 1) d y (Ends q)
-      found = subst (λ (c : Evaluated). Evaluates In' Stops' bytes' worth' text (at + 1) d y c) z e
-
+    module _ (w y : List ℕ) (q : ℕ) (found : Evaluates In' Stops' bytes' worth' text (at + 1) d y (Ok q)) where
       -- the step fails
-      pub step_fails : (w' : List ℕ) (k : ℕ) → (k ≡ 0 → ⊥)
-          → ((g h : Grid) → Standing g w → Standing h y → k ≡ value_code (step op (worth g) (worth h)))
-          → Continues b In Stops bytes onto text at d w w' (Refused k)
-      step_fails w' k n code = record {
+      pub step_fails : (w' : List ℕ) (why : Refusal)
+          → ((g h : Grid) → Standing g w → Standing h y → number why ≡ value_code (step op (worth g) (worth h)))
+          → Continues b In Stops bytes onto text at d w w' (Err why)
+      step_fails w' why code = record {
         ahead = tt;
         some_grid = tt;
         result = λ g s m r i h c.
@@ -288,16 +265,16 @@ module _ {T P : Type 0} {b : ℕ} {In : T → ℕ → Type 0} {In' : P → ℕ �
             found.result p.phrase (more_before b bytes p.others r) p.within.0 (C.stops p.others r h)
             p.bytes_are in
             let a = code g u.grid s u.standing in
-            let f = failed k (step op (worth g) (worth u.grid)) a n in
+            let f = failed (number why) (step op (worth g) (worth u.grid)) a (number_not_0 why) in
             let v : more_onto onto m (worth g) ≡ fails f.0 =
             p.value_is (worth g)
             ∙ ap (λ (x : Value). more_onto onto p.others (step op (worth g) x)) u.value_is
             ∙ ap (more_onto onto p.others) f.1 ∙ C.failing p.others f.0 in
-            (a ∙ ap value_code (f.1 ∙ sym v), n);
+            a ∙ ap value_code (f.1 ∙ sym v);
       }
 
       -- it is done, and what follows decides
-      pub step_goes_on : (w₂ w' : List ℕ) (o' : Evaluated)
+      pub step_goes_on : (w₂ w' : List ℕ) (o' : Result ℕ Refusal)
           → ((g h : Grid) → Standing g w → Standing h y
           → (t : Grid) × (step op (worth g) (worth h) ≡ worth t) × Standing t w₂)
           → Continues b In Stops bytes onto text q d w₂ w' o' → Continues b In Stops bytes onto text at d w w' o'
@@ -314,6 +291,6 @@ module _ {T P : Type 0} {b : ℕ} {In : T → ℕ → Type 0} {In' : P → ℕ �
             p.value_is (worth g)
             ∙ ap (λ (x : Value). more_onto onto p.others (step op (worth g) x)) u.value_is
             ∙ ap (more_onto onto p.others) a.1 in
-            subst (λ (x : Value). Result x text r w' o') (sym v)
+            subst (λ (x : Value). ResultOf x text r w' o') (sym v)
             (c.result a.0 a.2 p.others r p.within.1 h u.rest);
       }

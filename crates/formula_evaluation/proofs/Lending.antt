@@ -1,16 +1,11 @@
 -- What a function that works out a phrase lends on, and what it learns of the answer.
 use Prim.Native.Nat.{ℕ, ◌+◌, ◌-◌, ◌≤◌, ◌<◌}
 use native.Mathlib.Omega.{arith}
-use mathlib.Core.Path.{◌≡◌, refl, sym, ap, subst, ◌∙◌}
-use mathlib.Core.Logic.{⊎_elim}
-use mathlib.Core.Bool.{Bool, true, false, false≢true}
-use mathlib.Core.List.{List, [], ◌∷◌, ◌++◌, append-nil}
-use lib.ListN.{length, get_or, drop}
+use mathlib.Core.Path.{◌≡◌, refl, sym, ap, ◌∙◌}
+use mathlib.Core.List.{List, ◌++◌, append-nil}
+use lib.ListN.{length, drop}
 use lib.Seq.{drop-length}
 use borrow.Author.Tests.{ne_eqb}
-use types.Run.{OneOf}
-use borrow.Enum.Refused.{Among, opened}
-use denote.Enum.Declared.{tag_of}
 use Rattle.grid.specs.Grid.{Grid}
 use Rattle.matrix.specs.Layout.{revision, grid_of, max_matrix_words}
 use Rattle.matrix.specs.HeaderWords.{with_revision}
@@ -20,34 +15,9 @@ use Rattle.encoding.proofs.Canonical.{valid_encoded, valid_within, encode_length
 use Rattle.words.specs.Words.{overwrite}
 use Rattle.slots.specs.Sections.{slot_at}
 use Rattle.slots.specs.Facts.{Held}
-use Rattle.formula_texts.specs.Reading.{Apart, Stands}
-use Rattle.formula_values.specs.Values.{Value, worth}
-use Rattle.formula_evaluation.specs.declared.Evaluated.{Evaluated}
-use Rattle.formula_evaluation.specs.contracts.Evaluated.{the_type}
-use Rattle.formula_evaluation.specs.declared.Evaluated.TheVariants.{Ends, Missing, Refused}
-use Rattle.formula_evaluation.specs.Evaluating.{slot_worth, Standing, Lent, LentOn, Evaluates}
+use Rattle.formula_values.specs.Values.{worth}
+use Rattle.formula_evaluation.specs.Evaluating.{slot_worth, Standing, Lent, LentOn}
 use Rattle.formula_evaluation.proofs.Standing.{behind, behind_length, size_most, copied_standing}
-
--- an answer that is passed on ends nowhere
-apart_from_ends : (o : Evaluated) → OneOf (1 ∷ 2 ∷ []) (tag_of the_type o) → (q : ℕ) → o ≡ Ends q → ⊥
-apart_from_ends (Ends p) h q e = ⊎_elim (λ z. omega arith) (λ z. omega arith) h
-apart_from_ends Missing h q e = let z : ◌≡◌ {A = ℕ} 0 1 = cc in omega arith
-apart_from_ends (Refused k) h q e = let z : ◌≡◌ {A = ℕ} 0 1 = cc in omega arith
-
-pub not_ends : (o : Evaluated) → Among (1 ∷ 2 ∷ []) (tag_of the_type o) → (q : ℕ) → o ≡ Ends q → ⊥
-not_ends o h = apart_from_ends o (opened h)
-
--- ---- what `stands` tells
--- the byte is not b
-pub stands_none : (s : List ℕ) (p b : ℕ) (r : Bool) → Stands s p b r → r ≡ false → Apart b (drop p s)
-stands_none s p b true h n = absurd (false≢true (sym n))
-stands_none s p b false h n = h
-
--- it is
-pub stands_some : (s : List ℕ) (p b : ℕ) (r : Bool) → Stands s p b r → r ≡ true
-    → (p < length s) × (get_or s p 0 ≡ b)
-stands_some s p b true h n = h
-stands_some s p b false h n = absurd (false≢true n)
 
 -- ---- what is lent on
 module _ {text : List ℕ} {at d : ℕ} {s w : List ℕ} where
@@ -95,21 +65,6 @@ module _ {text : List ℕ} {at d : ℕ} {s w : List ℕ} where
     lent = record { place = l; room = omega (arith, h.room); store = h.store; held = h.held };
     some_grid = g;
   }
-
--- ---- an answer that ends at p
-module _ {T : Type 0} {In : T → ℕ → Type 0} {Stops : List ℕ → Type 0} {bytes : T → List ℕ → List ℕ}
-    {worthOf : T → Value} {text : List ℕ} {at d : ℕ} {w : List ℕ} {o : Evaluated}
-    (e : Evaluates In Stops bytes worthOf text at d w o) (p : ℕ) (z : o ≡ Ends p) where
-  ended : Evaluates In Stops bytes worthOf text at d w (Ends p)
-  ended = subst (λ (x : Evaluated). Evaluates In Stops bytes worthOf text at d w x) z e
-
-  -- p is within the text
-  pub ended_ahead : (at ≤ p) × (p ≤ length text)
-  ended_ahead = ended.ahead
-
-  -- and a grid stands at the front
-  pub ended_grid : (g : Grid) × Standing g w
-  ended_grid = ended.some_grid
 
 -- ---- a slot's matrix
 -- its words are the writing of its grid

@@ -1,5 +1,26 @@
 -- What the functions that work out a formula leave.
-use Rattle.std.specs.Prelude.{ℕ, ◌+◌, ◌-◌, ◌*◌, ◌≤◌, ◌<◌, ◌≡◌, cond, List, ◌∷◌, length, get_or, take, drop, eqb}
+use Rattle.std.specs.Prelude.{
+  ℕ,
+  ◌+◌,
+  ◌-◌,
+  ◌*◌,
+  ◌≤◌,
+  ◌<◌,
+  ◌≡◌,
+  cond,
+  List,
+  ◌∷◌,
+  length,
+  get_or,
+  take,
+  drop,
+  eqb,
+  Result,
+  Ok,
+  Err,
+}
+use Rattle.answers.specs.declared.Refusal.{Refusal}
+use Rattle.answers.specs.Results.{number}
 use Rattle.operators.specs.declared.BinaryOp.{BinaryOp}
 use Rattle.operators.specs.declared.Monoid.{Monoid}
 use Rattle.grid.specs.Grid.{Grid}
@@ -10,8 +31,6 @@ use Rattle.slots.specs.Facts.{Held, Store}
 use Rattle.formula_texts.specs.Trees.{Formula, Term, Factor}
 use Rattle.formula_texts.specs.Values.{value, value_onto, term_value, term_value_onto, factor_value}
 use Rattle.formula_values.specs.Values.{Value, worth, fails, disagree, value_code, step, sum_of, product_of}
-use Rattle.formula_evaluation.specs.declared.Evaluated.{Evaluated}
-use Rattle.formula_evaluation.specs.declared.Evaluated.TheVariants.{Ends, Missing, Refused}
 
 -- ---- values
 
@@ -87,36 +106,33 @@ pub record Worked (v : Value) (text r : List ℕ) (q : ℕ) (w : List ℕ) : Typ
   pub standing : Standing grid w
   pub rest : drop q text ≡ r
 
--- the answer for a value: the value itself, or its refusal
-abbrev pub Result : Value → List ℕ → List ℕ → List ℕ → Evaluated → Type 0
-Result v text r w (Ends q) = Worked v text r q w
-Result v text r w Missing = ⊥
-Result v text r w (Refused k) = (k ≡ value_code v) × (k ≡ 0 → ⊥)
+-- the result for a value: the value itself, or its refusal. So it is not InvalidFormula, whose 14 is no value's code.
+abbrev pub ResultOf : Value → List ℕ → List ℕ → List ℕ → Result ℕ Refusal → Type 0
+ResultOf v text r w (Ok q) = Worked v text r q w
+ResultOf v text r w (Err e) = number e ≡ value_code v
 
 -- a phrase ends further on, within the text
-abbrev pub Ahead : ℕ → ℕ → Evaluated → Type 0
-Ahead at n (Ends q) = (at ≤ q) × (q ≤ n)
-Ahead at n Missing = Unit {0}
-Ahead at n (Refused k) = Unit {0}
+abbrev pub Ahead : ℕ → ℕ → Result ℕ Refusal → Type 0
+Ahead at n (Ok q) = (at ≤ q) × (q ≤ n)
+Ahead at n (Err e) = Unit {0}
 
 -- where a phrase ends, some grid stands at the front
-abbrev pub SomeGrid : List ℕ → Evaluated → Type 0
-SomeGrid w (Ends q) = (g : Grid) × Standing g w
-SomeGrid w Missing = Unit {0}
-SomeGrid w (Refused k) = Unit {0}
+abbrev pub SomeGrid : List ℕ → Result ℕ Refusal → Type 0
+SomeGrid w (Ok q) = (g : Grid) × Standing g w
+SomeGrid w (Err e) = Unit {0}
 
 -- where a phrase that cannot go on stands in the text, the answer is of its value
 pub record Evaluates {T : Type 0} (In : T → ℕ → Type 0) (Stops : List ℕ → Type 0) (bytes : T → List ℕ → List ℕ)
-    (worthOf : T → Value) (text : List ℕ) (at d : ℕ) (w : List ℕ) (o : Evaluated) : Type 0 where
+    (worthOf : T → Value) (text : List ℕ) (at d : ℕ) (w : List ℕ) (o : Result ℕ Refusal) : Type 0 where
   pub ahead : Ahead at (length text) o
   pub some_grid : SomeGrid w o
-  pub result : (t : T) (r : List ℕ) → In t d → Stops r → drop at text ≡ bytes t r → Result (worthOf t) text r w o
+  pub result : (t : T) (r : List ℕ) → In t d → Stops r → drop at text ≡ bytes t r → ResultOf (worthOf t) text r w o
 
 -- the same where a grid stands at the front, and what follows is joined on to it
 pub record Continues {T : Type 0} (b : ℕ) (In : T → ℕ → Type 0) (Stops : List ℕ → Type 0)
     (bytes : T → List ℕ → List ℕ) (onto : T → Value → Value) (text : List ℕ) (at d : ℕ) (w₀ w : List ℕ)
-    (o : Evaluated) : Type 0 where
+    (o : Result ℕ Refusal) : Type 0 where
   pub ahead : Ahead at (length text) o
   pub some_grid : SomeGrid w o
   pub result : (g : Grid) → Standing g w₀ → (m : More T) (r : List ℕ) → MoreWithin In m d → Stops r
-      → drop at text ≡ more_before b bytes m r → Result (more_onto onto m (worth g)) text r w o
+      → drop at text ≡ more_before b bytes m r → ResultOf (more_onto onto m (worth g)) text r w o

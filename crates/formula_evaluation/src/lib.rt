@@ -15,21 +15,14 @@ ghost use Rattle.formula_texts.specs.Reading.{before, term_before, factor_before
 ghost use Rattle.formula_evaluation.specs.Evaluating.{formula_worth, formula_onto, term_worth, term_onto};
 ghost use Rattle.formula_evaluation.specs.Evaluating.{factor_worth, Standing, Lent, LentOn, Evaluates, Continues};
 
+use answers::Refusal;
 use formula_steps::SECOND_AT;
 use formula_texts::{CLOSE, FIRST_DIGIT, LAST_DIGIT, OPEN, PLUS, TIMES};
 use operations::Operation;
 use operators::{BinaryOp, Monoid};
 
-// Where a phrase ends, whose value is at the front of the words; that there is none; or the refusal of the first
-// failing step.
-#[derive(Clone, Copy)]
-pub enum Evaluated {
-    Ends(usize),
-    Missing,
-    Refused(u32),
-}
-
-// A formula: its first term, and those that are added.
+// A formula: its first term, and those that are added. Where it ends, with its value at the front of the words;
+// InvalidFormula where there is none; or the refusal of the first failing step.
 #[cycle(factor_formula_more_factors_more_terms_term)]
 pub fn formula(
     monoid: Monoid,
@@ -39,15 +32,12 @@ pub fn formula(
     allowance: u32,
     store: &[u32],
     stack: &mut [u32],
-) -> Evaluated
+) -> Result<usize, Refusal>
     requires { Lent 4 text.now at allowance store.now stack.old }
     ensures { Evaluates Within FormulaStops before (formula_worth monoid op store.now)
         text.now at allowance stack.new result }
 {
-    let first = term(monoid, op, text, at, allowance, store, stack);
-    let Evaluated::Ends(p) = first else {
-        return first;
-    };
+    let p = term(monoid, op, text, at, allowance, store, stack)?;
     more_terms(monoid, op, text, p, allowance, store, stack)
 }
 
@@ -61,33 +51,29 @@ fn more_terms(
     allowance: u32,
     store: &[u32],
     stack: &mut [u32],
-) -> Evaluated
+) -> Result<usize, Refusal>
     requires { LentOn 4 text.now at allowance store.now stack.old }
     ensures { Continues 43 Within FormulaStops before (formula_onto monoid op store.now)
         text.now at allowance stack.old stack.new result }
 {
-    if !formula_texts::stands(text, at, PLUS) {
-        return Evaluated::Ends(at);
+    if formula_texts::stands(text, at, PLUS) {
+        let p = term(
+            monoid,
+            op,
+            text,
+            at + 1,
+            allowance,
+            store,
+            &mut stack[SECOND_AT..],
+        )?;
+        formula_steps::step(Operation::EwiseAdd(operators::monoid_op(monoid)), stack)?;
+        more_terms(monoid, op, text, p, allowance, store, stack)
+    } else {
+        Ok(at)
     }
-    let next = term(
-        monoid,
-        op,
-        text,
-        at + 1,
-        allowance,
-        store,
-        &mut stack[SECOND_AT..],
-    );
-    let Evaluated::Ends(p) = next else {
-        return next;
-    };
-    let code = formula_steps::step(Operation::EwiseAdd(operators::monoid_op(monoid)), stack);
-    if code != 0 {
-        return Evaluated::Refused(code);
-    }
-    more_terms(monoid, op, text, p, allowance, store, stack)
 }
 
+// Kept: two pairs of functions, for formulas and for terms, since their clauses speak of different trees.
 // A term: its first factor, and those that it is multiplied by.
 #[cycle(factor_formula_more_factors_more_terms_term)]
 fn term(
@@ -98,15 +84,12 @@ fn term(
     allowance: u32,
     store: &[u32],
     stack: &mut [u32],
-) -> Evaluated
+) -> Result<usize, Refusal>
     requires { Lent 3 text.now at allowance store.now stack.old }
     ensures { Evaluates TermWithin TermStops term_before (term_worth monoid op store.now)
         text.now at allowance stack.new result }
 {
-    let first = factor(monoid, op, text, at, allowance, store, stack);
-    let Evaluated::Ends(p) = first else {
-        return first;
-    };
+    let p = factor(monoid, op, text, at, allowance, store, stack)?;
     more_factors(monoid, op, text, p, allowance, store, stack)
 }
 
@@ -120,31 +103,26 @@ fn more_factors(
     allowance: u32,
     store: &[u32],
     stack: &mut [u32],
-) -> Evaluated
+) -> Result<usize, Refusal>
     requires { LentOn 3 text.now at allowance store.now stack.old }
     ensures { Continues 42 TermWithin TermStops term_before (term_onto monoid op store.now)
         text.now at allowance stack.old stack.new result }
 {
-    if !formula_texts::stands(text, at, TIMES) {
-        return Evaluated::Ends(at);
+    if formula_texts::stands(text, at, TIMES) {
+        let p = factor(
+            monoid,
+            op,
+            text,
+            at + 1,
+            allowance,
+            store,
+            &mut stack[SECOND_AT..],
+        )?;
+        formula_steps::step(Operation::Mxm(monoid, op), stack)?;
+        more_factors(monoid, op, text, p, allowance, store, stack)
+    } else {
+        Ok(at)
     }
-    let next = factor(
-        monoid,
-        op,
-        text,
-        at + 1,
-        allowance,
-        store,
-        &mut stack[SECOND_AT..],
-    );
-    let Evaluated::Ends(p) = next else {
-        return next;
-    };
-    let code = formula_steps::step(Operation::Mxm(monoid, op), stack);
-    if code != 0 {
-        return Evaluated::Refused(code);
-    }
-    more_factors(monoid, op, text, p, allowance, store, stack)
 }
 
 // A factor: the matrix of a slot, or a formula in brackets.
@@ -157,44 +135,38 @@ fn factor(
     allowance: u32,
     store: &[u32],
     stack: &mut [u32],
-) -> Evaluated
+) -> Result<usize, Refusal>
     requires { Lent 2 text.now at allowance store.now stack.old }
     ensures { Evaluates FactorWithin FactorStops factor_before (factor_worth monoid op store.now)
         text.now at allowance stack.new result }
 {
-    if text.len() <= at {
-        return Evaluated::Missing;
-    }
-    let x = text[at];
+    let Some(&x) = text.get(at) else {
+        return Err(Refusal::InvalidFormula);
+    };
     if x == OPEN {
         if allowance == 0 {
-            return Evaluated::Missing;
+            return Err(Refusal::InvalidFormula);
         }
-        let inner = formula(monoid, op, text, at + 1, allowance - 1, store, stack);
-        let Evaluated::Ends(p) = inner else {
-            return inner;
+        let p = formula(monoid, op, text, at + 1, allowance - 1, store, stack)?;
+        return if formula_texts::stands(text, p, CLOSE) {
+            Ok(p + 1)
+        } else {
+            Err(Refusal::InvalidFormula)
         };
-        if formula_texts::stands(text, p, CLOSE) {
-            return Evaluated::Ends(p + 1);
-        }
-        return Evaluated::Missing;
     }
-    if x < FIRST_DIGIT {
-        return Evaluated::Missing;
+    if !(FIRST_DIGIT..=LAST_DIGIT).contains(&x) {
+        return Err(Refusal::InvalidFormula);
     }
-    if LAST_DIGIT < x {
-        return Evaluated::Missing;
-    }
-    load(store, (x - FIRST_DIGIT) as usize, stack);
-    Evaluated::Ends(at + 1)
+    load(store, usize::from(x - FIRST_DIGIT), stack);
+    Ok(at + 1)
 }
 
 // The matrix of a slot, at the front, with the revision 0 as what is made has it.
 fn load(store: &[u32], slot: usize, stack: &mut [u32])
-    requires fact_1 { Store store.now }
-    requires fact_2 { slot < slot_count }
-    requires fact_3 { Held (slot_at store.now slot) }
-    requires fact_4 { max_matrix_words ≤ length stack.old }
+    requires store { Store store.now }
+    requires slot { slot < slot_count }
+    requires held { Held (slot_at store.now slot) }
+    requires room { max_matrix_words ≤ length stack.old }
     ensures { Standing (grid_of (slot_at store.now slot)) stack.new }
 {
     words::copy_into(stack, 0, slots::contents(store, slot));

@@ -2,7 +2,7 @@
 use Prim.Native.Nat.{ℕ, ◌+◌, ◌-◌, ◌*◌, ◌≤◌, ◌<◌}
 use native.Mathlib.Omega.{arith}
 use mathlib.Core.Path.{◌≡◌, refl, sym, ap, subst, ◌∙◌}
-use mathlib.Core.Bool.{true, false, false≢true}
+use mathlib.Core.Bool.{false≢true}
 use mathlib.Core.List.{List, [], ◌++◌, append-nil}
 use lib.ListN.{length, take, drop, take-append-drop, length-append, length-drop, length-take}
 use lib.Seq.{length-take-le, take-length, drop-length, drop_at, take-append-le, take-take}
@@ -110,10 +110,6 @@ module _ {op : Operation} {rows i n : ℕ} {w tc tv : List ℕ}
   row_buffers =
       let c = p.ready.col_range.most in
       record { columns = omega (arith, p.columns); values = omega (arith, p.values) }
-
-  -- the number of the next row fits a word
-  pub counter_fits : i < rows → Fits w64 (i + 1)
-  counter_fits l = record { fits = omega (arith, p.rows_are, p.ready.row_range.most) }
 
   -- row i is in tc' and tv', with k entries
   module _ (l : i < rows) {k : ℕ} {tc' tv' : List ℕ} (h : Holds g.cols (g.cell i) k tc' tv') where

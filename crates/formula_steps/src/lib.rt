@@ -5,16 +5,17 @@
 #![tactic(auto)]
 
 ghost use Rattle.std.specs.Prelude.{◌≡◌, [], ◌≤◌, ◌<◌, length};
+ghost use Rattle.answers.specs.Results.{code_of};
 ghost use Rattle.rows.specs.Row.{Holds};
 ghost use Rattle.result_rows.specs.RowInputs.{RowInputs, Buffers};
 ghost use Rattle.operations.specs.GridOperations.{shape_of};
-ghost use Rattle.operations.specs.Calls.{matches, inputs_agree};
+ghost use Rattle.operations.specs.Calls.{inputs_agree};
 ghost use Rattle.matrix.specs.Layout.{grid_of};
 ghost use Rattle.matrix.specs.Facts.{Matrix};
 ghost use Rattle.formula_steps.specs.Steps.{left_words, right_words, Operands, Agreeing, Staging, Advanced};
 ghost use Rattle.formula_steps.specs.Steps.{result_at, area_grid, Gathered, Stepped};
 
-use answers::{INVALID_SHAPE, TOO_MANY_ENTRIES};
+use answers::Refusal;
 use limits::{MAX_ENTRIES, ROW_PLACES};
 use matrix::layout::{FIXED_WORDS, MAX_MATRIX_WORDS};
 use operations::{Needs, Operation, Shape, Shapes};
@@ -25,43 +26,40 @@ pub const SECOND_AT: usize = MAX_MATRIX_WORDS;
 
 const RESULT_AT: usize = 2 * MAX_MATRIX_WORDS;
 
-// The step's refusal, 8 or 10; or 0, and T at the front of the area.
-pub fn step(operation: Operation, area: &mut [u32]) -> u32
+// T at the front of the area; or the step's refusal, 8 or 10.
+pub fn step(operation: Operation, area: &mut [u32]) -> Result<(), Refusal>
     requires { Operands operation area.old }
-    ensures { Stepped operation area.old result area.new }
+    ensures { Stepped operation area.old (code_of result) area.new }
 {
     let first = shape_of(&area[..SECOND_AT]);
     let second = shape_of(&area[SECOND_AT..RESULT_AT]);
     let shapes = Shapes {
-        first: first,
-        second: second,
+        first,
+        second,
         output: first,
         lists: Shape { rows: 0, cols: 0 },
     };
     let needs = operations::needs_of(operation, shapes);
     if !inputs_agree(shapes, needs) {
-        return INVALID_SHAPE;
+        return Err(Refusal::InvalidShape);
     }
-    let result = needs.result;
-    write_result(operation, result, area)
+    write_result(operation, needs.result, area)
 }
 
-// T of operands that agree, whose shape is `result`.
-fn write_result(operation: Operation, res: Shape, area: &mut [u32]) -> u32
+// T of operands that agree, whose shape is `res`.
+fn write_result(operation: Operation, res: Shape, area: &mut [u32]) -> Result<(), Refusal>
     requires { Agreeing operation res area.old }
-    ensures { Stepped operation area.old result area.new }
+    ensures { Stepped operation area.old (code_of result) area.new }
 {
     let mut tc = [0u32; ROW_PLACES];
     let mut tv = [0u32; ROW_PLACES];
-    let rows = res.rows;
-    let n = all_rows(operation, rows, area, &mut tc, &mut tv);
+    let n = all_rows(operation, res.rows, area, &mut tc, &mut tv);
     if (MAX_ENTRIES as usize) < n {
-        return TOO_MANY_ENTRIES;
+        return Err(Refusal::TooManyEntries);
     }
-    let cols = res.cols;
-    results::finish(&mut area[RESULT_AT..], rows, cols, n);
-    words::move_down(area, RESULT_AT, 0, rows + n + n + FIXED_WORDS);
-    0
+    results::finish(&mut area[RESULT_AT..], res.rows, res.cols, n);
+    words::move_down(area, RESULT_AT, 0, res.rows + n + n + FIXED_WORDS);
+    Ok(())
 }
 
 // All rows of T, staged in the third region. The number of entries; where it is too large, that of the rows so far.
@@ -77,14 +75,12 @@ fn all_rows(
     ensures { Gathered operation (left_words area.old) (right_words area.old) result
         area.new }
 {
-    let mut n: usize = 0;
-    let mut i: usize = 0;
-    while i < rows {
+    let mut n = 0;
+    for i in 0..rows {
         n = advance(operation, rows, i, n, area, tc, tv);
         if (MAX_ENTRIES as usize) < n {
             return n;
         }
-        i += 1;
     }
     n
 }
@@ -99,13 +95,13 @@ fn advance(
     tc: &mut [u32],
     tv: &mut [u32],
 ) -> usize
-    requires fact_1 { Staging operation (left_words area.old) (right_words area.old) rows i n area.old tc.old
+    requires staging { Staging operation (left_words area.old) (right_words area.old) rows i n area.old tc.old
         tv.old }
-    requires fact_2 { i < rows }
+    requires row { i < rows }
     ensures { Advanced operation (left_words area.old) (right_words area.old) rows i result
         area.new tc.new tv.new }
 {
-    let m = row_of(operation, &area[..], i, tc, tv);
+    let m = row_of(operation, area, i, tc, tv);
     let next = n + m;
     if (MAX_ENTRIES as usize) < next {
         return next;
@@ -117,8 +113,8 @@ fn advance(
 // Row i of T, left at the front of `tc` and `tv`: its number of entries.
 fn row_of(operation: Operation, area: &[u32], i: usize, tc: &mut [u32], tv: &mut [u32]) -> usize
     requires row_inputs { RowInputs operation (left_words area.now) (right_words area.now) (left_words area.now) [] [] i }
-    requires buffers_1 { Buffers (area_grid operation area.now) tc.old tv.old }
-    requires buffers_2 { result_at ≤ length area.now }
+    requires buffers { Buffers (area_grid operation area.now) tc.old tv.old }
+    requires space { result_at ≤ length area.now }
     ensures { Holds (area_grid operation area.now).cols
         ((area_grid operation area.now).cell i) result tc.new tv.new }
 {
@@ -151,24 +147,5 @@ fn shape_of(words: &[u32]) -> Shape
 fn inputs_agree(shapes: Shapes, needs: Needs) -> bool
     ensures { result ≡ inputs_agree shapes needs }
 {
-    let first = shapes.first;
-    let needed = needs.first;
-    if !same_shape(first, needed) {
-        return false;
-    }
-    let second = shapes.second;
-    let other = needs.second;
-    same_shape(second, other)
-}
-
-// Whether two shapes are one.
-fn same_shape(a: Shape, b: Shape) -> bool
-    ensures { result ≡ matches a b }
-{
-    let rows = a.rows;
-    let other = b.rows;
-    if rows != other {
-        return false;
-    }
-    a.cols == b.cols
+    shapes.first == needs.first && shapes.second == needs.second
 }

@@ -4,8 +4,7 @@ use mathlib.Core.List.{List, [], ◌∷◌}
 use Prim.Native.Nat.{ℕ, zero, suc, ◌+◌, ◌-◌, ◌≤◌, ◌<◌}
 use native.Mathlib.Omega.{arith}
 use lib.ListN.{length, get_or, drop, drop_of_length-le}
-use Rattle.formula_texts.specs.declared.Phrase.{Phrase}
-use Rattle.formula_texts.specs.declared.Phrase.TheVariants.{Ends, Missing}
+use Rattle.std.specs.Prelude.{Some, None}
 use Rattle.formula_texts.specs.Trees.{Formula, Factor, digit, bracketed, Within, FactorWithin}
 use Rattle.formula_texts.specs.Reading.{
   before,
@@ -54,7 +53,7 @@ formula_rest d d' x r q h k u v = (formula_once u.0 v.0 r q h k (sym u.2 ∙ v.2
 -- ---- the answers of `factor`, in the order of the code
 module _ (s : List ℕ) (at d : ℕ) where
   -- past the end
-  pub factor_past : length s ≤ at → Read FactorThen FactorStops s at d Missing
+  pub factor_past : length s ≤ at → Read FactorThen FactorStops s at d None
   factor_past h r u z = some r u.0 (sym (drop_of_length-le s h) ∙ u.2)
 
   module _ (l : at < length s) where
@@ -69,7 +68,7 @@ module _ (s : List ℕ) (at d : ℕ) where
       bracket r u = opened (get_or s at 0) d (drop (at + 1) s) r u.0 u.1 (sym cut ∙ u.2) x
 
       -- no allowance is left
-      pub too_deep : d ≡ 0 → Read FactorThen FactorStops s at d Missing
+      pub too_deep : d ≡ 0 → Read FactorThen FactorStops s at d None
       too_deep h r u z = let b = bracket r u in let e : d ≡ suc b.0 = b.1 in omega arith
 
       -- what follows is a formula and ")"
@@ -83,37 +82,30 @@ module _ (s : List ℕ) (at d : ℕ) where
           less e q = omega arith
 
       -- no formula follows
-      pub no_inner : (o : Phrase) → o ≡ Missing → Read FormulaThen FormulaStops s (at + 1) (d - 1) o
-          → Read FactorThen FactorStops s at d Missing
-      no_inner o e h r u z = h' (41 ∷ r) (inner r u) (closing r)
-        where
-          h' : (r : List ℕ) → FormulaThen (d - 1) (drop (at + 1) s) r → FormulaStops r → ⊥
-          h' = rw e at h
+      pub no_inner : Read FormulaThen FormulaStops s (at + 1) (d - 1) None → Read FactorThen FactorStops s at d None
+      no_inner h r u z = h (41 ∷ r) (inner r u) (closing r)
 
-      module _ (o : Phrase) (p : ℕ) (e : o ≡ Ends p) (h : Read FormulaThen FormulaStops s (at + 1) (d - 1) o) where
-        found : Ended FormulaThen FormulaStops s (at + 1) (d - 1) p
-        found = rw e at h
-
+      module _ (p : ℕ) (found : Ended FormulaThen FormulaStops s (at + 1) (d - 1) p) where
         -- one follows, and no ")"
-        pub unclosed : Apart 41 (drop p s) → Read FactorThen FactorStops s at d Missing
+        pub unclosed : Apart 41 (drop p s) → Read FactorThen FactorStops s at d None
         unclosed a r u z =
             apart_not 41 (drop p s) r a (formula_rest (d - 1) (d - 1) (drop (at + 1) s) (drop p s) (41 ∷ r)
             found.stops (closing r) found.phrase (inner r u))
 
         -- one follows, and ")"
-        pub closed : (d ≡ 0 → ⊥) → p < length s → get_or s p 0 ≡ 41 → Read FactorThen FactorStops s at d (Ends (p + 1))
+        pub closed : (d ≡ 0 → ⊥) → (p < length s) × (get_or s p 0 ≡ 41)
+            → Read FactorThen FactorStops s at d (Some (p + 1))
         unfolding before
-        closed n m y =
-            let f = found in
+        closed n m =
             record {
               phrase =
-                  whole d n f.phrase.0 f.phrase.1
+                  whole d n found.phrase.0 found.phrase.1
                   (cut ∙ ap (λ (c : ℕ). c ∷ drop (at + 1) s) x
-                  ∙ ap (λ (t : List ℕ). 40 ∷ t) (f.phrase.2
-                  ∙ ap (λ (t : List ℕ). before f.phrase.0 t) (at_byte s p 41 m y)));
+                  ∙ ap (λ (t : List ℕ). 40 ∷ t) (found.phrase.2
+                  ∙ ap (λ (t : List ℕ). before found.phrase.0 t) (at_byte s p 41 m.0 m.1)));
               stops = tt;
-              ahead = omega (arith, f.ahead);
-              inside = omega arith;
+              ahead = omega (arith, found.ahead);
+              inside = omega (arith, m.0);
             }
           where
             less : (c : ℕ) → suc c - 1 ≡ c
@@ -127,12 +119,12 @@ module _ (s : List ℕ) (at d : ℕ) where
     -- ---- it is another
     module _ (x : get_or s at 0 ≡ 40 → ⊥) where
       -- no digit 0 to 7
-      pub no_digit : (48 ≤ get_or s at 0 → get_or s at 0 ≤ 55 → ⊥) → Read FactorThen FactorStops s at d Missing
+      pub no_digit : (48 ≤ get_or s at 0 → get_or s at 0 ≤ 55 → ⊥) → Read FactorThen FactorStops s at d None
       no_digit n r u z =
           let b = plain (get_or s at 0) d (drop (at + 1) s) r u.0 u.1 (sym cut ∙ u.2) x in n b.0 b.1
 
       -- a digit 0 to 7
-      pub one_digit : 48 ≤ get_or s at 0 → get_or s at 0 ≤ 55 → Read FactorThen FactorStops s at d (Ends (at + 1))
+      pub one_digit : 48 ≤ get_or s at 0 → get_or s at 0 ≤ 55 → Read FactorThen FactorStops s at d (Some (at + 1))
       unfolding before
       one_digit h k =
           record {

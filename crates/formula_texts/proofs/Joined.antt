@@ -1,13 +1,12 @@
 -- A formula is terms joined by "+", a term is factors joined by "*": the steps of both readings, once.
 use mathlib.Core.Path.{◌≡◌, refl, sym, ap, ◌∙◌}
 use mathlib.Core.List.{List, ◌∷◌}
-use Prim.Native.Nat.{ℕ, ◌+◌, ◌≤◌, ◌<◌}
+use Prim.Native.Nat.{ℕ, ◌+◌, ◌<◌}
 use native.Mathlib.Numerals.{add-one}
 use native.Mathlib.Omega.{arith}
-use lib.ListN.{length, get_or, drop, drop_of_length-le}
+use lib.ListN.{length, get_or, drop}
 use lib.Seq.{drop-cons}
-use Rattle.formula_texts.specs.declared.Phrase.{Phrase}
-use Rattle.formula_texts.specs.declared.Phrase.TheVariants.{Ends, Missing}
+use Rattle.std.specs.Prelude.{Option, Some, None}
 use Rattle.formula_texts.specs.Trees.{Formula, Term, one_term, plus, one_factor, times, Within, TermWithin}
 use Rattle.formula_texts.specs.Reading.{
   before,
@@ -28,14 +27,6 @@ use Rattle.formula_texts.proofs.Once.{tail_same, apart_not, term_once, factor_on
 -- b stands at p
 pub at_byte : (s : List ℕ) (p b : ℕ) → p < length s → get_or s p 0 ≡ b → drop p s ≡ b ∷ drop (p + 1) s
 at_byte s p b h e = drop-cons s p 0 h ∙ rw (e, add-one)
-
--- nothing stands there
-pub past_end : (s : List ℕ) (p b : ℕ) → length s ≤ p → Apart b (drop p s)
-past_end s p b h = rw (drop_of_length-le s h) tt
-
--- another byte stands there
-pub other_byte : (s : List ℕ) (p b : ℕ) → p < length s → (get_or s p 0 ≡ b → ⊥) → Apart b (drop p s)
-other_byte s p b h n = rw (drop-cons s p 0 h) n
 
 -- ---- phrases of one kind are phrases of another kind, joined by b
 -- such a phrase is one of the other kind alone, or that and b and more
@@ -93,52 +84,42 @@ factors = record {
 module _ {Then Then' : ℕ → List ℕ → List ℕ → Type 0} {Stops' : List ℕ → Type 0} {b : ℕ} (J : Joins Then Then' Stops' b)
     (s : List ℕ) (at d : ℕ) where
   -- no first phrase: none at all
-  pub no_first : (o : Phrase) → o ≡ Missing → Read Then' Stops' s at d o
-      → Read Then (λ r. Stops' r × Apart b r) s at d Missing
-  no_first o e h r k z = go (J.split d (drop at s) r k)
+  pub no_first : Read Then' Stops' s at d None → Read Then (λ r. Stops' r × Apart b r) s at d None
+  no_first h r k z = go (J.split d (drop at s) r k)
     where
-      h' : (r : List ℕ) → Then' d (drop at s) r → Stops' r → ⊥
-      h' = rw e at h
-
       go : Splits Then Then' b d (drop at s) r → ⊥
-      go (alone u) = h' r u z.0
-      go (joined y u v) = h' (b ∷ y) u (J.between y)
+      go (alone u) = h r u z.0
+      go (joined y u v) = h (b ∷ y) u (J.between y)
 
-  module _ (o : Phrase) (p : ℕ) (e : o ≡ Ends p) (h : Read Then' Stops' s at d o) where
-    first : Ended Then' Stops' s at d p
-    first = rw e at h
-
+  module _ (p : ℕ) (first : Ended Then' Stops' s at d p) where
     -- b does not follow the first phrase: it is the whole
-    pub first_alone : Apart b (drop p s) → Read Then (λ r. Stops' r × Apart b r) s at d (Ends p)
+    pub first_alone : Apart b (drop p s) → Read Then (λ r. Stops' r × Apart b r) s at d (Some p)
     first_alone a =
         record {
           phrase = J.only d _ _ first.phrase;
           stops = (first.stops, a);
           ahead = first.ahead;
-          inside =
-              first.inside;
+          inside = first.inside;
         }
 
     -- b follows: the rest decides
-    pub first_joined : (o' : Phrase) → p < length s → get_or s p 0 ≡ b
-        → Read Then (λ r. Stops' r × Apart b r) s (p + 1) d o' → Read Then (λ r. Stops' r × Apart b r) s at d o'
-    first_joined (Ends q) l x k =
-        let f = first in
+    pub first_joined : (o : Option ℕ) → (p < length s) × (get_or s p 0 ≡ b)
+        → Read Then (λ r. Stops' r × Apart b r) s (p + 1) d o → Read Then (λ r. Stops' r × Apart b r) s at d o
+    first_joined (Some q) l k =
         record {
-          phrase = J.more d _ _ _ (rw (at_byte s p b l x) at f.phrase) k.phrase;
+          phrase = J.more d _ _ _ (rw (at_byte s p b l.0 l.1) at first.phrase) k.phrase;
           stops = k.stops;
-          ahead = omega (arith, f.ahead, k.ahead);
+          ahead = omega (arith, first.ahead, k.ahead);
           inside = k.inside;
         }
-    first_joined Missing l x k = λ r u z. go r z (J.split d (drop at s) r u)
+    first_joined None l k = λ r u z. go r z (J.split d (drop at s) r u)
       where
         follows : drop p s ≡ b ∷ drop (p + 1) s
-        follows = at_byte s p b l x
+        follows = at_byte s p b l.0 l.1
 
         go : (r : List ℕ) → Stops' r × Apart b r → Splits Then Then' b d (drop at s) r → ⊥
         go r z (alone v) =
-            apart_not b r _ z.1 (J.once d (drop at s) r (drop p s) z.0 first.stops v first.phrase
-            ∙ follows)
+            apart_not b r _ z.1 (J.once d (drop at s) r (drop p s) z.0 first.stops v first.phrase ∙ follows)
         go r z (joined y v w) =
             let same : b ∷ y ≡ drop p s = J.once d (drop at s) (b ∷ y) (drop p s) (J.between y) first.stops v
             first.phrase in

@@ -1,7 +1,23 @@
 -- What the code reads: a phrase at the front of the bytes, and the bytes that follow it.
-use Rattle.std.specs.Prelude.{◌≡◌, Bool, true, false, List, [], ◌∷◌, ℕ, ◌+◌, ◌≤◌, ◌<◌, length, get_or, drop}
-use Rattle.formula_texts.specs.declared.Phrase.{Phrase}
-use Rattle.formula_texts.specs.declared.Phrase.TheVariants.{Ends, Missing}
+use Rattle.std.specs.Prelude.{
+  ◌≡◌,
+  Bool,
+  true,
+  false,
+  Option,
+  Some,
+  None,
+  List,
+  [],
+  ◌∷◌,
+  ℕ,
+  ◌+◌,
+  ◌≤◌,
+  ◌<◌,
+  length,
+  get_or,
+  drop,
+}
 use Rattle.formula_texts.specs.Trees.{
   Formula,
   Term,
@@ -65,9 +81,9 @@ pub record Ended (Then : ℕ → List ℕ → List ℕ → Type 0) (Stops : List
     pub inside : q ≤ length s
 
 -- what the answer says of s from `at` on
-abbrev pub Read : (ℕ → List ℕ → List ℕ → Type 0) → (List ℕ → Type 0) → List ℕ → ℕ → ℕ → Phrase → Type 0
-Read Then Stops s at d (Ends q) = Ended Then Stops s at d q
-Read Then Stops s at d Missing = (r : List ℕ) → Then d (drop at s) r → Stops r → ⊥
+abbrev pub Read : (ℕ → List ℕ → List ℕ → Type 0) → (List ℕ → Type 0) → List ℕ → ℕ → ℕ → Option ℕ → Type 0
+Read Then Stops s at d (Some q) = Ended Then Stops s at d q
+Read Then Stops s at d None = (r : List ℕ) → Then d (drop at s) r → Stops r → ⊥
 
 -- whether the byte at p is b
 abbrev pub Stands : List ℕ → ℕ → ℕ → Bool → Type 0

@@ -15,116 +15,82 @@ pub const MAX_BYTES: usize = 64;
 pub const MAX_BRACKETS: u32 = 3;
 
 // Bytes of a text.
-pub const PLUS: u8 = 43;
+pub const PLUS: u8 = b'+';
 
-pub const TIMES: u8 = 42;
+pub const TIMES: u8 = b'*';
 
-pub const OPEN: u8 = 40;
+pub const OPEN: u8 = b'(';
 
-pub const CLOSE: u8 = 41;
+pub const CLOSE: u8 = b')';
 
-pub const FIRST_DIGIT: u8 = 48;
+pub const FIRST_DIGIT: u8 = b'0';
 
-pub const LAST_DIGIT: u8 = 55;
-
-// Where a phrase ends, or that there is none.
-#[derive(Clone, Copy)]
-pub enum Phrase {
-    Ends(usize),
-    Missing,
-}
+pub const LAST_DIGIT: u8 = b'7';
 
 // Whether the byte at p is b.
 pub fn stands(text: &[u8], p: usize, b: u8) -> bool
     ensures { Stands text.now p b result }
 {
-    if text.len() <= p {
-        return false;
-    }
-    if text[p] == b {
-        return true;
-    }
-    false
+    text.get(p) == Some(&b)
 }
 
-// The formula from `at` on that neither + nor * follows, with no more brackets open than the allowance; or that there is
-// none.
+// Where the formula from `at` on ends that neither + nor * follows, with no more brackets open than the allowance; or
+// that there is none.
 #[cycle(factor_formula_term)]
-pub fn formula(text: &[u8], at: usize, allowance: u32) -> Phrase
+pub fn formula(text: &[u8], at: usize, allowance: u32) -> Option<usize>
     requires { at ≤ length text.now }
     ensures { Read FormulaThen FormulaStops text.now at allowance result }
 {
-    let first = term(text, at, allowance);
-    let Phrase::Ends(p) = first else {
-        return Phrase::Missing;
-    };
+    let p = term(text, at, allowance)?;
     if stands(text, p, PLUS) {
-        return formula(text, p + 1, allowance);
+        formula(text, p + 1, allowance)
+    } else {
+        Some(p)
     }
-    Phrase::Ends(p)
 }
 
-// The term from `at` on that no * follows.
+// Where the term from `at` on ends that no * follows. Kept: apart from `formula`, as its clause speaks of other trees.
 #[cycle(factor_formula_term)]
-pub fn term(text: &[u8], at: usize, allowance: u32) -> Phrase
+pub fn term(text: &[u8], at: usize, allowance: u32) -> Option<usize>
     requires { at ≤ length text.now }
     ensures { Read TermThen TermStops text.now at allowance result }
 {
-    let first = factor(text, at, allowance);
-    let Phrase::Ends(p) = first else {
-        return Phrase::Missing;
-    };
+    let p = factor(text, at, allowance)?;
     if stands(text, p, TIMES) {
-        return term(text, p + 1, allowance);
+        term(text, p + 1, allowance)
+    } else {
+        Some(p)
     }
-    Phrase::Ends(p)
 }
 
-// The factor from `at` on: a digit, or a formula in brackets.
+// Where the factor from `at` on ends: a digit, or a formula in brackets.
 #[cycle(factor_formula_term)]
-pub fn factor(text: &[u8], at: usize, allowance: u32) -> Phrase
+pub fn factor(text: &[u8], at: usize, allowance: u32) -> Option<usize>
     requires { at ≤ length text.now }
     ensures { Read FactorThen FactorStops text.now at allowance result }
 {
-    if text.len() <= at {
-        return Phrase::Missing;
-    }
-    let x = text[at];
+    let x = *text.get(at)?;
     if x == OPEN {
         if allowance == 0 {
-            return Phrase::Missing;
+            return None;
         }
-        let inner = formula(text, at + 1, allowance - 1);
-        let Phrase::Ends(p) = inner else {
-            return Phrase::Missing;
+        let p = formula(text, at + 1, allowance - 1)?;
+        return if stands(text, p, CLOSE) {
+            Some(p + 1)
+        } else {
+            None
         };
-        if stands(text, p, CLOSE) {
-            return Phrase::Ends(p + 1);
-        }
-        return Phrase::Missing;
     }
-    if x < FIRST_DIGIT {
-        return Phrase::Missing;
+    if (FIRST_DIGIT..=LAST_DIGIT).contains(&x) {
+        Some(at + 1)
+    } else {
+        None
     }
-    if LAST_DIGIT < x {
-        return Phrase::Missing;
-    }
-    Phrase::Ends(at + 1)
 }
 
 // Whether the text is a formula of at most 64 bytes with at most three brackets open at once.
 pub fn accepts(text: &[u8]) -> bool
     ensures { Decides (InLanguage text.now) result }
 {
-    if MAX_BYTES < text.len() {
-        return false;
-    }
-    let whole = formula(text, 0, MAX_BRACKETS);
-    let Phrase::Ends(q) = whole else {
-        return false;
-    };
-    if q == text.len() {
-        return true;
-    }
-    false
+    text.len() <= MAX_BYTES && formula(text, 0, MAX_BRACKETS) == Some(text.len())
 }

@@ -1,4 +1,5 @@
 -- How many entries a grid has: fewer where fewer cells are present, none where none is.
+use Rattle.std.proofs.Common.{None, Some}
 use Prim.Native.Nat.{ℕ, zero, suc, ◌≤◌}
 use native.Mathlib.Omega.{arith}
 use native.Mathlib.Nat.{le_refl}
@@ -7,19 +8,18 @@ use mathlib.Core.Bool.{Bool, true, false, cond}
 use mathlib.Core.List.{[]}
 use lib.ListN.{length, length-append}
 use lib.Dec.{eqb}
-use Rattle.grid.specs.declared.Cell.{Cell}
-use Rattle.grid.specs.declared.Cell.TheVariants.{Absent, Present}
+use Rattle.grid.specs.Cell.{Cell}
 use Rattle.grid.specs.Grid.{Grid, empty_grid}
 use Rattle.grid.specs.Entries.{column, one, gather, flatten, entry_count}
 use Rattle.grid.specs.Update.{with_cell}
 
 -- ---- no cell is present
-pub gather_absent : (emit : ℕ → ℕ → ℕ) (n : ℕ) → gather emit n (λ j. Absent) ≡ []
+pub gather_absent : (emit : ℕ → ℕ → ℕ) (n : ℕ) → gather emit n (λ j. None) ≡ []
 unfolding gather one
 gather_absent emit zero = refl
 gather_absent emit (suc n) = rw (gather_absent emit n)
 
-pub flatten_absent : (emit : ℕ → ℕ → ℕ) (n r : ℕ) → flatten emit n (λ i j. Absent) r ≡ []
+pub flatten_absent : (emit : ℕ → ℕ → ℕ) (n r : ℕ) → flatten emit n (λ i j. None) r ≡ []
 unfolding flatten
 flatten_absent emit n zero = refl
 flatten_absent emit n (suc r) = rw (flatten_absent emit n r, gather_absent emit n)
@@ -53,14 +53,14 @@ flatten_fewer n f g (suc r) h =
     omega arith
 
 -- a cell cleared leaves no more entries
-pub cleared_count : (g : Grid) (i j : ℕ) → entry_count (with_cell g i j Absent) ≤ entry_count g
+pub cleared_count : (g : Grid) (i j : ℕ) → entry_count (with_cell g i j None) ≤ entry_count g
 unfolding one
 cleared_count g i j =
     flatten_fewer g.cols _ g.cell g.rows (λ r c. cell (eqb r i) (eqb c j) c (g.cell r c))
   where
     cell : (a b : Bool) (c : ℕ) (x : Cell)
-        → length (one column c (cond a (cond b Absent x) x)) ≤ length (one column c x)
-    cell true true c Absent = omega arith
-    cell true true c (Present v) = omega arith
+        → length (one column c (cond a (cond b None x) x)) ≤ length (one column c x)
+    cell true true c None = omega arith
+    cell true true c (Some v) = omega arith
     cell true false c x = le_refl _
     cell false b c x = le_refl _

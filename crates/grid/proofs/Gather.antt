@@ -1,5 +1,6 @@
 -- Laws of `gather` and `flatten`, the entries of a row and of several rows. Cited where a row or a matrix is written
 -- from its cells.
+use Rattle.std.proofs.Common.{None, Some}
 use Prim.Native.Nat.{ℕ, zero, suc, ◌+◌, ◌-◌, ◌≤◌, ◌<◌}
 use native.Mathlib.Omega.{arith}
 use native.Mathlib.Decide.{dec_lt}
@@ -8,16 +9,15 @@ use native.Mathlib.Numerals.{add-one}
 use mathlib.Core.Path.{◌≡◌, refl, sym, ap}
 use mathlib.Core.List.{List, [], ◌++◌, append-nil, append_assoc}
 use lib.ListN.{length, length-append}
-use Rattle.grid.specs.declared.Cell.{Cell}
-use Rattle.grid.specs.declared.Cell.TheVariants.{Absent, Present}
+use Rattle.grid.specs.Cell.{Cell}
 use Rattle.grid.specs.Entries.{one, gather, flatten}
 
 -- what is taken of the entries does not change how many there are: of a cell, of a row, of several rows
 module _ {A B : Type 0} (f : ℕ → ℕ → A) (g : ℕ → ℕ → B) where
   one_length : (j : ℕ) (c : Cell) → length (one f j c) ≡ length (one g j c)
   unfolding one
-  one_length j Absent = refl
-  one_length j (Present v) = refl
+  one_length j None = refl
+  one_length j (Some v) = refl
 
   pub gather_length : (n : ℕ) (row : ℕ → Cell) → length (gather f n row) ≡ length (gather g n row)
   unfolding gather
@@ -85,8 +85,8 @@ module _ {A : Type 0} (emit : ℕ → ℕ → A) (n : ℕ) (cell : ℕ → ℕ �
 -- a cell gives at most one item
 one_most : {A : Type 0} (emit : ℕ → ℕ → A) (j : ℕ) (c : Cell) → length (one emit j c) ≤ 1
 unfolding one
-one_most emit j Absent = omega arith
-one_most emit j (Present v) = omega arith
+one_most emit j None = omega arith
+one_most emit j (Some v) = omega arith
 
 -- a row that is gathered column by column
 module _ {A : Type 0} (emit : ℕ → ℕ → A) (row : ℕ → Cell) where
@@ -96,14 +96,14 @@ module _ {A : Type 0} (emit : ℕ → ℕ → A) (row : ℕ → Cell) where
   gather_next n = rw add-one
 
   -- a gap of d columns without entries
-  gather_gap : (p d : ℕ) → ((j : ℕ) → p ≤ j → j < p + d → row j ≡ Absent) → gather emit (p + d) row ≡ gather emit p row
+  gather_gap : (p d : ℕ) → ((j : ℕ) → p ≤ j → j < p + d → row j ≡ None) → gather emit (p + d) row ≡ gather emit p row
   unfolding gather one
   gather_gap p zero h = rw add-zero
   gather_gap p (suc d) h =
       rw (add-suc, h (p + d) (omega arith) (omega arith), append-nil) (gather_gap p d (λ j a b. h j a (omega arith)))
 
   -- columns without entries from p up to q
-  pub gather_skip : (p q : ℕ) → p ≤ q → ((j : ℕ) → p ≤ j → j < q → row j ≡ Absent)
+  pub gather_skip : (p q : ℕ) → p ≤ q → ((j : ℕ) → p ≤ j → j < q → row j ≡ None)
       → gather emit q row ≡ gather emit p row
   gather_skip p q l h =
       let e : q ≡ p + (q - p) = omega arith in rw e (gather_gap p (q - p) (λ j a b. h j a (omega arith)))

@@ -1,5 +1,6 @@
 -- What `entry_at` tells of a cell; a position is no more than the number of entries; grids that agree have their entries
 -- at the same positions. Cited where a matrix is changed in place, by the model, and where a read is packed.
+use Rattle.std.proofs.Common.{None, Some}
 use Prim.Native.Nat.{ℕ, zero, suc, ◌+◌, ◌≤◌, ◌<◌}
 use native.Mathlib.Omega.{arith}
 use native.Mathlib.Decide.{dec_lt}
@@ -7,8 +8,7 @@ use native.Mathlib.Nat.{le_refl}
 use mathlib.Core.Path.{◌≡◌, refl, sym, ap, ◌∙◌}
 use mathlib.Core.Bool.{Bool, true, false, false≢true}
 use lib.ListN.{length, length-append}
-use Rattle.grid.specs.declared.Cell.{Cell}
-use Rattle.grid.specs.declared.Cell.TheVariants.{Absent, Present}
+use Rattle.grid.specs.Cell.{Cell}
 use Rattle.grid.specs.declared.EntryAt.{EntryAt}
 use Rattle.grid.specs.declared.EntryAt.TheVariants as entry
 use Rattle.grid.specs.Grid.{Grid, Same}
@@ -26,8 +26,8 @@ unfolding entry_at is_present
 absent_at {g} {i} {j} {p} h = go (g.cell i j) refl
   where
     go : (c : Cell) → g.cell i j ≡ c → AbsentAt g i j p
-    go Absent e = record { cell = e; position = sym (ap position_of (rw e at h)) }
-    go (Present v) e = absurd (false≢true (sym (ap is_present (rw e at h))))
+    go None e = record { cell = e; position = sym (ap position_of (rw e at h)) }
+    go (Some v) e = absurd (false≢true (sym (ap is_present (rw e at h))))
 
 -- a present cell and its position
 pub present_at : {g : Grid} {i j v p : ℕ} → entry_at g i j ≡ entry.Present v p → PresentAt g i j p
@@ -35,8 +35,8 @@ unfolding entry_at is_present
 present_at {g} {i} {j} {v} {p} h = go (g.cell i j) refl
   where
     go : (c : Cell) → g.cell i j ≡ c → PresentAt g i j p
-    go Absent e = absurd (false≢true (ap is_present (rw e at h)))
-    go (Present u) e = record { value = u; cell = e; position = sym (ap position_of (rw e at h)) }
+    go None e = absurd (false≢true (ap is_present (rw e at h)))
+    go (Some u) e = record { value = u; cell = e; position = sym (ap position_of (rw e at h)) }
 
 -- ---- no more than the entries of the grid
 gather_grows : (row : ℕ → Cell) (j n : ℕ) → j ≤ n → length (gather column j row) ≤ length (gather column n row)
@@ -66,8 +66,8 @@ unfolding entry_at
 entry_most g i j l m = go (g.cell i j)
   where
     go : (c : Cell) → position_of (entry_of c (entry_position g i j)) ≤ entry_count g
-    go Absent = position_most g i j l m
-    go (Present v) = position_most g i j l m
+    go None = position_most g i j l m
+    go (Some v) = position_most g i j l m
 
 -- ---- an entry is at one place in grids that agree
 module _ (g h : Grid) (i j : ℕ) (s : Same g h) (l : i < h.rows) (m : j < h.cols) where

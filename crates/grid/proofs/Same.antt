@@ -6,7 +6,7 @@ use mathlib.Core.Bool.{cond}
 use lib.ListN.{length}
 use lib.Dec.{eqb}
 use Rattle.limits.specs.Sizes.{size_of}
-use Rattle.grid.specs.declared.Cell.{Cell}
+use Rattle.grid.specs.Cell.{Cell}
 use Rattle.grid.specs.Grid.{Grid, Same}
 use Rattle.grid.specs.Entries.{column, flatten, entry_count}
 use Rattle.grid.specs.Update.{with_cell}

@@ -1,8 +1,7 @@
 -- The entries of a grid, "row by row and from left to right". `emit` says what is taken of an entry: its column or
 -- its value.
-use Rattle.std.specs.Prelude.{ℕ, zero, suc, List, [], ◌∷◌, ◌++◌, length}
-use Rattle.grid.specs.declared.Cell.{Cell}
-use Rattle.grid.specs.declared.Cell.TheVariants.{Absent, Present}
+use Rattle.std.specs.Prelude.{ℕ, zero, suc, List, [], ◌∷◌, ◌++◌, length, None, Some}
+use Rattle.grid.specs.Cell.{Cell}
 use Rattle.grid.specs.Grid.{Grid}
 
 abbrev pub column : ℕ → ℕ → ℕ
@@ -13,8 +12,8 @@ value j v = v
 
 -- what a cell at column j gives: one item where it is present, none where it is absent
 unfoldable pub one : {A : Type 0} → (ℕ → ℕ → A) → ℕ → Cell → List A
-one emit j Absent = []
-one emit j (Present v) = emit j v ∷ []
+one emit j None = []
+one emit j (Some v) = emit j v ∷ []
 
 -- the entries of a row in its first n columns
 unfoldable pub gather : {A : Type 0} → (ℕ → ℕ → A) → ℕ → (ℕ → Cell) → List A

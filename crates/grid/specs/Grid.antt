@@ -1,7 +1,6 @@
 -- Plain grids. They know no row starts and no search.
-use Rattle.std.specs.Prelude.{ℕ, ◌<◌, ◌≡◌}
-use Rattle.grid.specs.declared.Cell.{Cell}
-use Rattle.grid.specs.declared.Cell.TheVariants.{Absent}
+use Rattle.std.specs.Prelude.{ℕ, ◌<◌, ◌≡◌, None}
+use Rattle.grid.specs.Cell.{Cell}
 
 -- "one grid: rows, columns and, in each cell, a value or none". Only the cells within the shape count. A value is kept as
 -- its word in two's complement.
@@ -12,7 +11,7 @@ pub record Grid : Type 0 where
 
 -- "a grid of the given shape without values"
 abbrev pub empty_grid : ℕ → ℕ → Grid
-empty_grid r c = record { rows = r; cols = c; cell = λ i j. Absent }
+empty_grid r c = record { rows = r; cols = c; cell = λ i j. None }
 
 -- two grids of one shape that agree in every cell of it
 pub record Same (g h : Grid) : Type 0 where

@@ -1,3 +1,4 @@
+pub mod Cell
 pub mod Grid
 pub mod Entries
 pub mod Update

@@ -1,9 +1,8 @@
 -- Where an entry stands among all entries of a grid, "row by row and from left to right" (document 02, A11: "the
 -- entry's position among the N, counted from 0, or, for an absent cell, the position where it would be put to keep the
 -- order"). Grids know no row starts and no search: the entries before it are counted.
-use Rattle.std.specs.Prelude.{ℕ, ◌+◌, ◌≡◌, refl, length}
-use Rattle.grid.specs.declared.Cell.{Cell}
-use Rattle.grid.specs.declared.Cell.TheVariants.{Absent, Present}
+use Rattle.std.specs.Prelude.{ℕ, ◌+◌, ◌≡◌, refl, length, None, Some}
+use Rattle.grid.specs.Cell.{Cell}
 use Rattle.grid.specs.declared.EntryAt.{EntryAt}
 use Rattle.grid.specs.declared.EntryAt.TheVariants as entry
 use Rattle.grid.specs.Grid.{Grid, empty_grid}
@@ -16,8 +15,8 @@ entry_position g i j = length (flatten column g.cols g.cell i) + length (gather 
 
 -- a cell with its position
 abbrev pub entry_of : Cell → ℕ → EntryAt
-entry_of Absent p = entry.Absent p
-entry_of (Present v) p = entry.Present v p
+entry_of None p = entry.Absent p
+entry_of (Some v) p = entry.Present v p
 
 abbrev pub position_of : EntryAt → ℕ
 position_of (entry.Absent p) = p
@@ -29,19 +28,19 @@ entry_at g i j = entry_of (g.cell i j) (entry_position g i j)
 
 -- the cell is absent, and its entry would have to be put at p
 pub record AbsentAt (g : Grid) (i j p : ℕ) : Type 0 where
-  pub cell : g.cell i j ≡ Absent
+  pub cell : g.cell i j ≡ None
   pub position : p ≡ entry_position g i j
 
 -- the cell is present, and its entry is at p
 pub record PresentAt (g : Grid) (i j p : ℕ) : Type 0 where
   pub value : ℕ
-  pub cell : g.cell i j ≡ Present value
+  pub cell : g.cell i j ≡ Some value
   pub position : p ≡ entry_position g i j
 
 -- ---- a 3 by 3 grid: 5 at (0, 2), nothing in row 1, 0 at (2, 0) and 7 at (2, 1)
 abbrev three_entries : Grid
 three_entries =
-    with_cell (with_cell (with_cell (empty_grid 3 3) 0 2 (Present 5)) 2 0 (Present 0)) 2 1 (Present 7)
+    with_cell (with_cell (with_cell (empty_grid 3 3) 0 2 (Some 5)) 2 0 (Some 0)) 2 1 (Some 7)
 
 -- before all entries: those to the right and below do not count
 before_all : entry_at three_entries 0 0 ≡ entry.Absent 0

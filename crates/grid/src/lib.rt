@@ -7,15 +7,11 @@ ghost use Rattle.std.specs.Prelude.{◌≡◌};
 ghost use Rattle.grid.specs.Position.{position_of};
 
 // Document 01: "in each cell, a value or none". A value is kept as its word in two's complement.
-#[derive(Clone, Copy)]
-pub enum Cell {
-    Absent,
-    Present(u32),
-}
+pub type Cell = Option<u32>;
 
 // A cell with a position (document 02, A11): "the entry's position among the N, counted from 0, or, for an absent cell,
 // the position where it would be put to keep the order".
-#[derive(Clone, Copy)]
+#[derive(Clone, Copy, Debug, PartialEq, Eq)]
 pub enum EntryAt {
     Absent { position: u32 },
     Present { value: u32, position: u32 },

@@ -7,26 +7,15 @@ use mathlib.Core.List.{List}
 use lib.ListN.{length, replicate, length-replicate}
 use lib.Dec.{eqb}
 use contract.Lifetimes.{Lfts}
-use Rattle.answers.specs.declared.Answer.{Answer}
-use Rattle.answers.specs.declared.CellAnswer.{CellAnswer}
-use Rattle.answers.specs.declared.NumberAnswer.{NumberAnswer}
-use Rattle.answers.specs.Refusals.{refused, invalid_store}
-use Rattle.answers.specs.Reads.{refused_read}
-use Rattle.answers.specs.Numbers.{refused_number}
+use Rattle.answers.specs.Results.{answer}
 use Rattle.slots.specs.Valid.{store_valid}
 use Rattle.slots.proofs.Facts.{store_facts}
 use Rattle.model.specs.Model.{Model}
 use Rattle.model.specs.Effects.{
   Reply,
   wrote,
-  found,
-  totalled,
   writing,
-  reading,
-  totalling,
-  refused_as,
   refusal_of,
-  reply_of,
   next_of,
 }
 use Rattle.model.specs.Calls.{
@@ -45,9 +34,9 @@ use Rattle.model.specs.Calls.{
   formula_into,
   effect,
 }
-use Rattle.model.proofs.Effects.{OfKind, reply_kind, refused_kind, effect_sound}
+use Rattle.histories.proofs.Results.{Given, given_on}
 use Rattle.store_encoding.specs.Writing.{model_writing}
-use Rattle.store_encoding.specs.Stores.{model_of, effect_reply, effect_words, reply_on, words_after, Performed}
+use Rattle.store_encoding.specs.Stores.{model_of, effect_words, reply_on, words_after, Performed}
 use Rattle.store_encoding.proofs.Held.{model_written}
 use Rattle.words.specs.Lent.{Address}
 use Rattle.histories.specs.Functions.{
@@ -161,14 +150,14 @@ pub total_performed : (s : List ℕ) (k monoid : ℕ) (r : Reply) → r ≡ repl
 total_performed s k monoid r e = keeping s (reduce_slot k monoid) r (total_keeps (length s) (model_of s) k monoid) e
 
 pub told : {s s' : List ℕ} {c : StoreCall} {r : Reply} → Step s c r s' → Performed s c r s'
-told (new_empty_step p κs t) = t
-told (drop_slot_step p κs t) = t
-told (set_cell_step p κs t) = t
-told (clear_cell_step p κs t) = t
-told (read_cell_step p κs t) = read_performed _ _ _ _ _ t
-told (operate_step w w' p q x y κs t) = t.0
-told (reduce_step p κs t) = total_performed _ _ _ _ t
-told (formula_step w w' p q x κs t) = t.0
+told (new_empty_step x p κs t) = t
+told (drop_slot_step x p κs t) = t
+told (set_cell_step x p κs t) = t
+told (clear_cell_step x p κs t) = t
+told (read_cell_step x p κs t) = read_performed _ _ _ _ _ t
+told (operate_step w w' r p q x y κs t) = t.0
+told (reduce_step x p κs t) = total_performed _ _ _ _ t
+told (formula_step w w' r p q x κs t) = t.0
 
 -- ---- a step of every call: the answer and the words that the contracts name
 
@@ -176,51 +165,10 @@ told (formula_step w w' p q x κs t) = t.0
 abbrev somewhere : Address
 somewhere = record { pointer = (0, 0); name = 0 }
 
--- the reply on any words is of the call's kind
-on_kind : (s : List ℕ) (c : StoreCall) → OfKind (effect c).kind (reply_on s c)
-unfolding effect_reply
-on_kind s c = go (store_valid s)
-  where
-    go : (b : Bool) → OfKind (effect c).kind
-        (cond b (reply_of (effect c) (length s) (model_of s)) (refused_as (effect c).kind invalid_store))
-    go true = reply_kind (effect c) (length s) (model_of s) (effect_sound c)
-    go false = refused_kind (effect c).kind invalid_store
-
--- the answer in a reply
-abbrev answer_in : Reply → Answer
-answer_in (wrote answer) = answer
-answer_in (found answer) = refused 0
-answer_in (totalled answer) = refused 0
-
-abbrev cell_in : Reply → CellAnswer
-cell_in (wrote answer) = refused_read 0
-cell_in (found answer) = answer
-cell_in (totalled answer) = refused_read 0
-
-abbrev number_in : Reply → NumberAnswer
-number_in (wrote answer) = refused_number 0
-number_in (found answer) = refused_number 0
-number_in (totalled answer) = answer
-
-wrote_answer : (r : Reply) → OfKind writing r → wrote (answer_in r) ≡ r
-wrote_answer (wrote a) k = refl
-wrote_answer (found a) k = absurd k
-wrote_answer (totalled a) k = absurd k
-
-found_answer_lem : (r : Reply) → OfKind reading r → found (cell_in r) ≡ r
-found_answer_lem (wrote a) k = absurd k
-found_answer_lem (found a) k = refl
-found_answer_lem (totalled a) k = absurd k
-
-totalled_answer : (r : Reply) → OfKind totalling r → totalled (number_in r) ≡ r
-totalled_answer (wrote a) k = absurd k
-totalled_answer (found a) k = absurd k
-totalled_answer (totalled a) k = refl
-
 -- a call that writes
-writes : (s : List ℕ) (c : StoreCall) → OfKind writing (reply_on s c)
-    → Performed s c (wrote (answer_in (reply_on s c))) (words_after s c)
-writes s c k = record { answer_is = wrote_answer (reply_on s c) k; words_are = refl }
+writes : (s : List ℕ) (c : StoreCall) (g : Given writing (reply_on s c))
+    → Performed s c (wrote (answer g.0)) (words_after s c)
+writes s c g = record { answer_is = g.1; words_are = refl }
 
 -- a step is enough, whatever it answers and leaves
 stepped : {s s' : List ℕ} {c : StoreCall} {r : Reply} → Step s c r s' → Possible s c
@@ -233,43 +181,35 @@ zeros n = replicate n 0
 operates : (κs : Lfts 4) (s : List ℕ) (x : OperationCall) → Possible s (operation x)
 unfolding effect
 operates κs s x =
+    let c = operate x.options x.verb x.named x.is x.js (length (zeros x.work)) in
     rw (← (length-replicate {A = ℕ} x.work 0))
     (stepped
-    (operate_step (zeros x.work) (zeros (length (zeros x.work))) somewhere somewhere somewhere somewhere κs (
-      writes s (operate x.options x.verb x.named x.is x.js (length (zeros x.work)))
-          (on_kind s (operate x.options x.verb x.named x.is x.js (length (zeros x.work)))),
-      refl,
-    )))
+    (operate_step (zeros x.work) (zeros (length (zeros x.work))) (given_on s c).0 somewhere somewhere somewhere somewhere κs
+    (writes s c (given_on s c), refl)))
 
 -- a formula, with a stack of zeros
 formulas : (κs : Lfts 3) (s : List ℕ) (x : FormulaCall) → Possible s (formula x)
 unfolding effect
 formulas κs s x =
+    let c = formula_into x.target x.monoid x.op x.text (length (zeros x.stack)) in
     rw (← (length-replicate {A = ℕ} x.stack 0))
     (stepped
-    (formula_step (zeros x.stack) (zeros (length (zeros x.stack))) somewhere somewhere somewhere κs (
-      writes s (formula_into x.target x.monoid x.op x.text (length (zeros x.stack)))
-          (on_kind s (formula_into x.target x.monoid x.op x.text (length (zeros x.stack)))),
-      refl,
-    )))
+    (formula_step (zeros x.stack) (zeros (length (zeros x.stack))) (given_on s c).0 somewhere somewhere somewhere κs
+    (writes s c (given_on s c), refl)))
 
 pub possible : Lfts 1 → Lfts 4 → (s : List ℕ) (c : StoreCall) → Possible s c
 unfolding effect
 possible κ₁ κ₄ s (new_empty k r c) =
-    stepped (new_empty_step somewhere κ₁ (writes s (new_empty k r c) (on_kind s (new_empty k r c))))
+    let g = given_on s (new_empty k r c) in stepped (new_empty_step g.0 somewhere κ₁ (writes s (new_empty k r c) g))
 possible κ₁ κ₄ s (drop_slot k) =
-    stepped (drop_slot_step somewhere κ₁ (writes s (drop_slot k) (on_kind s (drop_slot k))))
+    let g = given_on s (drop_slot k) in stepped (drop_slot_step g.0 somewhere κ₁ (writes s (drop_slot k) g))
 possible κ₁ κ₄ s (set_cell k i j v) =
-    stepped (set_cell_step somewhere κ₁ (writes s (set_cell k i j v) (on_kind s (set_cell k i j v))))
+    let g = given_on s (set_cell k i j v) in stepped (set_cell_step g.0 somewhere κ₁ (writes s (set_cell k i j v) g))
 possible κ₁ κ₄ s (clear_cell k i j) =
-    stepped (clear_cell_step somewhere κ₁ (writes s (clear_cell k i j) (on_kind s (clear_cell k i j))))
+    let g = given_on s (clear_cell k i j) in stepped (clear_cell_step g.0 somewhere κ₁ (writes s (clear_cell k i j) g))
 possible κ₁ κ₄ s (read_cell k i j) =
-    stepped
-    (read_cell_step {answer = cell_in (reply_on s (read_cell k i j))} somewhere κ₁
-    (found_answer_lem (reply_on s (read_cell k i j)) (on_kind s (read_cell k i j))))
+    let g = given_on s (read_cell k i j) in stepped (read_cell_step g.0 somewhere κ₁ g.1)
 possible κ₁ κ₄ s (operation x) = operates κ₄ s x
 possible κ₁ κ₄ s (reduce_slot k monoid) =
-    stepped
-    (reduce_step {answer = number_in (reply_on s (reduce_slot k monoid))} somewhere κ₁
-    (totalled_answer (reply_on s (reduce_slot k monoid)) (on_kind s (reduce_slot k monoid))))
+    let g = given_on s (reduce_slot k monoid) in stepped (reduce_step g.0 somewhere κ₁ g.1)
 possible κ₁ κ₄ s (formula x) = formulas κ₄.1 s x

@@ -1,3 +1,4 @@
+pub mod Results
 pub mod Functions
 pub mod Hosts
 pub mod Stored

@@ -1,13 +1,13 @@
 -- The calls on a store as functions: what each tells a caller, by its own contract and by name. `Reads.Learnt` of a
 -- function is what a caller learns when it returns, `Reads.Asked` what it has to show, and `Statement.statement` says that
 -- the code returns, does nothing undefined and ends as its contract says.
-use Rattle.std.specs.Prelude.{ℕ, ◌≡◌, List, length, replicate}
+use Rattle.std.specs.Prelude.{ℕ, ◌≡◌, List, length, replicate, Result}
 use contract.Lifetimes.{Lfts}
 use Rattle.std.specs.Borrow.{Bor, MutBor}
 use borrow.Fn.Picked.{KnownAs}
-use Rattle.answers.specs.declared.Answer.{Answer}
-use Rattle.answers.specs.declared.CellAnswer.{CellAnswer}
-use Rattle.answers.specs.declared.NumberAnswer.{NumberAnswer}
+use Rattle.answers.specs.declared.Refusal.{Refusal}
+use Rattle.answers.specs.Results.{answer, cell_answer, total_answer}
+use Rattle.grid.specs.declared.EntryAt.{EntryAt}
 use Rattle.words.specs.Lent.{Address, lent, lent_mut}
 use Rattle.call_codes.specs.declared.Options.{Options}
 use Rattle.call_codes.specs.declared.Verb.{Verb}
@@ -53,34 +53,34 @@ use Rattle.store_formulas.proofs.formula.Kinds as formula_kinds
 -- Index lists, and the words that a read is lent, are borrowed by `&` and stay. "Each call brings index lists and a work
 -- buffer of its own where it has them, with any words in them."
 pub data Step : List ℕ → StoreCall → Reply → List ℕ → Type 0 where
-  new_empty_step : {s s' : List ℕ} {k r c : ℕ} {answer : Answer} (p : Address) (κs : Lfts 1)
-      → new_empty_reads.Learnt κs (lent_mut p s, (k, (r, (c, tt)))) answer (lent_mut p s', (k, (r, (c, tt))))
-      → Step s (new_empty k r c) (wrote answer) s'
-  drop_slot_step : {s s' : List ℕ} {k : ℕ} {answer : Answer} (p : Address) (κs : Lfts 1)
-      → drop_slot_reads.Learnt κs (lent_mut p s, (k, tt)) answer (lent_mut p s', (k, tt))
-      → Step s (drop_slot k) (wrote answer) s'
-  set_cell_step : {s s' : List ℕ} {k i j v : ℕ} {answer : Answer} (p : Address) (κs : Lfts 1)
-      → set_cell_reads.Learnt κs (lent_mut p s, (k, (i, (j, (v, tt))))) answer (lent_mut p s', (k, (i, (j, (v, tt)))))
-      → Step s (set_cell k i j v) (wrote answer) s'
-  clear_cell_step : {s s' : List ℕ} {k i j : ℕ} {answer : Answer} (p : Address) (κs : Lfts 1)
-      → clear_cell_reads.Learnt κs (lent_mut p s, (k, (i, (j, tt)))) answer (lent_mut p s', (k, (i, (j, tt))))
-      → Step s (clear_cell k i j) (wrote answer) s'
-  read_cell_step : {s : List ℕ} {k i j : ℕ} {answer : CellAnswer} (p : Address) (κs : Lfts 1)
-      → read_cell_reads.Learnt κs (lent p s, (k, (i, (j, tt)))) answer (lent p s, (k, (i, (j, tt))))
-      → Step s (read_cell k i j) (found answer) s
+  new_empty_step : {s s' : List ℕ} {k r c : ℕ} (result : Result ℕ Refusal) (p : Address) (κs : Lfts 1)
+      → new_empty_reads.Learnt κs (lent_mut p s, (k, (r, (c, tt)))) result (lent_mut p s', (k, (r, (c, tt))))
+      → Step s (new_empty k r c) (wrote (answer result)) s'
+  drop_slot_step : {s s' : List ℕ} {k : ℕ} (result : Result ℕ Refusal) (p : Address) (κs : Lfts 1)
+      → drop_slot_reads.Learnt κs (lent_mut p s, (k, tt)) result (lent_mut p s', (k, tt))
+      → Step s (drop_slot k) (wrote (answer result)) s'
+  set_cell_step : {s s' : List ℕ} {k i j v : ℕ} (result : Result ℕ Refusal) (p : Address) (κs : Lfts 1)
+      → set_cell_reads.Learnt κs (lent_mut p s, (k, (i, (j, (v, tt))))) result (lent_mut p s', (k, (i, (j, (v, tt)))))
+      → Step s (set_cell k i j v) (wrote (answer result)) s'
+  clear_cell_step : {s s' : List ℕ} {k i j : ℕ} (result : Result ℕ Refusal) (p : Address) (κs : Lfts 1)
+      → clear_cell_reads.Learnt κs (lent_mut p s, (k, (i, (j, tt)))) result (lent_mut p s', (k, (i, (j, tt))))
+      → Step s (clear_cell k i j) (wrote (answer result)) s'
+  read_cell_step : {s : List ℕ} {k i j : ℕ} (result : Result EntryAt Refusal) (p : Address) (κs : Lfts 1)
+      → read_cell_reads.Learnt κs (lent p s, (k, (i, (j, tt)))) result (lent p s, (k, (i, (j, tt))))
+      → Step s (read_cell k i j) (found (cell_answer result)) s
   operate_step : {s s' : List ℕ} (w w' : List ℕ) {o : Options} {verb : Verb} {named : Roles} {is js : List ℕ}
-      {answer : Answer} (p q x y : Address) (κs : Lfts 4)
-      → operate_reads.Learnt κs (lent_mut p s, (o, (verb, (named, (lent x is, (lent y js, (lent_mut q w, tt))))))) answer
+      (result : Result ℕ Refusal) (p q x y : Address) (κs : Lfts 4)
+      → operate_reads.Learnt κs (lent_mut p s, (o, (verb, (named, (lent x is, (lent y js, (lent_mut q w, tt))))))) result
       (lent_mut p s', (o, (verb, (named, (lent x is, (lent y js, (lent_mut q w', tt)))))))
-      → Step s (operate o verb named is js (length w)) (wrote answer) s'
-  reduce_step : {s : List ℕ} {k monoid : ℕ} {answer : NumberAnswer} (p : Address) (κs : Lfts 1)
-      → reduce_reads.Learnt κs (lent p s, (k, (monoid, tt))) answer (lent p s, (k, (monoid, tt)))
-      → Step s (reduce_slot k monoid) (totalled answer) s
-  formula_step : {s s' : List ℕ} (w w' : List ℕ) {k monoid op : ℕ} {text : List ℕ} {answer : Answer} (p q x : Address)
+      → Step s (operate o verb named is js (length w)) (wrote (answer result)) s'
+  reduce_step : {s : List ℕ} {k monoid : ℕ} (result : Result ℕ Refusal) (p : Address) (κs : Lfts 1)
+      → reduce_reads.Learnt κs (lent p s, (k, (monoid, tt))) result (lent p s, (k, (monoid, tt)))
+      → Step s (reduce_slot k monoid) (totalled (total_answer result)) s
+  formula_step : {s s' : List ℕ} (w w' : List ℕ) {k monoid op : ℕ} {text : List ℕ} (result : Result ℕ Refusal) (p q x : Address)
       (κs : Lfts 3)
-      → formula_reads.Learnt κs (lent_mut p s, (k, (monoid, (op, (lent x text, (lent_mut q w, tt)))))) answer
+      → formula_reads.Learnt κs (lent_mut p s, (k, (monoid, (op, (lent x text, (lent_mut q w, tt)))))) result
       (lent_mut p s', (k, (monoid, (op, (lent x text, (lent_mut q w', tt))))))
-      → Step s (formula_into k monoid op text (length w)) (wrote answer) s'
+      → Step s (formula_into k monoid op text (length w)) (wrote (answer result)) s'
 
 -- each function's code meets its contract
 pub record Met : Type 3 where
@@ -136,14 +136,14 @@ pub record Free : Type 3 where
 -- "The work buffer is all zeros over its whole length after every call that has one"
 abbrev pub Cleared : Type 0
 Cleared = (κs : Lfts 4) (p q x y : Address) (s s' w w' : List ℕ) (o : Options) (verb : Verb) (named : Roles)
-    (is js : List ℕ) (answer : Answer)
-    → operate_reads.Learnt κs (lent_mut p s, (o, (verb, (named, (lent x is, (lent y js, (lent_mut q w, tt))))))) answer
+    (is js : List ℕ) (result : Result ℕ Refusal)
+    → operate_reads.Learnt κs (lent_mut p s, (o, (verb, (named, (lent x is, (lent y js, (lent_mut q w, tt))))))) result
     (lent_mut p s', (o, (verb, (named, (lent x is, (lent y js, (lent_mut q w', tt)))))))
     → w' ≡ replicate (length w) 0
 
 -- "The stack buffer is lent by the host, .. zeros after every call"
 abbrev pub StackCleared : Type 0
-StackCleared = (κs : Lfts 3) (p q x : Address) (s s' w w' text : List ℕ) (k monoid op : ℕ) (answer : Answer)
-    → formula_reads.Learnt κs (lent_mut p s, (k, (monoid, (op, (lent x text, (lent_mut q w, tt)))))) answer
+StackCleared = (κs : Lfts 3) (p q x : Address) (s s' w w' text : List ℕ) (k monoid op : ℕ) (result : Result ℕ Refusal)
+    → formula_reads.Learnt κs (lent_mut p s, (k, (monoid, (op, (lent x text, (lent_mut q w, tt)))))) result
     (lent_mut p s', (k, (monoid, (op, (lent x text, (lent_mut q w', tt))))))
     → w' ≡ replicate (length w) 0

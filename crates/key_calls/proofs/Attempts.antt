@@ -10,9 +10,13 @@ use lib.ListN.{length, take, drop, length-append}
 use lib.Seq.{take-append_seam}
 use lib.Dec.{eqb, ltb}
 use borrow.Author.Tests.{ne_eqb, le-leb, lt-leb, lt-ltb, le-ltb}
+use Rattle.std.specs.Prelude.{Err}
 use Rattle.limits.specs.Limits.{max_cols}
-use Rattle.answers.specs.declared.Answer.{Answer}
+use Rattle.answers.specs.Answers.{Answer}
+use Rattle.answers.specs.declared.Refusal.{Refusal}
 use Rattle.answers.specs.Refusals.{accepted, refused, insufficient_space}
+use Rattle.answers.specs.Results.{number, answer}
+use Rattle.answers.proofs.Numbers.{number_not_0}
 use Rattle.words.specs.Words.{overwrite}
 use Rattle.grid.specs.Grid.{Grid}
 use Rattle.grid.specs.Entries.{column, flatten, entry_count}
@@ -69,20 +73,21 @@ module _ (allowance : ℕ) (locks cabinets hand : List ℕ) where
     numbered = (refl, (refl, (refl, (refl, (refl, (refl, tt))))))
 
     -- refused before it is worked out
-    pub attempted_input : (code : ℕ) → code ≡ input_refusal allowance locks cabinets hand work → (code ≡ 0 → ⊥)
-        → Attempted allowance locks cabinets hand out work (refused code) out
+    pub attempted_input : (r : Refusal) → number r ≡ input_refusal allowance locks cabinets hand work
+        → Attempted allowance locks cabinets hand out work (answer (Err r)) out
     unfolding doors_refusal input_refusal
-    attempted_input code e h =
-        let f = ne_eqb code 0 h in
-        let x = applying_first (input_cases allowance locks cabinets hand work) (output_cases g (length out)) code e h in
+    attempted_input r e =
+        let f = ne_eqb (number r) 0 (number_not_0 r) in
+        let x = applying_first (input_cases allowance locks cabinets hand work) (output_cases g (length out)) (number r)
+        e (number_not_0 r) in
         record { answer_is = rw (← x, f); words_are = rw f }
 
     -- the vector is committed
-    pub attempted_done : input_refusal allowance locks cabinets hand work ≡ 0 → (n : ℕ) (w : List ℕ) (answer : Answer)
-        (out' : List ℕ) → Written g n w → Committed out w n answer out'
-        → Attempted allowance locks cabinets hand out work answer out'
+    pub attempted_done : input_refusal allowance locks cabinets hand work ≡ 0 → (n : ℕ) (w : List ℕ) (a : Answer)
+        (out' : List ℕ) → Written g n w → Committed out w n a out'
+        → Attempted allowance locks cabinets hand out work a out'
     unfolding doors_refusal input_refusal
-    attempted_done z n w answer out' h k = go (dec_le (grid_size g) (length out))
+    attempted_done z n w a out' h k = go (dec_le (grid_size g) (length out))
       where
         size : size_of 1 n ≡ grid_size g
         size = ap (size_of 1) h.count
@@ -91,18 +96,18 @@ module _ (allowance : ℕ) (locks cabinets hand : List ℕ) where
             ≡ cond (ltb (length out) (grid_size g)) insufficient_space 0
         rest = applying_rest (input_cases allowance locks cabinets hand work) (output_cases g (length out)) numbered z
 
-        go : Dec (grid_size g ≤ length out) → Attempted allowance locks cabinets hand out work answer out'
+        go : Dec (grid_size g ≤ length out) → Attempted allowance locks cabinets hand out work a out'
         go (yes f) =
-            let q : answer ≡ accepted n = k.answer_is ∙ rw (size, le-leb _ _ f) in
+            let q : a ≡ accepted n = k.answer_is ∙ rw (size, le-leb _ _ f) in
             record {
               answer_is = q ∙ rw (rest, le-ltb _ _ f, h.count);
-              words_are = k.words_are ∙ ap (λ (x : List ℕ). cond (eqb answer.code 0) x out)
+              words_are = k.words_are ∙ ap (λ (x : List ℕ). cond (eqb a.code 0) x out)
                   (ap (λ (x : ℕ). overwrite 0 (take x w) out) size
                   ∙ ap (λ (x : List ℕ). overwrite 0 x out) (front g w h.words) ∙ over_front g out);
             }
         go (no f) =
             let o : length out < grid_size g = omega arith in
-            let q : answer ≡ refused insufficient_space = k.answer_is ∙ rw (size, lt-leb _ _ o) in
+            let q : a ≡ refused insufficient_space = k.answer_is ∙ rw (size, lt-leb _ _ o) in
             record {
               answer_is = q ∙ rw (rest, lt-ltb _ _ o);
               words_are = k.words_are ∙ rw q;

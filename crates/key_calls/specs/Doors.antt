@@ -1,6 +1,6 @@
 -- What "keys behind doors" answers, and every word that it leaves (document 02, A13).
 use Rattle.std.specs.Prelude.{ℕ, ◌≡◌, List, cond, length, take, replicate, leb}
-use Rattle.answers.specs.declared.Answer.{Answer}
+use Rattle.answers.specs.Answers.{Answer}
 use Rattle.answers.specs.Refusals.{accepted, refused, unless_refused, insufficient_space}
 use Rattle.words.specs.Words.{overwrite}
 use Rattle.matrix.specs.Layout.{size_of}

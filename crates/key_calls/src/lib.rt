@@ -1,15 +1,17 @@
-// "Keys behind doors" (document 02, A13) on lent matrices. Any words and any numbers may be lent: a call answers 0
-// and the number of doors in the vector that it has written, or the lowest refusal that applies and 0. A refused call
+// "Keys behind doors" (document 02, A13) on lent matrices. Any words and any numbers may be lent: a call gives the
+// number of doors in the vector that it has written, or the lowest refusal that applies. A refused call
 // changes no word but the workspace's, and every call leaves the workspace all zeros.
 
 #![tactic(auto)]
 
 ghost use Rattle.std.specs.Prelude.{◌≤◌, length};
 ghost use Rattle.limits.specs.Limits.{max_cols};
+ghost use Rattle.answers.specs.Results.{answer};
 ghost use Rattle.matrix.specs.Layout.{size_of};
 ghost use Rattle.key_calls.specs.Doors.{Attempted, Completed, Committed};
 
-use answers::{Answer, INSUFFICIENT_SPACE};
+use answers::Refusal;
+use door_vectors::Program;
 use matrix::layout::FIXED_WORDS;
 
 // The doors that open within the allowance, each with its first round, as a vector in `out`, whatever that held.
@@ -23,11 +25,11 @@ pub fn open_doors(
     hand: &[u32],
     out: &mut [u32],
     work: &mut [u32],
-) -> Answer
+) -> Result<u32, Refusal>
     ensures { Completed allowance locks.now cabinets.now hand.now
-        out.old work.old result out.new work.new }
+        out.old work.old (answer result) out.new work.new }
 {
-    complete(false, allowance, locks, cabinets, hand, out, work)
+    complete(Program::Rounds, allowance, locks, cabinets, hand, out, work)
 }
 
 // The same by the two questions that ask each other, for comparison: it goes through every round of the allowance, and
@@ -39,71 +41,67 @@ pub fn ask_doors(
     hand: &[u32],
     out: &mut [u32],
     work: &mut [u32],
-) -> Answer
+) -> Result<u32, Refusal>
     ensures { Completed allowance locks.now cabinets.now hand.now
-        out.old work.old result out.new work.new }
+        out.old work.old (answer result) out.new work.new }
 {
-    complete(true, allowance, locks, cabinets, hand, out, work)
+    complete(
+        Program::Questions,
+        allowance,
+        locks,
+        cabinets,
+        hand,
+        out,
+        work,
+    )
 }
 
 // The call is attempted, and the workspace is cleared.
 fn complete(
-    by_questions: bool,
+    program: Program,
     allowance: u32,
     locks: &[u32],
     cabinets: &[u32],
     hand: &[u32],
     out: &mut [u32],
     work: &mut [u32],
-) -> Answer
+) -> Result<u32, Refusal>
     ensures { Completed allowance locks.now cabinets.now hand.now
-        out.old work.old result out.new work.new }
+        out.old work.old (answer result) out.new work.new }
 {
-    let answer = attempt(by_questions, allowance, locks, cabinets, hand, out, work);
+    let attempted = attempt(program, allowance, locks, cabinets, hand, out, work);
     words::clear(work);
-    answer
+    attempted
 }
 
 // The refusals in their order, and the vector written where none applies.
 fn attempt(
-    by_questions: bool,
+    program: Program,
     allowance: u32,
     locks: &[u32],
     cabinets: &[u32],
     hand: &[u32],
     out: &mut [u32],
     work: &mut [u32],
-) -> Answer
+) -> Result<u32, Refusal>
     ensures { Attempted allowance locks.now cabinets.now hand.now
-        out.old (length work.old) result out.new }
+        out.old (length work.old) (answer result) out.new }
 {
-    let code = key_requests::input_refusal(allowance, locks, cabinets, hand, work.len());
-    if code != 0 {
-        return Answer {
-            code: code,
-            entries: 0,
-        };
-    }
-    let n = door_vectors::door_vector(by_questions, allowance, locks, cabinets, hand, work);
+    key_requests::input_refusal(allowance, locks, cabinets, hand, work.len())?;
+    let n = door_vectors::door_vector(program, allowance, locks, cabinets, hand, work);
     commit(out, &work[..], n)
 }
 
 // The vector of n entries at the front of the workspace is copied over `out`, if it fits.
-fn commit(out: &mut [u32], work: &[u32], n: usize) -> Answer
-    requires fact_1 { n ≤ max_cols }
-    requires fact_2 { size_of 1 n ≤ length work.now }
-    ensures { Committed out.old work.now n result out.new }
+fn commit(out: &mut [u32], work: &[u32], n: usize) -> Result<u32, Refusal>
+    requires few { n ≤ max_cols }
+    requires size { size_of 1 n ≤ length work.now }
+    ensures { Committed out.old work.now n (answer result) out.new }
 {
-    let size = 1 + n + n + FIXED_WORDS;
+    let size = 1 + 2 * n + FIXED_WORDS;
     if out.len() < size {
-        return Answer {
-            code: INSUFFICIENT_SPACE,
-            entries: 0,
-        };
+        return Err(Refusal::InsufficientSpace);
     }
     words::copy_into(out, 0, &work[..size]);
-    Answer {
-        code: 0,
-        entries: n as u32,
-    }
+    Ok(n as u32)
 }

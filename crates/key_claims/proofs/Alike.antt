@@ -6,7 +6,7 @@ use mathlib.Core.List.{List}
 use lib.ListN.{length}
 use borrow.Author.Tests.{le-ltb}
 use Rattle.limits.specs.Limits.{max_allowance}
-use Rattle.answers.specs.declared.Answer.{Answer}
+use Rattle.answers.specs.Answers.{Answer}
 use Rattle.answers.specs.Refusals.{unless_refused}
 use Rattle.grid.specs.Grid.{Grid, Same}
 use Rattle.grid.proofs.Same.{same_sym, same_trans, same_count, same_size}

@@ -15,8 +15,8 @@ programs = record {
   ask_known = ask_doors_reads.known;
   open_free = λ κs n locks cabinets hand out work. tt;
   ask_free = λ κs n locks cabinets hand out work. tt;
-  equal = λ κs λs p q n a b c d e d₁ e₁ d₂ e₂ answer₁ answer₂ x y. alike_same x y;
+  equal = λ κs λs p q n a b c d e d₁ e₁ d₂ e₂ r₁ r₂ x y. alike_same x y;
   equal_marks = λ κs λs p q r s t u v w n a b keys doors keys₁ doors₁ keys₂ doors₂ x y. doors_equal x y;
-  beyond = λ κs λs p q n m a b c d e d₁ e₁ d₂ e₂ answer₁ answer₂ u l v k x y.
+  beyond = λ κs λs p q n m a b c d e d₁ e₁ d₂ e₂ r₁ r₂ u l v k x y.
       alike_beyond n m a b c d e u l v k x y;
 }

@@ -2,12 +2,14 @@
 -- equal." What a function does is taken from its own contract, by name: `Reads.Learnt` of a function is what a caller
 -- learns when it returns, `Reads.Asked` what it has to show, and `Statement.statement` says that the code returns, does
 -- nothing undefined and ends as its contract says.
-use Rattle.std.specs.Prelude.{ℕ, ◌≤◌, ◌≡◌, List}
+use Rattle.std.specs.Prelude.{ℕ, ◌≤◌, ◌≡◌, List, Result}
 use contract.Lifetimes.{Lfts}
 use Rattle.std.specs.Borrow.{Bor, MutBor}
 use borrow.Fn.Picked.{KnownAs}
 use Rattle.limits.specs.Limits.{max_allowance}
-use Rattle.answers.specs.declared.Answer.{Answer}
+use Rattle.answers.specs.Answers.{Answer}
+use Rattle.answers.specs.declared.Refusal.{Refusal}
+use Rattle.answers.specs.Results.{answer}
 use Rattle.words.specs.Lent.{Address, lent, lent_mut}
 use Rattle.matrix.specs.Layout.{rows}
 use Rattle.key_marks.proofs.doors_open.Reads as doors_open_reads
@@ -31,36 +33,36 @@ pub record Places : Type 0 where
 -- answer's buffer has d before and d' after it, and the workspace e and e'.
 
 -- of the repeated product
-abbrev pub ByRounds : Lfts 5 → Places → ℕ → List ℕ → List ℕ → List ℕ → List ℕ → List ℕ → Answer → List ℕ → List ℕ
-    → Type 0
-ByRounds κs p n a b c d e answer d' e' =
+abbrev pub ByRounds : Lfts 5 → Places → ℕ → List ℕ → List ℕ → List ℕ → List ℕ → List ℕ → Result ℕ Refusal → List ℕ
+    → List ℕ → Type 0
+ByRounds κs p n a b c d e result d' e' =
     open_doors_reads.Learnt κs
     (n, (lent p.locks a, (lent p.cabinets b, (lent p.hand c, (lent_mut p.out d, (lent_mut p.work e, tt))))))
-    answer
+    result
     (n, (lent p.locks a, (lent p.cabinets b, (lent p.hand c, (lent_mut p.out d', (lent_mut p.work e', tt))))))
 
 -- of the two questions
-abbrev pub ByQuestions : Lfts 5 → Places → ℕ → List ℕ → List ℕ → List ℕ → List ℕ → List ℕ → Answer → List ℕ → List ℕ
-    → Type 0
-ByQuestions κs p n a b c d e answer d' e' =
+abbrev pub ByQuestions : Lfts 5 → Places → ℕ → List ℕ → List ℕ → List ℕ → List ℕ → List ℕ → Result ℕ Refusal → List ℕ
+    → List ℕ → Type 0
+ByQuestions κs p n a b c d e result d' e' =
     ask_doors_reads.Learnt κs
     (n, (lent p.locks a, (lent p.cabinets b, (lent p.hand c, (lent_mut p.out d, (lent_mut p.work e, tt))))))
-    answer
+    result
     (n, (lent p.locks a, (lent p.cabinets b, (lent p.hand c, (lent_mut p.out d', (lent_mut p.work e', tt))))))
 
 -- two calls that end alike: the answer, and every word of the two buffers that a call writes
-pub record Alike (answer answer' : Answer) (out out' work work' : List ℕ) : Type 0 where
-  pub answers : answer ≡ answer'
+pub record Alike (a a' : Answer) (out out' work work' : List ℕ) : Type 0 where
+  pub answers : a ≡ a'
   pub outs : out ≡ out'
   pub works : work ≡ work'
 
 -- both programs, called with the same numbers and words, whatever they are, in buffers that may be elsewhere
 abbrev pub Equal : Type 0
 Equal =
-    (κs λs : Lfts 5) (p q : Places) (n : ℕ) (a b c d e d₁ e₁ d₂ e₂ : List ℕ) (answer₁ answer₂ : Answer)
-    → ByRounds κs p n a b c d e answer₁ d₁ e₁
-    → ByQuestions λs q n a b c d e answer₂ d₂ e₂
-    → Alike answer₁ answer₂ d₁ d₂ e₁ e₂
+    (κs λs : Lfts 5) (p q : Places) (n : ℕ) (a b c d e d₁ e₁ d₂ e₂ : List ℕ) (r₁ r₂ : Result ℕ Refusal)
+    → ByRounds κs p n a b c d e r₁ d₁ e₁
+    → ByQuestions λs q n a b c d e r₂ d₂ e₂
+    → Alike (answer r₁) (answer r₂) d₁ d₂ e₁ e₂
 
 -- the same of the functions below them, on marks: the doors' question and the rounds leave the same words of doors
 abbrev pub EqualMarks : Type 0
@@ -75,11 +77,11 @@ EqualMarks =
 -- "Show that an allowance beyond the number of keys adds nothing": two allowances that are no smaller, within the limit
 abbrev pub Beyond : Type 0
 Beyond =
-    (κs λs : Lfts 5) (p q : Places) (n m : ℕ) (a b c d e d₁ e₁ d₂ e₂ : List ℕ) (answer₁ answer₂ : Answer)
+    (κs λs : Lfts 5) (p q : Places) (n m : ℕ) (a b c d e d₁ e₁ d₂ e₂ : List ℕ) (r₁ r₂ : Result ℕ Refusal)
     → rows a ≤ n → n ≤ max_allowance → rows a ≤ m → m ≤ max_allowance
-    → ByRounds κs p n a b c d e answer₁ d₁ e₁
-    → ByRounds λs q m a b c d e answer₂ d₂ e₂
-    → Alike answer₁ answer₂ d₁ d₂ e₁ e₂
+    → ByRounds κs p n a b c d e r₁ d₁ e₁
+    → ByRounds λs q m a b c d e r₂ d₂ e₂
+    → Alike (answer r₁) (answer r₂) d₁ d₂ e₁ e₂
 
 -- the claims, with what makes them claims of the code: each program meets its contract, what a caller learns follows
 -- from that, and a caller has nothing to show

@@ -11,7 +11,19 @@ use Rattle.matrix.proofs.Facts.{row_span}
 use Rattle.matrix.proofs.Rows.{row_even}
 use Rattle.key_rounds.specs.Rounds.{◌or◌, in_hand}
 use Rattle.key_rounds.proofs.Rounds.{keys_same, first_same}
-use Rattle.key_marks.specs.Marks.{mark, held, has, Below, Stamped, Lent, Asked, HandVector, HandMarked, door_word, Rounds}
+use Rattle.key_marks.specs.Marks.{
+  mark,
+  held,
+  has,
+  Below,
+  Stamped,
+  Lent,
+  Asked,
+  HandVector,
+  HandMarked,
+  door_word,
+  Rounds,
+}
 use Rattle.key_marks.proofs.Stamps.{mark_zero, mark_stamped, has_lookup}
 use Rattle.key_marks.proofs.Rows.{row_below}
 
@@ -80,8 +92,10 @@ module _ {locks cabinets vector keys doors : List ℕ} (a : Asked locks cabinets
       keys_size = h.keys_size;
       doors_size = h.doors_size;
       holds = λ k l.
-          h.holds k l ∙ keys_same (grid_of locks) (grid_of cabinets) (held keys') (in_hand (grid_of vector)) held_in_hand n k l;
+          h.holds k l
+          ∙ keys_same (grid_of locks) (grid_of cabinets) (held keys') (in_hand (grid_of vector)) held_in_hand n k l;
       opens = λ d l.
           h.opens d l
-          ∙ ap door_word (first_same (grid_of locks) (grid_of cabinets) (held keys') (in_hand (grid_of vector)) held_in_hand m d);
+          ∙ ap door_word
+          (first_same (grid_of locks) (grid_of cabinets) (held keys') (in_hand (grid_of vector)) held_in_hand m d);
     }

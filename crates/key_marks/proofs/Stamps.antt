@@ -1,4 +1,5 @@
 -- Laws of stamps: one after another, and the one of a single place.
+use Rattle.std.proofs.Common.{Some}
 use Prim.Native.Nat.{ℕ, zero, suc, ◌+◌, ◌≤◌, ◌<◌}
 use native.Mathlib.Omega.{arith}
 use native.Mathlib.Numerals.{add-one}
@@ -7,11 +8,10 @@ use mathlib.Core.Path.{◌≡◌, refl, sym, ap, ◌∙◌}
 use mathlib.Core.List.{List, [], ◌∷◌}
 use mathlib.Core.Bool.{Bool, true, false, cond}
 use lib.ListN.{length, take, set, length-set}
-use lib.Seq.{get_or-set_same, get_or-set_other, take_all}
+use lib.Seq.{get_or-set_same, get_or-set_other}
 use lib.Dec.{eqb}
 use borrow.Author.Tests.{eq-eqb, ne_eqb}
 use Rattle.words.specs.Words.{at}
-use Rattle.grid.specs.declared.Cell.TheVariants.{Present}
 use Rattle.rows.specs.Row.{lookup}
 use Rattle.key_rounds.specs.Rounds.{filled, ◌or◌}
 use Rattle.key_rounds.proofs.Tests.{or_none, or_assoc}
@@ -111,9 +111,6 @@ pub has_next : (cols : List ℕ) (p j : ℕ) → p < length cols
     → (has (take p cols) j or eqb (at cols p) j) ≡ has (take (p + 1) cols) j
 has_next cols p j l = has_more cols p j l ∙ ap (λ (i : ℕ). has (take i cols) j) (sym (add-one p))
 
-pub has_all : (cols : List ℕ) (p j : ℕ) → length cols ≤ p → has (take p cols) j ≡ has cols j
-has_all cols p j l = rw (take_all p cols l)
-
 -- a column number is there where the row has an entry
 pub has_lookup : (cols vals : List ℕ) (j : ℕ) → length vals ≡ length cols → has cols j ≡ filled (lookup cols vals j)
 unfolding has lookup filled ◌or◌
@@ -122,6 +119,6 @@ has_lookup (c ∷ cols) [] j e = absurd (omega arith)
 has_lookup (c ∷ cols) (v ∷ vals) j e = go (eqb c j) (has_lookup cols vals j (omega arith))
   where
     go : (b : Bool) → has cols j ≡ filled (lookup cols vals j)
-        → (b or has cols j) ≡ filled (cond b (Present v) (lookup cols vals j))
+        → (b or has cols j) ≡ filled (cond b (Some v) (lookup cols vals j))
     go true h = refl
     go false h = h

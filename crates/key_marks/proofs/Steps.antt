@@ -1,5 +1,6 @@
 -- The rounds in words: what a stamp of the doors and one of the keys make of them, and where they start and end.
-use Prim.Native.Nat.{ℕ, suc, ◌+◌, ◌-◌, ◌≤◌, ◌<◌}
+use Rattle.std.proofs.Common.{None, Some}
+use Prim.Native.Nat.{ℕ, suc, ◌+◌, ◌-◌, ◌<◌}
 use native.Mathlib.Omega.{arith}
 use native.Mathlib.Numerals.{add-one}
 use mathlib.Core.Path.{◌≡◌, refl, sym, ap, subst, ◌∙◌}
@@ -8,31 +9,30 @@ use mathlib.Core.Bool.{Bool, true, false, cond}
 use lib.ListN.{length}
 use lib.Seq.{ext_get_or}
 use Rattle.words.specs.Words.{at}
-use Rattle.grid.specs.declared.Cell.{Cell}
-use Rattle.grid.specs.declared.Cell.TheVariants.{Absent, Present}
+use Rattle.grid.specs.Cell.{Cell}
 use Rattle.grid.specs.Grid.{Grid}
 use Rattle.matrix.specs.Layout.{grid_of}
 use Rattle.key_rounds.specs.Rounds.{filled, count, reached, keys_after, doors_after, earlier, first_before, Fitting}
 use Rattle.key_rounds.proofs.Tests.{reached_same}
 use Rattle.key_rounds.proofs.Counting.{count_same}
 use Rattle.key_rounds.proofs.Rounds.{Settled, keys_next, first_open, first_stays, keys_stay, settled_count}
-use Rattle.key_marks.specs.Marks.{mark, held, once, Stamped, Stampable, door_word, Rounds, Lent}
+use Rattle.key_marks.specs.Marks.{mark, held, once, Stamped, door_word, Rounds, Lent}
 use Rattle.key_marks.proofs.Stamps.{mark_zero, mark_other, mark_stamped, once_zero, once_other}
 
 -- a door's word is marked where it has a first round
 mark_door : (c : Cell) → mark (door_word c) ≡ filled c
 unfolding door_word filled
-mark_door Absent = mark_zero 0 refl
-mark_door (Present r) = mark_other (r + 1) (λ e. omega arith)
+mark_door None = mark_zero 0 refl
+mark_door (Some r) = mark_other (r + 1) (λ e. omega arith)
 
 -- a stamp of round n keeps an earlier round
 stamp_door : (n : ℕ) (c : Cell) (b : Bool)
-    → cond b (once (n + 1) (door_word c)) (door_word c) ≡ door_word (earlier c (cond b (Present n) Absent))
+    → cond b (once (n + 1) (door_word c)) (door_word c) ≡ door_word (earlier c (cond b (Some n) None))
 unfolding door_word
-stamp_door n Absent true = once_zero (n + 1) 0 refl
-stamp_door n Absent false = refl
-stamp_door n (Present r) true = once_other (n + 1) (r + 1) (λ e. omega arith)
-stamp_door n (Present r) false = refl
+stamp_door n None true = once_zero (n + 1) 0 refl
+stamp_door n None false = refl
+stamp_door n (Some r) true = once_other (n + 1) (r + 1) (λ e. omega arith)
+stamp_door n (Some r) false = refl
 
 module _ {locks cabinets : Grid} {hand : ℕ → Bool} where
   -- the doors of round n are opened
@@ -135,22 +135,3 @@ lent_rounds a = record {
 pub lent_fitting : {locks cabinets keys doors : List ℕ} → Lent locks cabinets keys doors
     → Fitting (grid_of locks) (grid_of cabinets)
 lent_fitting a = record { doors = a.same_doors; keys = a.same_keys }
-
--- what the stamps ask, with any keys and doors that were reached
-module _ {locks cabinets keys₀ doors₀ keys doors : List ℕ} {n m : ℕ} (a : Lent locks cabinets keys₀ doors₀)
-    (h : Rounds (grid_of locks) (grid_of cabinets) (held keys₀) n m keys doors) where
-  pub locks_stampable : {s : ℕ} → 1 ≤ s → Stampable locks keys s doors
-  locks_stampable l = record {
-    valid = a.locks_valid;
-    from_size = h.keys_size;
-    marks_size = h.doors_size;
-    marking = l;
-  }
-
-  pub cabinets_stampable : Stampable cabinets doors 1 keys
-  cabinets_stampable = record {
-    valid = a.cabinets_valid;
-    from_size = h.doors_size ∙ sym a.same_doors;
-    marks_size = h.keys_size ∙ sym a.same_keys;
-    marking = omega arith;
-  }

@@ -1,8 +1,7 @@
 -- Marks in words: keys that are held, doors with the first round that they open in.
-use Rattle.std.specs.Prelude.{ℕ, ◌+◌, ◌≤◌, ◌<◌, ◌≡◌, List, [], ◌∷◌, Bool, false, cond, not, length, eqb}
+use Rattle.std.specs.Prelude.{ℕ, ◌+◌, ◌≤◌, ◌<◌, ◌≡◌, List, [], ◌∷◌, Bool, false, cond, not, length, eqb, None, Some}
 use Rattle.words.specs.Words.{at}
-use Rattle.grid.specs.declared.Cell.{Cell}
-use Rattle.grid.specs.declared.Cell.TheVariants.{Absent, Present}
+use Rattle.grid.specs.Cell.{Cell}
 use Rattle.grid.specs.Grid.{Grid}
 use Rattle.matrix.specs.Layout.{rows, cols, grid_of}
 use Rattle.matrix.specs.Facts.{Matrix}
@@ -42,8 +41,8 @@ pub record Stampable (m from : List ℕ) (stamp : ℕ) (marks : List ℕ) : Type
 
 -- a door's word: one more than its first round, or 0
 unfoldable pub door_word : Cell → ℕ
-door_word Absent = 0
-door_word (Present r) = r + 1
+door_word None = 0
+door_word (Some r) = r + 1
 
 -- the keys after round n, and the doors' first rounds before round m
 pub record Rounds (locks cabinets : Grid) (hand : ℕ → Bool) (n m : ℕ) (keys doors : List ℕ) : Type 0 where

@@ -22,8 +22,8 @@ pub fn doors_within(
     keys: &mut [u32],
     doors: &mut [u32],
 )
-    requires fact_1 { Asked locks.now cabinets.now vector.now keys.old doors.old }
-    requires fact_2 { allowance ≤ max_allowance }
+    requires asked { Asked locks.now cabinets.now vector.now keys.old doors.old }
+    requires allowed { allowance ≤ max_allowance }
     ensures { Rounds (grid_of locks.now) (grid_of cabinets.now)
         (in_hand (grid_of vector.now)) allowance (allowance + 1) keys.new doors.new }
 {
@@ -32,6 +32,7 @@ pub fn doors_within(
 }
 
 // The same, by the two that ask each other.
+// Kept: one body for both would be longer, as they differ in the function that they call.
 pub fn doors_asked(
     allowance: u32,
     locks: &[u32],
@@ -40,8 +41,8 @@ pub fn doors_asked(
     keys: &mut [u32],
     doors: &mut [u32],
 )
-    requires fact_1 { Asked locks.now cabinets.now vector.now keys.old doors.old }
-    requires fact_2 { allowance ≤ max_allowance }
+    requires asked { Asked locks.now cabinets.now vector.now keys.old doors.old }
+    requires allowed { allowance ≤ max_allowance }
     ensures { Rounds (grid_of locks.now) (grid_of cabinets.now)
         (in_hand (grid_of vector.now)) allowance (allowance + 1) keys.new doors.new }
 {
@@ -63,7 +64,8 @@ fn mark_hand(vector: &[u32], keys: &mut [u32], doors: &mut [u32])
 // Which doors the keys after round n open, and the first round of each; the keys after round n are left beside them.
 #[cycle(doors_open_keys_held)]
 pub fn doors_open(n: u32, locks: &[u32], cabinets: &[u32], keys: &mut [u32], doors: &mut [u32])
-    requires { (Lent locks.now cabinets.now keys.old doors.old) × (n ≤ max_allowance) }
+    requires lent { Lent locks.now cabinets.now keys.old doors.old }
+    requires allowed { n ≤ max_allowance }
     ensures { Rounds (grid_of locks.now) (grid_of cabinets.now) (held keys.old)
         n (n + 1) keys.new doors.new }
 {
@@ -74,34 +76,32 @@ pub fn doors_open(n: u32, locks: &[u32], cabinets: &[u32], keys: &mut [u32], doo
 // Which keys are held after round n: those after the round before, and those behind the doors that it opened.
 #[cycle(doors_open_keys_held)]
 pub fn keys_held(n: u32, locks: &[u32], cabinets: &[u32], keys: &mut [u32], doors: &mut [u32])
-    requires { (Lent locks.now cabinets.now keys.old doors.old) × (n ≤ max_allowance) }
+    requires lent { Lent locks.now cabinets.now keys.old doors.old }
+    requires allowed { n ≤ max_allowance }
     ensures { Rounds (grid_of locks.now) (grid_of cabinets.now) (held keys.old)
         n n keys.new doors.new }
 {
-    if n == 0 {
-        return;
+    if n > 0 {
+        doors_open(n - 1, locks, cabinets, keys, doors);
+        mark_rows(cabinets, doors, 1, keys);
     }
-    doors_open(n - 1, locks, cabinets, keys, doors);
-    mark_rows(cabinets, doors, 1, keys);
 }
 
 // The same by rounds, one after another, until the allowance is used or no key is added.
 pub fn rounds(allowance: u32, locks: &[u32], cabinets: &[u32], keys: &mut [u32], doors: &mut [u32])
-    requires fact_1 { Lent locks.now cabinets.now keys.old doors.old }
-    requires fact_2 { allowance ≤ max_allowance }
+    requires lent { Lent locks.now cabinets.now keys.old doors.old }
+    requires allowed { allowance ≤ max_allowance }
     ensures { Rounds (grid_of locks.now) (grid_of cabinets.now) (held keys.old)
         allowance (allowance + 1) keys.new doors.new }
 {
     mark_rows(locks, keys, 1, doors);
-    let mut n: u32 = 0;
-    while n < allowance {
+    for n in 0..allowance {
         let before = count_marks(keys);
         mark_rows(cabinets, doors, 1, keys);
         if count_marks(keys) == before {
             return;
         }
-        n += 1;
-        mark_rows(locks, keys, n + 1, doors);
+        mark_rows(locks, keys, n + 2, doors);
     }
 }
 
@@ -109,22 +109,7 @@ pub fn rounds(allowance: u32, locks: &[u32], cabinets: &[u32], keys: &mut [u32],
 fn count_marks(words: &[u32]) -> usize
     ensures { result ≡ count (length words.now) (held words.now) }
 {
-    let mut n: usize = 0;
-    let mut i: usize = 0;
-    while i < words.len() {
-        n += one_if_marked(words[i]);
-        i += 1;
-    }
-    n
-}
-
-fn one_if_marked(word: u32) -> usize
-    ensures { result ≡ cond (mark word) 1 0 }
-{
-    if word == 0 {
-        return 0;
-    }
-    1
+    words.iter().filter(|word| **word != 0).count()
 }
 
 // Stamps the columns that the rows named by `from` have entries in.
@@ -133,48 +118,41 @@ fn mark_rows(m: &[u32], from: &[u32], stamp: u32, marks: &mut [u32])
     ensures { Stamped stamp (reached (grid_of m.now) (held from.now)) marks.old
         marks.new }
 {
-    let mut i: usize = 0;
-    while i < from.len() {
-        mark_named(m, i, from[i], stamp, marks);
-        i += 1;
+    for (i, &named) in from.iter().enumerate() {
+        mark_named(m, i, named, stamp, marks);
     }
 }
 
 // Stamps the columns of row i where it is named.
 fn mark_named(m: &[u32], i: usize, named: u32, stamp: u32, marks: &mut [u32])
-    requires header_1 { Header m.now }
-    requires header_2 { RowSpan m.now i }
-    requires header_3 { Below (length marks.old) (row_columns m.now i) }
-    requires le_stamp { 1 ≤ stamp }
+    requires header { Header m.now }
+    requires row { RowSpan m.now i }
+    requires places { Below (length marks.old) (row_columns m.now i) }
+    requires marking { 1 ≤ stamp }
     ensures { Stamped stamp (λ j. mark named and filled (cell_of m.now i j)) marks.old
         marks.new }
 {
-    if named == 0 {
-        return;
+    if named != 0 {
+        mark_row(matrix::row_columns(m, i), stamp, marks);
     }
-    mark_row(matrix::row_columns(m, i), stamp, marks);
 }
 
 // Stamps the places that the column numbers name.
 fn mark_row(columns: &[u32], stamp: u32, marks: &mut [u32])
-    requires fact_1 { Below (length marks.old) columns.now }
-    requires fact_2 { 1 ≤ stamp }
+    requires places { Below (length marks.old) columns.now }
+    requires marking { 1 ≤ stamp }
     ensures { Stamped stamp (has columns.now) marks.old marks.new }
 {
-    let mut p: usize = 0;
-    while p < columns.len() {
-        let j = columns[p] as usize;
+    for &column in columns {
+        let j = column as usize;
         marks[j] = stamp_once(marks[j], stamp);
-        p += 1;
     }
 }
 
 // A word that is marked stays; another takes the stamp.
+#[tactic(auto, unfolding(crate::specs::Marks::once))]
 fn stamp_once(word: u32, stamp: u32) -> u32
     ensures { result ≡ once stamp word }
 {
-    if word == 0 {
-        return stamp;
-    }
-    word
+    if word == 0 { stamp } else { word }
 }

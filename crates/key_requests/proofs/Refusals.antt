@@ -1,76 +1,17 @@
--- The refusals in their order, as the code reaches them, and what is known where none applies.
-use Prim.Native.Nat.{ℕ, ◌≤◌, ◌<◌}
-use mathlib.Core.Path.{◌≡◌, refl, sym, ◌∙◌}
+-- What is known of a call that none of the refusals applies to.
+use Prim.Native.Nat.{ℕ}
+use mathlib.Core.Path.{◌≡◌, refl}
 use mathlib.Core.List.{List}
-use mathlib.Core.Bool.{Bool, true, false}
+use mathlib.Core.Bool.{true}
 use lib.Dec.{eqb}
-use borrow.Author.Tests.{not-false, ltb-false, eqb-true, eq-eqb, ne_eqb, lt-ltb, le-ltb}
-use Rattle.limits.specs.Limits.{max_allowance}
-use Rattle.limits.specs.Sizes.{workspace_words}
-use Rattle.answers.specs.Refusals.{
-  invalid_first,
-  invalid_second,
-  invalid_mask,
-  index_out_of_bounds,
-  invalid_shape,
-  workspace_too_short,
-}
+use borrow.Author.Tests.{not-false, ltb-false, eqb-true}
 use Rattle.conditions.proofs.Tests.{and_left, and_right}
 use Rattle.grid.specs.Grid.{Grid}
 use Rattle.matrix.specs.Layout.{grid_of}
-use Rattle.matrix.specs.Valid.{valid}
 use Rattle.matrix.proofs.Facts.{matrix_facts}
 use Rattle.refusals.proofs.Cases.{later}
 use Rattle.key_requests.specs.Refusal.{shapes_fit, input_refusal}
 use Rattle.key_requests.specs.Ready.{Checked}
-
--- each of 3 to 9, where none before it applies
-module _ (allowance : ℕ) (locks cabinets hand : List ℕ) (work : ℕ) where
-  abbrev fit : Bool
-  fit = shapes_fit (grid_of locks) (grid_of cabinets) (grid_of hand)
-
-  abbrev refusal : ℕ
-  refusal = input_refusal allowance locks cabinets hand work
-
-  pub locks_refused : valid locks ≡ false → invalid_first ≡ refusal
-  unfolding input_refusal
-  locks_refused h₃ = rw h₃
-
-  module _ (h₃ : valid locks ≡ true) where
-    pub cabinets_refused : valid cabinets ≡ false → invalid_second ≡ refusal
-    unfolding input_refusal
-    cabinets_refused h₄ = rw (h₃, h₄)
-
-    module _ (h₄ : valid cabinets ≡ true) where
-      pub hand_refused : valid hand ≡ false → invalid_mask ≡ refusal
-      unfolding input_refusal
-      hand_refused h₅ = rw (h₃, h₄, h₅)
-
-      module _ (h₅ : valid hand ≡ true) where
-        pub allowance_refused : max_allowance < allowance → index_out_of_bounds ≡ refusal
-        unfolding input_refusal
-        allowance_refused h₇ = rw (h₃, h₄, h₅, lt-ltb _ _ h₇)
-
-        module _ (h₇ : allowance ≤ max_allowance) where
-          pub shape_refused : fit ≡ false → invalid_shape ≡ refusal
-          unfolding input_refusal
-          shape_refused h₈ = rw (h₃, h₄, h₅, le-ltb _ _ h₇, h₈)
-
-          module _ (h₈ : fit ≡ true) where
-            pub workspace_refused : work < workspace_words → workspace_too_short ≡ refusal
-            unfolding input_refusal
-            workspace_refused h₉ = rw (h₃, h₄, h₅, le-ltb _ _ h₇, h₈, lt-ltb _ _ h₉)
-
-            pub none_refused : workspace_words ≤ work → 0 ≡ refusal
-            unfolding input_refusal
-            none_refused h₉ = rw (h₃, h₄, h₅, le-ltb _ _ h₇, h₈, le-ltb _ _ h₉)
-
--- two counts that the code has compared
-pub differ : {x y a b : ℕ} → x ≡ a → y ≡ b → (x ≡ y → ⊥) → eqb a b ≡ false
-differ {a = a} {b = b} p q h = ne_eqb a b (λ e. h (p ∙ e ∙ sym q))
-
-pub agree : {x y a b : ℕ} → x ≡ a → y ≡ b → x ≡ y → eqb a b ≡ true
-agree {a = a} {b = b} p q h = eq-eqb a b (sym p ∙ h ∙ q)
 
 -- the four equations of shapes that fit
 pub record Fits (locks cabinets hand : Grid) : Type 0 where

@@ -4,66 +4,59 @@
 #![tactic(auto)]
 
 ghost use Rattle.std.specs.Prelude.{◌≡◌};
+ghost use Rattle.answers.specs.Results.{code_of};
 ghost use Rattle.matrix.specs.Layout.{grid_of};
 ghost use Rattle.matrix.specs.Facts.{Header};
 ghost use Rattle.key_requests.specs.Refusal.{shapes_fit, input_refusal};
 
-use answers::{
-    INDEX_OUT_OF_BOUNDS, INVALID_FIRST, INVALID_MASK, INVALID_SECOND, INVALID_SHAPE,
-    WORKSPACE_TOO_SHORT,
-};
+use answers::Refusal;
 use limits::MAX_ALLOWANCE;
 use matrix::layout::WORKSPACE_WORDS;
 
-// The lowest of the refusals 3 to 9 that applies, or 0. The vector of the keys in hand is the third input, whose number
+// The lowest of the refusals 3 to 9 that applies. The vector of the keys in hand is the third input, whose number
 // is a mask's elsewhere.
+#[tactic(auto, unfolding(crate::specs::Refusal::input_refusal))]
 pub fn input_refusal(
     allowance: u32,
     locks: &[u32],
     cabinets: &[u32],
     hand: &[u32],
     work: usize,
-) -> u32
-    ensures { result ≡ input_refusal allowance locks.now cabinets.now hand.now
+) -> Result<(), Refusal>
+    ensures { code_of result ≡ input_refusal allowance locks.now cabinets.now hand.now
         work }
 {
     if !matrix::is_valid(locks) {
-        return INVALID_FIRST;
+        return Err(Refusal::InvalidFirst);
     }
     if !matrix::is_valid(cabinets) {
-        return INVALID_SECOND;
+        return Err(Refusal::InvalidSecond);
     }
     if !matrix::is_valid(hand) {
-        return INVALID_MASK;
+        return Err(Refusal::InvalidMask);
     }
     if MAX_ALLOWANCE < allowance {
-        return INDEX_OUT_OF_BOUNDS;
+        return Err(Refusal::IndexOutOfBounds);
     }
     if !shapes_fit(locks, cabinets, hand) {
-        return INVALID_SHAPE;
+        return Err(Refusal::InvalidShape);
     }
     if work < WORKSPACE_WORDS {
-        return WORKSPACE_TOO_SHORT;
+        return Err(Refusal::WorkspaceTooShort);
     }
-    0
+    Ok(())
 }
 
 // Keys by doors, doors by keys, and a vector of keys.
 fn shapes_fit(locks: &[u32], cabinets: &[u32], hand: &[u32]) -> bool
-    requires fact_1 { Header locks.now }
-    requires fact_2 { Header cabinets.now }
-    requires fact_3 { Header hand.now }
+    requires locks_header { Header locks.now }
+    requires cabinets_header { Header cabinets.now }
+    requires hand_header { Header hand.now }
     ensures { result ≡ shapes_fit (grid_of locks.now) (grid_of cabinets.now)
         (grid_of hand.now) }
 {
-    if matrix::row_count(cabinets) != matrix::col_count(locks) {
-        return false;
-    }
-    if matrix::col_count(cabinets) != matrix::row_count(locks) {
-        return false;
-    }
-    if matrix::row_count(hand) != 1 {
-        return false;
-    }
-    matrix::col_count(hand) == matrix::row_count(locks)
+    matrix::row_count(cabinets) == matrix::col_count(locks)
+        && matrix::col_count(cabinets) == matrix::row_count(locks)
+        && matrix::row_count(hand) == 1
+        && matrix::col_count(hand) == matrix::row_count(locks)
 }

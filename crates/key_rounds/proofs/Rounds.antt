@@ -1,5 +1,6 @@
 -- The rounds: keys and doors only grow, a round that adds no key is followed by no change, and after as many rounds as
 -- there are keys none is added: "an allowance beyond the number of keys adds nothing".
+use Rattle.std.proofs.Common.{None, Some}
 use Prim.Native.Nat.{ℕ, zero, suc, ◌+◌, ◌-◌, ◌≤◌, ◌<◌}
 use native.Mathlib.Omega.{arith}
 use native.Mathlib.Nat.{add-zero, add-suc}
@@ -7,8 +8,7 @@ use native.Mathlib.Decide.{dec_lt}
 use mathlib.Core.Path.{◌≡◌, refl, sym, ap, ◌∙◌}
 use mathlib.Core.Bool.{Bool, true, false, cond, false≢true}
 use mathlib.Core.Logic.{◌⊎◌, inl, inr}
-use Rattle.grid.specs.declared.Cell.{Cell}
-use Rattle.grid.specs.declared.Cell.TheVariants.{Absent, Present}
+use Rattle.grid.specs.Cell.{Cell}
 use Rattle.grid.specs.Grid.{Grid, Same}
 use Rattle.key_rounds.specs.Rounds.{
   filled,
@@ -89,23 +89,23 @@ module _ (locks cabinets : Grid) (hand : ℕ → Bool) where
 
   -- a door has a first round before round n + 1 where it is open after round n
   filled_earlier : (c : Cell) (n : ℕ) (b : Bool) → (filled c ≡ true → b ≡ true)
-      → filled (earlier c (cond b (Present n) Absent)) ≡ b
+      → filled (earlier c (cond b (Some n) None)) ≡ b
   unfolding filled
-  filled_earlier Absent n true h = refl
-  filled_earlier Absent n false h = refl
-  filled_earlier (Present r) n b h = sym (h refl)
+  filled_earlier None n true h = refl
+  filled_earlier None n false h = refl
+  filled_earlier (Some r) n b h = sym (h refl)
 
   pub first_open : (n d : ℕ) → filled (first (suc n) d) ≡ doors n d
   unfolding first_before filled
-  first_open zero d = filled_earlier Absent zero (doors zero d) (λ e. absurd (false≢true e))
+  first_open zero d = filled_earlier None zero (doors zero d) (λ e. absurd (false≢true e))
   first_open (suc n) d =
       filled_earlier (first (suc n) d) (suc n) (doors (suc n) d) (λ e. doors_grow n d (sym (first_open n d) ∙ e))
 
   -- no first round comes later
-  keep_earlier : (c : Cell) (n : ℕ) (b : Bool) → b ≡ filled c → earlier c (cond b (Present n) Absent) ≡ c
+  keep_earlier : (c : Cell) (n : ℕ) (b : Bool) → b ≡ filled c → earlier c (cond b (Some n) None) ≡ c
   unfolding filled
-  keep_earlier Absent n b h = rw h
-  keep_earlier (Present r) n b h = refl
+  keep_earlier None n b h = rw h
+  keep_earlier (Some r) n b h = refl
 
   pub first_stays : {n : ℕ} → Settled n → (e d : ℕ) → first (suc n + e) d ≡ first (suc n) d
   unfolding first_before

@@ -1,9 +1,8 @@
 -- "Keys behind doors" on plain grids. `locks` has a row for each key and a column for each door, `cabinets` a row for
 -- each door and a column for each key; "entries count whatever their value".
-use Rattle.std.specs.Prelude.{ℕ, zero, suc, ◌+◌, ◌≡◌, Bool, true, false, cond}
+use Rattle.std.specs.Prelude.{ℕ, zero, suc, ◌+◌, ◌≡◌, Bool, true, false, cond, None, Some}
 use Rattle.conditions.specs.Tests.{◌and◌}
-use Rattle.grid.specs.declared.Cell.{Cell}
-use Rattle.grid.specs.declared.Cell.TheVariants.{Absent, Present}
+use Rattle.grid.specs.Cell.{Cell}
 use Rattle.grid.specs.Grid.{Grid}
 
 infixr 15 ◌or◌
@@ -24,8 +23,8 @@ count (suc n) p = count n p + cond (p n) 1 0
 
 -- whether a cell has a value: "entries count whatever their value"
 unfoldable pub filled : Cell → Bool
-filled Absent = false
-filled (Present v) = true
+filled None = false
+filled (Some v) = true
 
 -- the columns where one of the named rows has an entry
 unfoldable pub reached : Grid → (ℕ → Bool) → ℕ → Bool
@@ -44,14 +43,14 @@ doors_after locks cabinets hand n d = reached locks (keys_after locks cabinets h
 
 -- the first cell where it has a value, else the second
 abbrev pub earlier : Cell → Cell → Cell
-earlier Absent c = c
-earlier (Present r) c = Present r
+earlier None c = c
+earlier (Some r) c = Some r
 
 -- the first of the rounds before round n in which a door opens
 unfoldable pub first_before : Grid → Grid → (ℕ → Bool) → ℕ → ℕ → Cell
-first_before locks cabinets hand zero d = Absent
+first_before locks cabinets hand zero d = None
 first_before locks cabinets hand (suc n) d =
-    earlier (first_before locks cabinets hand n d) (cond (doors_after locks cabinets hand n d) (Present n) Absent)
+    earlier (first_before locks cabinets hand n d) (cond (doors_after locks cabinets hand n d) (Some n) None)
 
 -- "each with the first round it opens in", within an allowance of rounds
 abbrev pub first_round : Grid → Grid → (ℕ → Bool) → ℕ → ℕ → Cell

@@ -1,4 +1,5 @@
 -- The loop of `add_block`: what it has written when it stands at entry p of the row.
+use Rattle.std.proofs.Common.{None, Some}
 use Prim.Native.Nat.{ℕ, ◌+◌, ◌-◌, ◌≤◌, ◌<◌}
 use native.Mathlib.Omega.{arith}
 use native.Mathlib.Decide.{dec_lt}
@@ -6,8 +7,7 @@ use mathlib.Core.Path.{◌≡◌, refl, sym, ap, ◌∙◌}
 use mathlib.Core.List.{List}
 use lib.ListN.{length, set, length-set}
 use Rattle.words.specs.Words.{at}
-use Rattle.grid.specs.declared.Cell.{Cell}
-use Rattle.grid.specs.declared.Cell.TheVariants.{Absent, Present}
+use Rattle.grid.specs.Cell.{Cell}
 use Rattle.operators.specs.declared.BinaryOp.{BinaryOp}
 use Rattle.operators.specs.Operators.{binary_word}
 use Rattle.rows.specs.Row.{lookup, Row, Holds}
@@ -15,7 +15,8 @@ use Rattle.rows.proofs.Holds.{holds_put, holds_skip}
 use Rattle.rows.proofs.Walk.{front, front_at, front_end, front_above, lookup_entry, absent_first, absent_next}
 use Rattle.kronecker_rows.specs.Blocks.{Block}
 
--- the entries before p are written behind those that were there, e entries now, and the buffers are as long as they were
+-- the entries before p are written behind those that were there, e entries now, and the buffers are as long as they
+-- were
 pub record Adding (op : BinaryOp) (x base n : ℕ) (cols vals oc₀ ov₀ : List ℕ) (count : ℕ) (oc ov : List ℕ) (p e : ℕ)
     : Type 0 where
   pub most : e ≤ base + front n cols p
@@ -34,7 +35,7 @@ module _ {n : ℕ} {cols vals : List ℕ} (w : Row n cols vals) where
 
   -- a column of the block where the row has no entry
   block_absent : (op : BinaryOp) (x base : ℕ) (f : ℕ → Cell) → Block op x base n cols vals f
-      → (j : ℕ) → base ≤ j → j - base < n → lookup cols vals (j - base) ≡ Absent → f j ≡ Absent
+      → (j : ℕ) → base ≤ j → j - base < n → lookup cols vals (j - base) ≡ None → f j ≡ None
   block_absent op x base f b j l m e =
       let z : base + (j - base) ≡ j = omega arith in ap f (sym z) ∙ b (j - base) m ∙ rw e
 
@@ -44,7 +45,8 @@ module _ {n : ℕ} {cols vals : List ℕ} (w : Row n cols vals) where
   adding_start op x base count oc ov l = record {
     most = omega arith;
     out = λ f b h. holds_skip h (base + front n cols 0) (omega arith)
-        (λ j u v. block_absent op x base f b j u (omega (arith, front_most 0)) (absent_first w (j - base) (omega arith)));
+        (λ j u v. block_absent op x base f b j u (omega (arith, front_most 0))
+        (absent_first w (j - base) (omega arith)));
     long_cols = refl;
     long_vals = refl;
   }
@@ -66,7 +68,7 @@ module _ {n : ℕ} {cols vals : List ℕ} (w : Row n cols vals) where
         record {
           most = omega (arith, h.most);
           out = λ f k g.
-              let entry : f (base + at cols p) ≡ Present (binary_word op x (at vals p)) =
+              let entry : f (base + at cols p) ≡ Some (binary_word op x (at vals p)) =
               k (at cols p) (w.small p l) ∙ rw (lookup_entry w p l) in
               let done : Holds (base + at cols p) f e oc ov = rw here at (h.out f k g) in
               holds_skip (holds_put done (omega (arith, h.long_cols)) (omega (arith, h.long_vals)) entry)

@@ -8,7 +8,7 @@ use lib.Arith.{digits_div, digits_mod}
 use lib.ListN.{length}
 use Rattle.limits.specs.Limits.{max_cols}
 use Rattle.words.specs.Words.{at}
-use Rattle.grid.specs.declared.Cell.{Cell}
+use Rattle.grid.specs.Cell.{Cell}
 use Rattle.operators.specs.declared.BinaryOp.{BinaryOp}
 use Rattle.operations.specs.CellOperations.{intersect}
 use Rattle.operations.proofs.Blocks.{has_places, block_below, blocks_most}

@@ -1,4 +1,5 @@
-// A row of the Kronecker product, from a row of each input: for each entry of the first a block of the second's columns.
+// A row of the Kronecker product, from a row of each input: for each entry of the first a block of the second's
+// columns.
 
 #![tactic(auto)]
 
@@ -10,8 +11,8 @@ ghost use Rattle.kronecker_rows.specs.Blocks.{BlockAdded};
 
 use operators::BinaryOp;
 
-// The row whose cell j · places + l is the operator's on the first row's cell j and the second row's cell l, of `blocks`
-// and `places` columns. It is left at the front of `oc` and `ov`, and its number of entries returned.
+// The row whose cell j · places + l is the operator's on the first row's cell j and the second row's cell l, of
+// `blocks` and `places` columns. It is left at the front of `oc` and `ov`, and its number of entries returned.
 pub fn kronecker_row(
     op: BinaryOp,
     blocks: u32,
@@ -32,18 +33,16 @@ pub fn kronecker_row(
         (lookup bc.now bv.now (j % places)))
         result oc.new ov.new }
 {
-    let mut p: usize = 0;
     let mut e: usize = 0;
-    while p < ac.len() {
-        let base = ac[p] * places;
+    for (p, &j) in ac.iter().enumerate() {
+        let base = j * places;
         e = add_block(op, av[p], base, places, bc, bv, oc, ov, e);
-        p += 1;
     }
     e
 }
 
-// The entries of a row with their columns moved by `base` and the operator's values, x first, behind `count` entries: how
-// many there are then.
+// The entries of a row with their columns moved by `base` and the operator's values, x first, behind `count` entries:
+// how many there are then.
 fn add_block(
     op: BinaryOp,
     x: u32,
@@ -55,19 +54,15 @@ fn add_block(
     ov: &mut [u32],
     count: usize,
 ) -> usize
-    requires row_1 { Row places columns.now values.now }
-    requires row_2 { (count ≤ base) × (base + places ≤ max_cols * max_cols) }
+    requires row { Row places columns.now values.now }
+    requires base_in_bounds { (count ≤ base) × (base + places ≤ max_cols * max_cols) }
     requires places_in_bounds { (base + places ≤ length oc.old) × (base + places ≤ length ov.old) }
     ensures { BlockAdded op x base places columns.now values.now oc.old
         ov.old count oc.new ov.new result }
 {
-    let mut p: usize = 0;
-    let mut e = count;
-    while p < columns.len() {
-        oc[e] = base + columns[p];
-        ov[e] = operators::apply_binary(op, x, values[p]);
-        e += 1;
-        p += 1;
+    for (p, &j) in columns.iter().enumerate() {
+        oc[count + p] = base + j;
+        ov[count + p] = operators::apply_binary(op, x, values[p]);
     }
-    e
+    count + columns.len()
 }

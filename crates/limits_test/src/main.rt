@@ -73,7 +73,7 @@ fn outer_in(
 // 1 by n, all present: 0, 1, 2 and so on.
 fn build_full(words: &mut [u32], n: u32) {
     let cols = n as usize;
-    create::new_empty(words, 1, n);
+    let _ = create::new_empty(words, 1, n);
     test_support::put(words, 7, n);
     test_support::put(words, 8, n);
     test_support::put_run(words, 9, cols, 1, 4294967295);
@@ -90,7 +90,7 @@ fn result_under_mask(rt: &impl Print, work: &mut Workspace) -> io::Result<()> {
     build_mask(&mut mask);
     let v: &[u32] = &v;
     let mask: &[u32] = &mask;
-    create::new_empty(&mut c, 1000, 1000);
+    let _ = create::new_empty(&mut c, 1000, 1000);
     test_support::heading(rt, b"a large T")?;
     square(rt, b"no mask", plain(8), v, mask, &mut c, work)?;
     square(rt, b"mask", masked(8), v, mask, &mut c, work)?;
@@ -109,12 +109,19 @@ fn square(
 ) -> io::Result<()> {
     refill(work);
     let r = calls::operate(options, Verb::Mxm(3, 5), v, v, mask, v, v, c, work);
-    report(rt, label, r.code, r.entries, &c[..], &work[..])
+    report(
+        rt,
+        label,
+        test_support::code(r),
+        test_support::value(r),
+        &c[..],
+        &work[..],
+    )
 }
 
 // 1,000 by 1,000 with one entry, 1 at (999, 4).
 fn build_mask(words: &mut [u32]) {
-    create::new_empty(words, 1000, 1000);
+    let _ = create::new_empty(words, 1000, 1000);
     test_support::put(words, 1006, 1);
     test_support::put(words, 1007, 1);
     test_support::put(words, 1008, 4);
@@ -126,7 +133,7 @@ fn build_mask(words: &mut [u32]) {
 fn shortest_lists(rt: &impl Print, work: &mut Workspace) -> io::Result<()> {
     let v: &[u32] = &[1, 0, 2, 1, 4, 2, 0, 3, 3, 0, 1, 3, 3, 10, 20, 40];
     let mut c = [9u32; 14];
-    create::new_empty(&mut c, 1, 1);
+    let _ = create::new_empty(&mut c, 1, 1);
     test_support::heading(rt, b"index lists")?;
     extract(rt, b"0 rows", plain(0), v, &[], &[0], &mut c, work)?;
     extract(rt, b"0 columns", plain(0), v, &[0], &[], &mut c, work)?;
@@ -141,7 +148,7 @@ fn longest_column_lists(rt: &impl Print, work: &mut Workspace) -> io::Result<()>
     build_full(&mut v, 1000);
     test_support::put_run(&mut list, 0, 1001, 1, 999);
     let v: &[u32] = &v;
-    create::new_empty(&mut c, 1, 1000);
+    let _ = create::new_empty(&mut c, 1, 1000);
     extract(rt, b"1001 columns", plain(0), v, &[0], &list, &mut c, work)?;
     extract(
         rt,
@@ -163,7 +170,7 @@ fn longest_row_lists(rt: &impl Print, work: &mut Workspace) -> io::Result<()> {
     build_full(&mut v, 1000);
     test_support::put_run(&mut list, 0, 1001, 1, 999);
     let v: &[u32] = &v;
-    create::new_empty(&mut c, 1000, 1);
+    let _ = create::new_empty(&mut c, 1000, 1);
     extract(rt, b"1001 rows", plain(8), v, &list, &[0], &mut c, work)?;
     extract(
         rt,

@@ -1,4 +1,5 @@
 -- The loop of `mark_mask`: the entries before p of a mask's row have their marks. And the columns inside the mask.
+use Rattle.std.proofs.Common.{None, Some}
 use Prim.Native.Nat.{ℕ, ◌+◌, ◌/◌, ◌%◌, ◌≤◌, ◌<◌}
 use native.Mathlib.Omega.{arith}
 use mathlib.Core.Path.{◌≡◌, refl, sym, ap, ◌∙◌}
@@ -7,8 +8,7 @@ use mathlib.Core.Bool.{Bool, true, false, cond, not}
 use lib.ListN.{length, replicate}
 use Rattle.limits.specs.Limits.{max_cols}
 use Rattle.words.specs.Words.{at}
-use Rattle.grid.specs.declared.Cell.{Cell}
-use Rattle.grid.specs.declared.Cell.TheVariants.{Absent, Present}
+use Rattle.grid.specs.Cell.{Cell}
 use Rattle.operations.specs.declared.WriteBack.{WriteBack}
 use Rattle.operations.specs.WriteBacks.{mask_holds, inside}
 use Rattle.rows.specs.Row.{lookup, Row}
@@ -27,11 +27,11 @@ unmarked_new = record { tracked = tracked_none; none = mark_none }
 
 -- an entry that does not count, and one that counts
 module _ {structural : Bool} {v j : ℕ} {map : List ℕ} where
-  pub entry_left : {top : ℕ} → Tracked top map → mask_holds structural (Present v) ≡ false
+  pub entry_left : {top : ℕ} → Tracked top map → mask_holds structural (Some v) ≡ false
       → EntryMarked structural v j map top map
   entry_left t e = record { tracked = t; here = λ h. rw e h; other = λ k n. refl }
 
-  pub entry_taken_lem : {top' : ℕ} {map' : List ℕ} → mask_holds structural (Present v) ≡ true → Marking j map top' map'
+  pub entry_taken_lem : {top' : ℕ} {map' : List ℕ} → mask_holds structural (Some v) ≡ true → Marking j map top' map'
       → EntryMarked structural v j map top' map'
   entry_taken_lem e m = record { tracked = m.tracked; here = λ h. rw e m.here; other = m.other }
 
@@ -39,29 +39,29 @@ module _ {structural : Bool} {v j : ℕ} {map : List ℕ} where
 
 -- a mark as a value, for the sweep
 abbrev marks : List ℕ → ℕ → Cell
-marks map j = Present (mark map j)
+marks map j = Some (mark map j)
 
 abbrev goal : Bool → List ℕ → List ℕ → ℕ → Cell
-goal structural columns vals j = Present (mask_mark structural (lookup columns vals j))
+goal structural columns vals j = Some (mask_mark structural (lookup columns vals j))
 
 abbrev value : Cell → ℕ
-value Absent = 0
-value (Present v) = v
+value None = 0
+value (Some v) = v
 
 pub record Masking (structural : Bool) (columns vals : List ℕ) (top : ℕ) (map : List ℕ) (p : ℕ) : Type 0 where
   pub tracked : Tracked top map
-  pub swept : Swept max_cols columns (λ j. Present 0) (goal structural columns vals) (marks map) p
+  pub swept : Swept max_cols columns (λ j. Some 0) (goal structural columns vals) (marks map) p
 
 -- a column without an entry does not count
-keeps : (structural : Bool) (columns vals : List ℕ) (j : ℕ) → lookup columns vals j ≡ Absent
-    → goal structural columns vals j ≡ Present 0
+keeps : (structural : Bool) (columns vals : List ℕ) (j : ℕ) → lookup columns vals j ≡ None
+    → goal structural columns vals j ≡ Some 0
 keeps structural columns vals j e = rw e
 
 module _ {columns vals : List ℕ} (w : Row max_cols columns vals) {structural : Bool} where
   pub masking_start : {map : List ℕ} → Unmarked map → Masking structural columns vals 0 map 0
   masking_start u = record {
     tracked = u.tracked;
-    swept = swept_start w (keeps structural columns vals) (λ j. ap Present (u.none j));
+    swept = swept_start w (keeps structural columns vals) (λ j. ap Some (u.none j));
   }
 
   module _ {top : ℕ} {map : List ℕ} {p : ℕ} (h : Masking structural columns vals top map p) where
@@ -74,8 +74,8 @@ module _ {columns vals : List ℕ} (w : Row max_cols columns vals) {structural :
         record {
           tracked = e.tracked;
           swept = swept_step w (keeps structural columns vals) h.swept l
-              (ap Present (e.here before ∙ rw (lookup_entry w p l)))
-              (λ j n. ap Present (e.other j n));
+              (ap Some (e.here before ∙ rw (lookup_entry w p l)))
+              (λ j n. ap Some (e.other j n));
         }
 
     pub masking_done : length columns ≤ p → MaskMarked structural columns vals map

@@ -1,8 +1,7 @@
 -- The row of a mask as marks, and the marked columns inside it.
-use Rattle.std.specs.Prelude.{ℕ, ◌≡◌, List, Bool, true, cond}
+use Rattle.std.specs.Prelude.{ℕ, ◌≡◌, List, Bool, true, cond, Some}
 use Rattle.limits.specs.Limits.{max_cols}
-use Rattle.grid.specs.declared.Cell.{Cell}
-use Rattle.grid.specs.declared.Cell.TheVariants.{Present}
+use Rattle.grid.specs.Cell.{Cell}
 use Rattle.operations.specs.declared.WriteBack.{WriteBack}
 use Rattle.operations.specs.WriteBacks.{mask_holds, inside}
 use Rattle.rows.specs.Row.{lookup, Row}
@@ -20,7 +19,7 @@ pub record Unmarked (map : List ℕ) : Type 0 where
 -- column j, which was not marked, has the mark of an entry of value v, and the others are as they were
 pub record EntryMarked (structural : Bool) (v j : ℕ) (map : List ℕ) (top' : ℕ) (map' : List ℕ) : Type 0 where
   pub tracked : Tracked top' map'
-  pub here : mark map j ≡ 0 → mark map' j ≡ mask_mark structural (Present v)
+  pub here : mark map j ≡ 0 → mark map' j ≡ mask_mark structural (Some v)
   pub other : (k : ℕ) → (k ≡ j → ⊥) → mark map' k ≡ mark map k
 
 -- the map has the marks of a mask's row

@@ -1,10 +1,10 @@
 -- Rows that have the cells of f inside the mask: f itself, f inside the mask alone, and none where no place is inside.
+use Rattle.std.proofs.Common.{None}
 use Prim.Native.Nat.{ℕ}
 use mathlib.Core.Path.{◌≡◌, refl, sym, ◌∙◌}
 use mathlib.Core.List.{List}
 use mathlib.Core.Bool.{true, false, false≢true}
-use Rattle.grid.specs.declared.Cell.{Cell}
-use Rattle.grid.specs.declared.Cell.TheVariants.{Absent}
+use Rattle.grid.specs.Cell.{Cell}
 use Rattle.operations.specs.declared.WriteBack.{WriteBack}
 use Rattle.operations.specs.WriteBacks.{inside}
 use Rattle.rows.specs.Row.{lookup, Holds}
@@ -25,8 +25,8 @@ module _ {w : WriteBack} {m f : ℕ → Cell} {n e : ℕ} {oc ov : List ℕ} whe
 pub inside_no : (w : WriteBack) (mc mv : List ℕ) (n : ℕ) (f : ℕ → Cell) (oc ov : List ℕ) → w.has_mask ≡ true
     → NoneInside w mc → HoldsInside w (lookup mc mv) n f 0 oc ov
 inside_no w mc mv n f oc ov k h = record {
-  row = λ j. Absent;
-  holds = holds_absent n (λ j. Absent) oc ov (λ j. refl);
+  row = λ j. None;
+  holds = holds_absent n (λ j. None) oc ov (λ j. refl);
   same = λ j l. absurd (false≢true (sym (outside j) ∙ l));
 }
   where

@@ -1,7 +1,7 @@
 -- A row as far as the mask lets it through.
 use Rattle.std.specs.Prelude.{ℕ, ◌≡◌, List, true, false, length}
 use Rattle.limits.specs.Limits.{max_cols}
-use Rattle.grid.specs.declared.Cell.{Cell}
+use Rattle.grid.specs.Cell.{Cell}
 use Rattle.operations.specs.declared.WriteBack.{WriteBack}
 use Rattle.operations.specs.WriteBacks.{inside}
 use Rattle.rows.specs.Row.{Row, Holds}

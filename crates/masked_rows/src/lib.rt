@@ -45,8 +45,7 @@ pub fn result_row_inside(
         (grid_of c.now) is.now js.now).cell i)
         result oc.new ov.new }
 {
-    let has_mask = w.has_mask;
-    if !has_mask {
+    if !w.has_mask {
         return result_rows::result_row(engine, operation, a, b, c, is, js, i, oc, ov);
     }
     if none_inside(w, mc) {
@@ -94,11 +93,7 @@ fn row_by_entries(
 fn none_inside(w: WriteBack, mc: &[u32]) -> bool
     ensures { result ≡ true → NoneInside w mc.now }
 {
-    let complement = w.complement;
-    if complement {
-        return false;
-    }
-    mc.len() == 0
+    !w.complement && mc.is_empty()
 }
 
 // The product's row inside the mask.
@@ -114,8 +109,8 @@ fn masked_product(
     oc: &mut [u32],
     ov: &mut [u32],
 ) -> usize
-    requires product_inputs_1 { ProductInputs a.now b.now i }
-    requires product_inputs_2 { UnderMask w mc.now mv.now }
+    requires product_inputs { ProductInputs a.now b.now i }
+    requires under_mask { UnderMask w mc.now mv.now }
     requires b_in_bounds { (cols b.now ≤ length oc.old) × (cols b.now ≤ length ov.old) }
     ensures { Holds (cols b.now)
         (inside_row w (lookup mc.now mv.now)

@@ -1,23 +1,32 @@
 -- The tests of a matrix and the facts they stand for, both ways. Every use of validity goes through these.
 use Prim.Native.Nat.{ℕ, zero, suc, ◌+◌, ◌-◌, ◌≤◌, ◌<◌}
 use native.Mathlib.Omega.{arith}
-use native.Mathlib.Nat.{le_refl, le_trans}
+use native.Mathlib.Nat.{le_trans}
 use mathlib.Core.Path.{◌≡◌}
 use mathlib.Core.List.{List}
 use mathlib.Core.Bool.{Bool, true}
-use lib.Dec.{leb}
+use lib.ListN.{length}
+use lib.Dec.{eqb}
 use borrow.Author.Tests.{le-leb, eq-eqb, leb-true, eqb-true}
 use Rattle.conditions.specs.Tests.{◌and◌, all}
 use Rattle.conditions.proofs.Tests.{and_left, and_right, and_both, all_at, all_made}
 pub use Rattle.limits.proofs.Ranges.{range_made, range_facts}
 use Rattle.rows.specs.Row.{rising}
-use Rattle.matrix.specs.Layout.{rows, cols, start, entries, row_columns}
-use Rattle.matrix.specs.Valid.{header_valid, starts_valid, rows_valid, valid}
-use Rattle.matrix.specs.Facts.{Header, Starts, RowSpan, Matrix}
-
--- a test by which the starts never fall
-abbrev pub climbs : List ℕ → ℕ → Bool
-climbs s i = leb (start s i) (start s (i + 1))
+use Rattle.limits.specs.Limits.{max_rows, max_cols, max_entries}
+use Rattle.matrix.specs.Layout.{
+  revision_count,
+  shape_count,
+  rows,
+  cols,
+  start_count,
+  start,
+  entries,
+  entries_again,
+  size,
+  row_columns,
+}
+use Rattle.matrix.specs.Valid.{climbs, header_valid, starts_valid, rows_valid, valid}
+use Rattle.matrix.specs.Facts.{InRange, Header, Starts, RowSpan, Matrix}
 
 -- a test by which the column numbers of a row rise
 abbrev pub row_rises : List ℕ → ℕ → Bool
@@ -49,6 +58,14 @@ header_facts s h =
       fits = leb-true _ _ (and_left _ _ h₅);
       again = eqb-true _ _ (and_right _ _ h₅);
     }
+
+-- the header as the last test decides, once all before it have held
+pub header_decide : (s : List ℕ) → revision_count s ≡ 1 → shape_count s ≡ 2 → InRange max_rows (rows s)
+    → InRange max_cols (cols s) → start_count s ≡ rows s + 1 → entries s ≤ max_entries → size s ≤ length s
+    → eqb (entries_again s) (entries s) ≡ header_valid s
+unfolding header_valid ◌and◌
+header_decide s one two r c starts few fits =
+    rw (eq-eqb _ _ one, eq-eqb _ _ two, range_made r, range_made c, eq-eqb _ _ starts, le-leb _ _ few, le-leb _ _ fits)
 
 pub starts_made : (s : List ℕ) → Starts s → starts_valid s ≡ true
 unfolding starts_valid

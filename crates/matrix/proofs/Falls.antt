@@ -12,7 +12,7 @@ use lib.Dec.{ltb, eqb}
 use borrow.Author.Tests.{eq-eqb, ne_eqb, lt-ltb, le-ltb, ltb-true}
 use Rattle.words.specs.Words.{at, part}
 use Rattle.words.proofs.Parts.{length_part, part_at}
-use Rattle.conditions.specs.Tests.{◌and◌, all}
+use Rattle.conditions.specs.Tests.{◌and◌}
 use Rattle.conditions.proofs.Tests.{refuted, all_at, all_made}
 use Rattle.rows.proofs.Rising.{rising_below}
 use Rattle.column_order.specs.Falls.{all_below, count, falls_after, falls}

@@ -3,7 +3,7 @@
 use Rattle.std.specs.Prelude.{ℕ, ◌+◌, ◌≡◌, refl, List}
 pub use Rattle.limits.specs.Sizes.{size_of, max_matrix_words, workspace_words}
 use Rattle.words.specs.Words.{at, part}
-use Rattle.grid.specs.declared.Cell.{Cell}
+use Rattle.grid.specs.Cell.{Cell}
 use Rattle.grid.specs.Grid.{Grid}
 use Rattle.rows.specs.Row.{lookup}
 

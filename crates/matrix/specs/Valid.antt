@@ -3,7 +3,7 @@
 use Rattle.std.specs.Prelude.{ℕ, ◌+◌, List, Bool, cond, length, leb, eqb}
 use Rattle.limits.specs.Limits.{max_rows, max_cols, max_entries}
 unfoldable pub use Rattle.limits.specs.Ranges.{in_range}
-use Rattle.answers.specs.declared.Answer.{Answer}
+use Rattle.answers.specs.Answers.{Answer}
 use Rattle.answers.specs.Refusals.{accepted, refused, invalid_first}
 use Rattle.conditions.specs.Tests.{◌and◌, all}
 use Rattle.rows.specs.Row.{rising}
@@ -32,12 +32,16 @@ header_valid s =
     and leb (size s) (length s)
     and eqb (entries_again s) (entries s)
 
+-- the start behind row i is not below that of row i
+abbrev pub climbs : List ℕ → ℕ → Bool
+climbs s i = leb (start s i) (start s (i + 1))
+
 -- "The first start is 0, starts never fall, the last is N."
 unfoldable pub starts_valid : List ℕ → Bool
 starts_valid s =
     eqb (start s 0) 0
     and eqb (start s (rows s)) (entries s)
-    and all (rows s) (λ i. leb (start s i) (start s (i + 1)))
+    and all (rows s) (climbs s)
 
 -- "Column numbers are below C and rise strictly within a row."
 unfoldable pub rows_valid : List ℕ → Bool

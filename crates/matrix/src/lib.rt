@@ -4,7 +4,7 @@
 
 #![tactic(auto)]
 
-use answers::{Answer, INVALID_FIRST};
+use answers::Refusal;
 use layout::{
     COLS_AT, COLUMNS_PAST, COUNT_AGAIN_PAST, COUNT_PAST, FIXED_WORDS, REVISION_AT,
     REVISION_COUNT_AT, ROWS_AT, SHAPE_COUNT_AT, START_COUNT_AT, STARTS_AT, VALUES_PAST,
@@ -14,27 +14,24 @@ use limits::{MAX_COLS, MAX_ENTRIES, MAX_REVISION, MAX_ROWS};
 pub mod layout;
 
 ghost use Rattle.std.specs.Prelude.{◌≡◌, ◌+◌, ◌<◌, length};
+ghost use Rattle.conditions.specs.Tests.{all};
+ghost use Rattle.answers.specs.Results.{answer};
 ghost use Rattle.grid.specs.Revision.{next_revision};
 ghost use Rattle.words.specs.Lent.{PartOf};
-ghost use Rattle.matrix.specs.Layout.{revision_at, revision, rows, cols, entries, columns_from, values_from};
-ghost use Rattle.matrix.specs.Valid.{in_range, header_valid, starts_valid, rows_valid, valid, check_answer};
+ghost use Rattle.matrix.specs.Layout.{revision_at, revision, rows, cols, entries, size, columns_from, values_from};
+ghost use Rattle.matrix.specs.Valid.{in_range, climbs, header_valid, starts_valid, rows_valid, valid, check_answer};
 ghost use Rattle.matrix.specs.Facts.{Header, Starts, RowSpan};
 ghost use Rattle.matrix.specs.Falls.{falls_at_start, start_falls};
 ghost use Rattle.matrix.specs.HeaderWords.{HeaderBounds, headed, with_revision, touched};
 
-// 0 and N where the words begin with a valid matrix, else INVALID_FIRST.
-pub fn check(words: &[u32]) -> Answer
-    ensures { result ≡ check_answer words.now }
+// N where the words begin with a valid matrix.
+pub fn check(words: &[u32]) -> Result<u32, Refusal>
+    ensures { answer result ≡ check_answer words.now }
 {
-    if !is_valid(words) {
-        return Answer {
-            code: INVALID_FIRST,
-            entries: 0,
-        };
-    }
-    Answer {
-        code: 0,
-        entries: entry_count(words),
+    if is_valid(words) {
+        Ok(entry_count(words))
+    } else {
+        Err(Refusal::InvalidFirst)
     }
 }
 
@@ -42,13 +39,7 @@ pub fn check(words: &[u32]) -> Answer
 pub fn is_valid(words: &[u32]) -> bool
     ensures { result ≡ valid words.now }
 {
-    if !header_valid(words) {
-        return false;
-    }
-    if !starts_valid(words) {
-        return false;
-    }
-    rows_valid(words)
+    header_valid(words) && starts_valid(words) && rows_valid(words)
 }
 
 // The number of entries.
@@ -74,6 +65,14 @@ pub fn col_count(words: &[u32]) -> u32
     ensures { result ≡ cols words.now }
 {
     words[COLS_AT]
+}
+
+// The number of words.
+pub fn size(words: &[u32]) -> usize
+    requires { Header words.now }
+    ensures { result ≡ size words.now }
+{
+    row_count(words) as usize + 2 * entry_count(words) as usize + FIXED_WORDS
 }
 
 // The column numbers of row i.
@@ -113,10 +112,7 @@ pub fn revision(words: &[u32]) -> u32
 pub fn next_revision(v: u32) -> u32
     ensures { result ≡ next_revision v }
 {
-    if v == MAX_REVISION {
-        return 0;
-    }
-    v + 1
+    if v == MAX_REVISION { 0 } else { v + 1 }
 }
 
 // The next revision; nothing else changes.
@@ -158,10 +154,7 @@ pub fn write_header(words: &mut [u32], rows: u32, cols: u32, count: u32)
 pub fn in_range(x: u32, limit: u32) -> bool
     ensures { result ≡ in_range limit x }
 {
-    if x < 1 {
-        return false;
-    }
-    x <= limit
+    1 <= x && x <= limit
 }
 
 // The counts, the shape and the size.
@@ -196,13 +189,10 @@ fn header_valid(words: &[u32]) -> bool
         return false;
     }
     let n = count as usize;
-    if words.len() < rows + n + n + FIXED_WORDS {
+    if words.len() < rows + 2 * n + FIXED_WORDS {
         return false;
     }
-    if words[rows + n + COUNT_AGAIN_PAST] != count {
-        return false;
-    }
-    true
+    words[rows + n + COUNT_AGAIN_PAST] == count
 }
 
 // The row starts: they begin at 0, never fall, and end at N.
@@ -211,19 +201,18 @@ fn starts_valid(words: &[u32]) -> bool
     ensures { result ≡ starts_valid words.now }
 {
     let r = words[ROWS_AT] as usize;
-    if words[STARTS_AT] != 0 {
-        return false;
-    }
-    if words[r + STARTS_AT] != words[r + COUNT_PAST] {
-        return false;
-    }
+    words[STARTS_AT] == 0 && words[r + STARTS_AT] == words[r + COUNT_PAST] && starts_climb(words)
+}
+
+// Whether no start is below the one before it. It does not stop early and has the flag last in the test, so that it goes
+// over several starts at a time.
+fn starts_climb(words: &[u32]) -> bool
+    requires { Header words.now }
+    ensures { result ≡ all (rows words.now) (climbs words.now) }
+{
     let mut climb = true;
-    let mut i = 0;
-    while i < r {
-        if words[i + 1 + STARTS_AT] < words[i + STARTS_AT] {
-            climb = false;
-        }
-        i += 1;
+    for i in 0..words[ROWS_AT] as usize {
+        climb = words[i + STARTS_AT] <= words[i + 1 + STARTS_AT] && climb;
     }
     climb
 }
@@ -231,47 +220,38 @@ fn starts_valid(words: &[u32]) -> bool
 // The column numbers of every row: all are below the number of columns, and a word from N on is followed by one that is not
 // above it only where a row starts.
 fn rows_valid(words: &[u32]) -> bool
-    requires fact_1 { Header words.now }
-    requires fact_2 { Starts words.now }
+    requires header { Header words.now }
+    requires starts { Starts words.now }
     ensures { result ≡ rows_valid words.now }
 {
     let r = words[ROWS_AT] as usize;
     let count_at = r + COUNT_PAST;
     let from = r + COLUMNS_PAST;
     let to = from + words[count_at] as usize;
-    if !column_order::all_below(&words[from..to], words[COLS_AT]) {
-        return false;
-    }
-    column_order::fall_count(&words[count_at..to]) == start_falls(words)
+    column_order::all_below(&words[from..to], words[COLS_AT])
+        && column_order::fall_count(&words[count_at..to]) == start_falls(words)
 }
 
 // How often the first column number of a row is not above the word before it.
 fn start_falls(words: &[u32]) -> u32
-    requires fact_1 { Header words.now }
-    requires fact_2 { Starts words.now }
+    requires header { Header words.now }
+    requires starts { Starts words.now }
     ensures { result ≡ start_falls words.now }
 {
-    let r = words[ROWS_AT] as usize;
-    let mut falls: u32 = 0;
-    let mut i = 0;
-    while i < r {
-        if falls_at_start(words, i) {
-            falls = falls + 1;
-        }
-        i += 1;
+    let mut falls = 0;
+    for i in 0..words[ROWS_AT] as usize {
+        falls += u32::from(falls_at_start(words, i));
     }
     falls
 }
 
 // Whether row i has entries and the first of its column numbers is not above the word before it.
 fn falls_at_start(words: &[u32], i: usize) -> bool
-    requires fact_1 { Header words.now }
-    requires fact_2 { RowSpan words.now i }
+    requires header { Header words.now }
+    requires row { RowSpan words.now i }
     ensures { result ≡ falls_at_start words.now i }
 {
-    if words[i + 1 + STARTS_AT] <= words[i + STARTS_AT] {
-        return false;
-    }
-    let at = words[ROWS_AT] as usize + COUNT_PAST + words[i + STARTS_AT] as usize;
-    words[at + 1] <= words[at]
+    let start = words[i + STARTS_AT];
+    let at = words[ROWS_AT] as usize + COUNT_PAST + start as usize;
+    start < words[i + 1 + STARTS_AT] && words[at + 1] <= words[at]
 }

@@ -1,5 +1,6 @@
 -- The loop of `write_masked`: how an entry is put behind the others, what holds before column q, and how a turn takes
 -- it on to the next column with an entry.
+use Rattle.std.proofs.Common.{None, Some}
 use Prim.Native.Nat.{ℕ, ◌+◌, ◌≤◌, ◌<◌, min}
 use native.Mathlib.Omega.{arith}
 use native.Mathlib.Numerals.{add-one}
@@ -7,8 +8,7 @@ use mathlib.Core.Path.{◌≡◌, refl, sym}
 use mathlib.Core.List.{List}
 use lib.ListN.{length, get_or, set}
 use Rattle.words.specs.Words.{at}
-use Rattle.grid.specs.declared.Cell.{Cell}
-use Rattle.grid.specs.declared.Cell.TheVariants.{Absent, Present}
+use Rattle.grid.specs.Cell.{Cell}
 use Rattle.grid.specs.Entries.{one}
 use Rattle.rows.specs.Row.{lookup, position, Rises, Row, Holds}
 use Rattle.rows.proofs.Position.{Stands, stands, position_moves, position_stays}
@@ -19,11 +19,11 @@ use Rattle.merge.specs.Steps.{Put}
 
 -- the two arms of `put_cell`
 module _ (cols vals : List ℕ) (e q : ℕ) (cell : Cell) where
-  pub put_none : cell ≡ Absent → Put cols vals cols vals e q cell e
+  pub put_none : cell ≡ None → Put cols vals cols vals e q cell e
   unfolding one
   put_none h = rw h (record { count = omega arith; columns = refl; values = refl })
 
-  pub put_one : {v : ℕ} → cell ≡ Present v → Put cols vals (set cols e q) (set vals e v) e q cell (e + 1)
+  pub put_one : {v : ℕ} → cell ≡ Some v → Put cols vals (set cols e q) (set vals e v) e q cell (e + 1)
   unfolding one
   put_one h = rw h (record { count = omega arith; columns = refl; values = refl })
 
@@ -32,11 +32,11 @@ holds_cell : {f : ℕ → Cell} {e q r : ℕ} {cols vals cols' vals' : List ℕ}
     → e < length cols → e < length vals → f q ≡ cell → Put cols vals cols' vals' e q cell r
     → Holds (q + 1) f r cols' vals'
 unfolding one
-holds_cell {f} {e} {q} {r} {cell = Absent} h a b s p =
+holds_cell {f} {e} {q} {r} {cell = None} h a b s p =
     let z : r ≡ e = omega (arith, p.count) in
     rw (p.columns, p.values, z)
     (holds_skip h (q + 1) (omega arith) (λ j l m. let z : j ≡ q = omega arith in rw z s))
-holds_cell {f} {e} {q} {cell = Present v} h a b s p =
+holds_cell {f} {e} {q} {cell = Some v} h a b s p =
     rw (p.columns, p.values, p.count) (holds_put h a b s)
 
 -- the two ways of `past`: from the position of column q to that of the column after
@@ -77,7 +77,7 @@ merged_put {q = q} h l a b rises s p u v x y z =
 -- on to the next column q where one of the two rows has an entry
 module _ {f : ℕ → Cell} {n : ℕ} {mc cc cv tc tv oc₀ ov₀ oc ov : List ℕ} {m i k e p q : ℕ} (rises : Rises mc)
     (w : Row n cc cv) (x : Row n tc tv)
-    (quiet : (j : ℕ) → lookup cc cv j ≡ Absent → lookup tc tv j ≡ Absent → f j ≡ Absent)
+    (quiet : (j : ℕ) → lookup cc cv j ≡ None → lookup tc tv j ≡ None → f j ≡ None)
     (h : Merged f n mc cc tc oc₀ ov₀ oc ov m i k e p) (next : q ≡ min (get_or cc i n) (get_or tc k n)) where
   -- that is no earlier column
   pub merged_up : p ≤ q

@@ -1,11 +1,10 @@
 -- Each way does what is asked for: the cases of the write-back without a mask. Cited by `write_way` and
 -- `merge_row`.
+use Rattle.std.proofs.Common.{None, Some}
 use mathlib.Core.Path.{◌≡◌, refl, sym}
 use mathlib.Core.Bool.{true, false}
-use Rattle.grid.specs.declared.Cell.{Cell}
-use Rattle.grid.specs.declared.Cell.TheVariants.{Absent}
+use Rattle.grid.specs.Cell.{Cell}
 use Rattle.operators.specs.declared.BinaryOp.{BinaryOp}
-use Rattle.operations.specs.declared.Accumulator.TheVariants.{Absent as NoAccumulator, Present as By}
 use Rattle.operations.specs.declared.WriteBack.{WriteBack}
 use Rattle.operations.specs.CellOperations.{intersect, unite}
 use Rattle.operations.specs.WriteBacks.{write_back}
@@ -34,17 +33,17 @@ module _ (w : WriteBack) where
 
   -- no mask: every position is inside
   module _ (n : w.has_mask ≡ false) (o : w.complement ≡ false) where
-    pub second_means : w.accumulator ≡ NoAccumulator → Means Second (Write w)
+    pub second_means : w.accumulator ≡ None → Means Second (Write w)
     unfolding way_cell combined write_back
     second_means a m c t = rw (n, o, a)
 
-    pub unite_means : (op : BinaryOp) → w.accumulator ≡ By op → Means (Unite op) (Write w)
+    pub unite_means : (op : BinaryOp) → w.accumulator ≡ Some op → Means (Unite op) (Write w)
     unfolding way_cell combined write_back
     unite_means op a m c t = rw (n, o, a)
 
 -- what a way that was found tells of the cells
 module _ (way : Way) (how : Combine) (h : Means way how) (m c t : Cell) where
-  pub nothing_told : way ≡ Nothing → combined how m c t ≡ Absent
+  pub nothing_told : way ≡ Nothing → combined how m c t ≡ None
   unfolding way_cell
   nothing_told e = sym (rw e at (h m c t))
 

@@ -1,7 +1,8 @@
 -- Three ways to make one row of two (document 01, "The six operations"): "Intersection", "Union" and "Write-back", each
--- by its definition on the cells at one position. The mask's cell m counts for the write-back only, where c is the old C.
+-- by its definition on the cells at one position. The mask's cell m counts for the write-back only, where c is
+-- the old C.
 use Rattle.std.specs.Prelude.{ℕ, List}
-use Rattle.grid.specs.declared.Cell.{Cell}
+use Rattle.grid.specs.Cell.{Cell}
 use Rattle.operations.specs.CellOperations.{intersect, unite}
 use Rattle.operations.specs.WriteBacks.{write_back}
 use Rattle.rows.specs.Row.{lookup}

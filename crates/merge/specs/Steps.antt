@@ -1,7 +1,7 @@
 -- What the steps of a merge are given and leave.
 use Rattle.std.specs.Prelude.{ℕ, ◌+◌, ◌≡◌, List, length}
 use Rattle.std.proofs.lemmas.List.Edits.{sets}
-use Rattle.grid.specs.declared.Cell.{Cell}
+use Rattle.grid.specs.Cell.{Cell}
 use Rattle.grid.specs.Entries.{column, value, one}
 use Rattle.rows.specs.Row.{position, Rises}
 

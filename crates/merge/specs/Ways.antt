@@ -1,7 +1,6 @@
 -- The ways to make one row of two without looking at more than is needed.
-use Rattle.std.specs.Prelude.{ℕ, ◌≡◌, List}
-use Rattle.grid.specs.declared.Cell.{Cell}
-use Rattle.grid.specs.declared.Cell.TheVariants.{Absent}
+use Rattle.std.specs.Prelude.{ℕ, ◌≡◌, List, None}
+use Rattle.grid.specs.Cell.{Cell}
 use Rattle.operations.specs.CellOperations.{intersect, unite}
 use Rattle.operations.specs.declared.WriteBack.{WriteBack}
 use Rattle.operations.specs.WriteBacks.{write_back}
@@ -13,7 +12,7 @@ use Rattle.merge.specs.Combined.{combined}
 
 -- what stands in the output where the mask has m and the two rows c and t
 unfoldable pub way_cell : Way → Cell → Cell → Cell → Cell
-way_cell Nothing m c t = Absent
+way_cell Nothing m c t = None
 way_cell First m c t = c
 way_cell Second m c t = t
 way_cell (Intersect op) m c t = intersect op c t

@@ -17,7 +17,7 @@ use operations::{Accumulator, WriteBack};
 use operators::BinaryOp;
 
 // How the cells of two rows make one. Only the write-back looks at the mask.
-#[derive(Clone, Copy)]
+#[derive(Clone, Copy, Debug, PartialEq, Eq)]
 pub enum Combine {
     Intersect(BinaryOp),
     Unite(BinaryOp),
@@ -25,7 +25,7 @@ pub enum Combine {
 }
 
 // The same by the simplest means: nothing, one of the two rows, a walk over both, or the write-back under a mask.
-#[derive(Clone, Copy)]
+#[derive(Clone, Copy, Debug, PartialEq, Eq)]
 enum Way {
     Nothing,
     First,
@@ -59,8 +59,7 @@ pub fn merge_row(
         tc.now tv.now)
         result oc.new ov.new }
 {
-    let way = way_of(how);
-    match way {
+    match way_of(how) {
         Way::Nothing => 0,
         Way::First => row_pairs::copy_row(places, cc, cv, oc, ov),
         Way::Second => row_pairs::copy_row(places, tc, tv, oc, ov),
@@ -85,20 +84,15 @@ fn way_of(how: Combine) -> Way
 fn write_way(w: WriteBack) -> Way
     ensures { Means result (Combine.Write w) }
 {
-    let has_mask = w.has_mask;
-    if has_mask {
+    if w.has_mask {
         return Way::Masked(w);
     }
     if w.complement {
-        if w.replace {
-            return Way::Nothing;
-        }
-        return Way::First;
+        return if w.replace { Way::Nothing } else { Way::First };
     }
-    let accumulator = w.accumulator;
-    match accumulator {
-        Accumulator::Absent => Way::Second,
-        Accumulator::Present(op) => Way::Unite(op),
+    match w.accumulator {
+        None => Way::Second,
+        Some(op) => Way::Unite(op),
     }
 }
 
@@ -115,15 +109,16 @@ fn write_masked(
     oc: &mut [u32],
     ov: &mut [u32],
 ) -> usize
-    requires row { Row places mc.now mv.now }
-    requires row_2 { Row places cc.now cv.now }
-    requires row_3 { Row places tc.now tv.now }
-    requires places_in_bounds { (places ≤ length oc.old) × (places ≤ length ov.old) }
+    requires mask_row { Row places mc.now mv.now }
+    requires old_row { Row places cc.now cv.now }
+    requires new_row { Row places tc.now tv.now }
+    requires output_room { (places ≤ length oc.old) × (places ≤ length ov.old) }
     ensures { Holds places
         (written_row w mc.now mv.now cc.now cv.now
         tc.now tv.now)
         result oc.new ov.new }
 {
+    // Kept: three indexes that move by the data, which no iterator has.
     let mut m = 0;
     let mut i = 0;
     let mut k = 0;
@@ -144,22 +139,14 @@ fn write_masked(
 fn head(columns: &[u32], i: usize, places: u32) -> u32
     ensures { result ≡ get_or columns.now i places }
 {
-    if i < columns.len() {
-        return columns[i];
-    }
-    places
+    columns.get(i).copied().unwrap_or(places)
 }
 
 // The next column where one of two rows has an entry, or `places`.
 fn next_column(cc: &[u32], i: usize, tc: &[u32], k: usize, places: u32) -> u32
     ensures { result ≡ min (get_or cc.now i places) (get_or tc.now k places) }
 {
-    let a = head(cc, i, places);
-    let b = head(tc, k, places);
-    if a < b {
-        return a;
-    }
-    b
+    head(cc, i, places).min(head(tc, k, places))
 }
 
 // The position of column q, from an index that is not past it.
@@ -168,28 +155,25 @@ fn seek(columns: &[u32], i: usize, q: u32) -> usize
     requires i_bound { i ≤ position q columns.now }
     ensures { result ≡ position q columns.now }
 {
-    let mut k = i;
-    while k < columns.len() {
+    for k in i..columns.len() {
         if q <= columns[k] {
             return k;
         }
-        k += 1;
     }
-    k
+    columns.len()
 }
 
 // The position of the column after q, from that of q.
 fn past(columns: &[u32], i: usize, q: u32) -> usize
-    requires fact_1 { Rises columns.now }
-    requires fact_2 { i ≡ position q columns.now }
+    requires rises { Rises columns.now }
+    requires stands { i ≡ position q columns.now }
     ensures { result ≡ position (q + 1) columns.now }
 {
-    if i < columns.len() {
-        if columns[i] <= q {
-            return i + 1;
-        }
+    if i < columns.len() && columns[i] <= q {
+        i + 1
+    } else {
+        i
     }
-    i
 }
 
 // The final cell at column q, whose positions in the three rows are m, i and k.
@@ -206,17 +190,19 @@ fn write_back_at(
     tv: &[u32],
     k: usize,
 ) -> Cell
-    requires cursor { Cursor mc.now mv.now m q }
-    requires cursor_2 { Cursor cc.now cv.now i q }
-    requires cursor_3 { Cursor tc.now tv.now k q }
+    requires at_mask { Cursor mc.now mv.now m q }
+    requires at_old { Cursor cc.now cv.now i q }
+    requires at_new { Cursor tc.now tv.now k q }
     ensures { result ≡
         written_row w mc.now mv.now cc.now cv.now
         tc.now tv.now q }
 {
-    let x = rows::cell_at(mc, mv, m, q);
-    let y = rows::cell_at(cc, cv, i, q);
-    let z = rows::cell_at(tc, tv, k, q);
-    write_back_cell(w, x, y, z)
+    write_back_cell(
+        w,
+        rows::cell_at(mc, mv, m, q),
+        rows::cell_at(cc, cv, i, q),
+        rows::cell_at(tc, tv, k, q),
+    )
 }
 
 // Puts the entry of a cell at column q, if there is one, behind e entries. Returns how many there are then. An entry
@@ -226,8 +212,8 @@ fn put_cell(oc: &mut [u32], ov: &mut [u32], e: usize, q: u32, cell: Cell) -> usi
     ensures { Put oc.old ov.old oc.new ov.new e q cell result }
 {
     match cell {
-        Cell::Absent => e,
-        Cell::Present(v) => {
+        None => e,
+        Some(v) => {
             oc[e] = q;
             ov[e] = v;
             e + 1
@@ -240,10 +226,10 @@ pub fn unite_cells(op: BinaryOp, a: Cell, b: Cell) -> Cell
     ensures { result ≡ unite op a b }
 {
     match a {
-        Cell::Absent => b,
-        Cell::Present(x) => match b {
-            Cell::Absent => a,
-            Cell::Present(y) => Cell::Present(operators::apply_binary(op, x, y)),
+        None => b,
+        Some(x) => match b {
+            None => a,
+            Some(y) => Some(operators::apply_binary(op, x, y)),
         },
     }
 }
@@ -253,8 +239,8 @@ pub fn accumulate(accumulator: Accumulator, c: Cell, t: Cell) -> Cell
     ensures { result ≡ accumulated accumulator c t }
 {
     match accumulator {
-        Accumulator::Absent => t,
-        Accumulator::Present(op) => unite_cells(op, c, t),
+        None => t,
+        Some(op) => unite_cells(op, c, t),
     }
 }
 
@@ -263,13 +249,8 @@ pub fn mask_holds(structural: bool, m: Cell) -> bool
     ensures { result ≡ mask_holds structural m }
 {
     match m {
-        Cell::Absent => false,
-        Cell::Present(v) => {
-            if structural {
-                return true;
-            }
-            v != 0
-        }
+        None => false,
+        Some(v) => structural || v != 0,
     }
 }
 
@@ -277,21 +258,14 @@ pub fn mask_holds(structural: bool, m: Cell) -> bool
 pub fn mask_selects(w: WriteBack, m: Cell) -> bool
     ensures { result ≡ masked w m }
 {
-    if w.has_mask {
-        return mask_holds(w.structural, m);
-    }
-    true
+    !w.has_mask || mask_holds(w.structural, m)
 }
 
 // Whether the position is inside the mask.
 pub fn inside_mask(w: WriteBack, m: Cell) -> bool
     ensures { result ≡ inside w m }
 {
-    let selected = mask_selects(w, m);
-    if w.complement {
-        return !selected;
-    }
-    selected
+    w.complement != mask_selects(w, m)
 }
 
 // Inside the mask C takes Z, emptiness included. Outside it keeps its entry, or loses it under replace.
@@ -299,11 +273,7 @@ pub fn write_back_cell(w: WriteBack, m: Cell, c: Cell, t: Cell) -> Cell
     ensures { result ≡ write_back w m c t }
 {
     if inside_mask(w, m) {
-        let accumulator = w.accumulator;
-        return accumulate(accumulator, c, t);
+        return accumulate(w.accumulator, c, t);
     }
-    if w.replace {
-        return Cell::Absent;
-    }
-    c
+    if w.replace { None } else { c }
 }

@@ -2,7 +2,7 @@
 use Prim.Native.Nat.{ℕ, ◌≤◌}
 use native.Mathlib.Omega.{arith}
 use native.Mathlib.Nat.{le_refl}
-use mathlib.Core.Path.{◌≡◌, refl, sym, ap, ◌∙◌}
+use mathlib.Core.Path.{◌≡◌, refl, sym, ap, subst, ◌∙◌}
 use mathlib.Core.Bool.{true}
 use mathlib.Core.List.{List, [], ◌∷◌, ◌++◌, map}
 use lib.ListN.{length, take, drop, replicate, length-replicate}
@@ -10,8 +10,9 @@ use lib.Seq.{take_at}
 use contract.Lifetimes.{Lfts}
 use denote.Ref.{Bor}
 use Rattle.limits.specs.Limits.{max_entries}
-use Rattle.answers.specs.declared.Answer.{Answer}
+use Rattle.answers.specs.Answers.{Answer}
 use Rattle.answers.specs.Refusals.{unless_refused}
+use Rattle.answers.specs.Results.{answer as answer_by}
 use Rattle.words.specs.Lent.{Address, lent}
 use Rattle.grid.specs.Grid.{Grid, Same}
 use Rattle.grid.specs.Entries.{entry_count}
@@ -60,6 +61,7 @@ use Rattle.merging.proofs.Grids.{
   join_all_append,
   member_append,
 }
+use Rattle.merging.proofs.Results.{lent_answered}
 use Rattle.merging.proofs.Steps.{words_worded, max_call, Merged, merged}
 
 -- a valid matrix of r rows and c columns
@@ -94,9 +96,10 @@ stage {c} p = record {
 told : {c a c' : List ℕ} {answer : Answer} → valid c ≡ true → Shaped (rows c) (cols c) a
     → entry_count (join (grid_of c) (grid_of a)) ≤ max_entries → grid_size (join (grid_of c) (grid_of a)) ≤ length c
     → Merge c a answer c' → Merged c a answer c'
-told {c} {a} {c'} {answer} v s few fits (merge scalar b mask is js work work' p q r κs enough t) =
-    merged scalar c a b.now mask.now is.now js.now v s.valid_matrix s.suits few fits (length work) answer
-    c' enough t.attempted
+told {c} {a} {c'} {answer} v s few fits (merge scalar b mask is js work work' p q r κs enough result t e) =
+    subst (λ (x : Answer). Merged c a x c') (sym e)
+    (merged scalar c a b.now mask.now is.now js.now v s.valid_matrix s.suits few fits (length work) (answer_by result)
+    c' enough t.attempted)
 
 -- the first merge of a list: entries only grow, so that C on the way is within the bounds of the final one
 once : {c a c' : List ℕ} {xs : List (List ℕ)} {answer : Answer} → Stage c (a ∷ xs) → Merge c a answer c'
@@ -266,9 +269,18 @@ left_by c a n = unless_refused (answer_of c a n) c (updated_to (lent_final (max_
 possible_merge : Lfts 6 → (c a : List ℕ) (n : ℕ) → workspace_words ≤ n
     → Merge c a (answer_of c a (length (zeros n))) (left_by c a (length (zeros n)))
 possible_merge κs c a n h =
+    let r = lent_answered (max_call 0) a [] [] c [] [] (length (zeros n)) in
     merge 0 nothing nothing nothing nothing (zeros n) (zeros (length (zeros n))) somewhere somewhere somewhere κs
-    (let l = length-replicate {A = ℕ} n 0 in omega arith)
-    (record { attempted = record { answer_is = refl; words_are = refl }; cleared = refl })
+    (let l = length-replicate {A = ℕ} n 0 in omega arith) r.result
+    (record {
+      attempted = record {
+        answer_is = r.result_is;
+        words_are =
+            ap (λ (x : Answer). unless_refused x c (updated_to (lent_final (max_call 0) a [] [] c [] []) c))
+            (sym r.result_is);
+      };
+      cleared = refl;
+    }) (sym r.result_is)
 
 possible_from : Lfts 6 → (n : ℕ) → workspace_words ≤ n → (c : List ℕ) (xs : List (List ℕ)) → Run c xs
 possible_from κs n h c [] = record { answers = []; left = c; merges = end }

@@ -3,3 +3,4 @@ pub mod Grids
 pub mod Steps
 pub mod AnyOrder
 pub mod Examples
+pub mod Results

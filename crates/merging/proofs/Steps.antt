@@ -1,4 +1,5 @@
 -- One merge, by the contract of `calls::operate`: it is accepted, and C's grid is that of the definition.
+use Rattle.std.proofs.Common.{Some}
 use Prim.Native.Nat.{ℕ, zero, suc, ◌+◌, ◌-◌, ◌^◌, ◌≤◌, ◌<◌}
 use native.Mathlib.Omega.{arith}
 use mathlib.Core.Path.{◌≡◌, refl, ap, ◌∙◌}
@@ -9,11 +10,10 @@ use lib.Seq.{get_or-drop}
 use lib.Dec.{eqb}
 use borrow.Author.Tests.{eq-eqb, le-ltb}
 use Rattle.limits.specs.Limits.{max_entries}
-use Rattle.answers.specs.declared.Answer.{Answer}
+use Rattle.answers.specs.Answers.{Answer}
 use Rattle.answers.specs.Refusals.{accepted, unless_refused}
 use Rattle.words.specs.Words.{at, part}
 use Rattle.conditions.specs.Tests.{◌and◌}
-use Rattle.grid.specs.declared.Cell.TheVariants.{Present}
 use Rattle.grid.specs.Grid.{Grid, Same}
 use Rattle.grid.specs.Entries.{entry_count}
 use Rattle.grid.proofs.Same.{same_trans, same_count}
@@ -58,7 +58,7 @@ lookup_word (c ∷ cs) [] j w = tt
 lookup_word (c ∷ cs) (v ∷ vs) j w =
     go (eqb c j) (w.small 0) (lookup_word cs vs j (record { small = λ i. w.small (suc i) }))
   where
-    go : (b : Bool) → v < 2 ^ 32 → Word (lookup cs vs j) → Word (cond b (Present v) (lookup cs vs j))
+    go : (b : Bool) → v < 2 ^ 32 → Word (lookup cs vs j) → Word (cond b (Some v) (lookup cs vs j))
     go true p q = p
     go false p q = q
 

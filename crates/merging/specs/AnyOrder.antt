@@ -4,12 +4,14 @@
 --
 -- A merge is a call of `calls::operate`, and what it does is taken from that function's own contract, by name:
 -- `Reads.Learnt` is what a caller learns when it returns.
-use Rattle.std.specs.Prelude.{ℕ, ◌^◌, ◌≤◌, ◌<◌, ◌≡◌, true, false, List, [], ◌∷◌, ◌++◌, map, length, take}
+use Rattle.std.specs.Prelude.{ℕ, ◌^◌, ◌≤◌, ◌<◌, ◌≡◌, true, false, List, [], ◌∷◌, ◌++◌, map, length, take, Result, Some}
 use contract.Lifetimes.{Lfts}
 use Rattle.std.specs.Borrow.{Bor, MutBor}
 use borrow.Fn.Picked.{KnownAs}
 use Rattle.limits.specs.Limits.{max_entries}
-use Rattle.answers.specs.declared.Answer.{Answer}
+use Rattle.answers.specs.Answers.{Answer}
+use Rattle.answers.specs.declared.Refusal.{Refusal}
+use Rattle.answers.specs.Results.{answer as answer_by}
 use Rattle.words.specs.Words.{at}
 use Rattle.words.specs.Lent.{Address, lent, lent_mut}
 use Rattle.grid.specs.Grid.{Same}
@@ -28,7 +30,7 @@ use Rattle.merging.specs.Merging.{join_all, ◌∈◌, Rearranged}
 
 -- "MAX as accumulator, no mask and no flags": MAX is number 7
 abbrev pub by_max : Options
-by_max = record { flags = 0; has_mask = false; has_accumulator = true; accumulator = 7 }
+by_max = record { flags = 0; has_mask = false; accumulator = Some 7 }
 
 -- "IDENTITY": number 0 of the unary operators, which are kind 0 of apply
 abbrev pub identity : ℕ → Verb
@@ -39,11 +41,11 @@ identity scalar = Apply 0 0 scalar
 -- with any words in it. The matrix is "lent apart from C": it is borrowed by `&` while C is by `&mut`.
 pub data Merge (c a : List ℕ) (answer : Answer) (c' : List ℕ) : Type 0 where
   merge : (scalar : ℕ) (b mask is js : Bor (List ℕ)) (work work' : List ℕ) (p q r : Address) (κs : Lfts 6)
-      (suffices : workspace_words ≤ length work)
+      (suffices : workspace_words ≤ length work) (result : Result ℕ Refusal)
       → operate_reads.Learnt κs
-      (by_max, (identity scalar, (lent p a, (b, (mask, (is, (js, (lent_mut q c, (lent_mut r work, tt))))))))) answer
+      (by_max, (identity scalar, (lent p a, (b, (mask, (is, (js, (lent_mut q c, (lent_mut r work, tt))))))))) result
       (by_max, (identity scalar, (lent p a, (b, (mask, (is, (js, (lent_mut q c', (lent_mut r work', tt)))))))))
-      → Merge c a answer c'
+      → answer ≡ answer_by result → Merge c a answer c'
 
 -- a list of matrices merged one after the other
 pub data Merges : List ℕ → List (List ℕ) → List Answer → List ℕ → Type 0 where

@@ -1,8 +1,7 @@
 -- Merging on plain grids: what C becomes when matrices are merged into it one after the other, and lists that differ
 -- only in order.
-use Rattle.std.specs.Prelude.{ℕ, ◌^◌, ◌<◌, List, [], ◌∷◌}
-use Rattle.grid.specs.declared.Cell.{Cell}
-use Rattle.grid.specs.declared.Cell.TheVariants.{Absent, Present}
+use Rattle.std.specs.Prelude.{ℕ, ◌^◌, ◌<◌, List, [], ◌∷◌, None, Some}
+use Rattle.grid.specs.Cell.{Cell}
 use Rattle.grid.specs.Grid.{Grid}
 use Rattle.operators.specs.declared.BinaryOp.TheVariants.{Max}
 use Rattle.operations.specs.CellOperations.{unite}
@@ -31,8 +30,8 @@ pub data Rearranged {A : Type 0} : List A → List A → Type 0 where
 
 -- the value of a cell is a word
 abbrev pub Word : Cell → Type 0
-Word Absent = Unit {0}
-Word (Present v) = v < 2 ^ 32
+Word None = Unit {0}
+Word (Some v) = v < 2 ^ 32
 
 -- a grid of words
 pub record Worded (g : Grid) : Type 0 where

@@ -1,6 +1,7 @@
 -- The laws of effects: on models that agree a call answers alike and leaves models that agree; a model that fits still
 -- fits afterwards; and answers have their kind and a code. First for any effect, then call by call: a new call has a line
 -- in `effect_same`, `effect_fits` and `effect_sound`.
+use Rattle.std.proofs.Common.{None, Some}
 use Prim.Native.Nat.{ℕ, ◌<◌}
 use native.Mathlib.Omega.{arith}
 use native.Mathlib.Decide.{ℕ_discrete}
@@ -16,10 +17,10 @@ use Rattle.limits.specs.Ranges.{in_range}
 use Rattle.limits.proofs.Ranges.{range_facts}
 use Rattle.answers.specs.Refusals.{accepted, invalid_shape, code_limit}
 use Rattle.answers.specs.Reads.{found_answer}
+use Rattle.answers.proofs.Numbers.{number_limit}
 use Rattle.answers.specs.Numbers.{number_answer}
 use Rattle.reductions.proofs.Same.{total_same}
-use Rattle.grid.specs.declared.Cell.{Cell}
-use Rattle.grid.specs.declared.Cell.TheVariants.{Absent, Present}
+use Rattle.grid.specs.Cell.{Cell}
 use Rattle.grid.specs.declared.EntryAt.{EntryAt}
 use Rattle.grid.specs.declared.EntryAt.TheVariants as entry
 use Rattle.grid.specs.Grid.{Grid, Same, empty_grid}
@@ -31,7 +32,7 @@ use Rattle.grid.proofs.Counts.{empty_count, cleared_count}
 use Rattle.grid.proofs.Position.{same_entry}
 use Rattle.refusals.specs.Cases.{Case, given, first_applying}
 use Rattle.refusals.proofs.Cases.{later, applying_after, applying_tail, applying_none}
-use Rattle.refusals.proofs.Codes.{Coded, applying_coded, coded_append, outputs_coded}
+use Rattle.refusals.proofs.Codes.{Coded, applying_coded, applying_numbered, coded_append, outputs_coded}
 use Rattle.model.specs.Model.{vacant, holding, Model, slot_of, is_vacant, grid_at, revision_at, needed_with}
 use Rattle.model.specs.Effects.{
   Reply,
@@ -123,6 +124,9 @@ module _ (e : Effect) (n : ℕ) (m : Model) where
         go : Dec (refusal_of e n m ≡ 0) → code_of (reply_of e n m) ≡ refusal_of e n m
         go (yes z) = rw (eq-eqb _ _ z) (s.accepted_code m ∙ sym z)
         go (no z) = rw (ne_eqb _ _ z) (refused_code e.kind (refusal_of e n m))
+
+    pub refusal_below : refusal_of e n m < number_limit
+    refusal_below = applying_numbered (e.cases n m) (s.coded n m)
 
     pub reply_small : code_of (reply_of e n m) < code_limit
     reply_small = let c = reply_code in omega (arith, applying_coded (e.cases n m) (s.coded n m))
@@ -216,12 +220,12 @@ module _ (n : ℕ) (m m' : Model) (a : Alike m m') where
   effect_same (drop_slot k) =
       record { refusal = refl; answer = λ z. refl; change = λ z. alike_put m m' k vacant vacant a tt }
   effect_same (set_cell k i j v) =
-      let s = changed_same k i j (Present v) in
+      let s = changed_same k i j (Some v) in
       putting_same updating k _ _ n m m' a
       (ap (λ (xs : List Case). first_applying (xs ++ fit_cases n m k (with_value m k i j v))) (cell_cases_lem n m m' a k i j)
       ∙ ap (λ (xs : List Case). first_applying (cell_cases m' k i j ++ xs)) (fit_same n m m' a k _ _ s)) (λ z. s)
   effect_same (clear_cell k i j) =
-      putting_same updating k _ _ n m m' a (ap first_applying (cell_cases_lem n m m' a k i j)) (λ z. changed_same k i j Absent)
+      putting_same updating k _ _ n m m' a (ap first_applying (cell_cases_lem n m m' a k i j)) (λ z. changed_same k i j None)
   effect_same (read_cell k i j) = record {
     refusal = ap first_applying (cell_cases_lem n m m' a k i j);
     answer = λ z. ap (λ (x : EntryAt). found (found_answer x)) (found_same k i j z);

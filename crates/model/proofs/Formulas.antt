@@ -1,4 +1,5 @@
 -- A formula on models that agree: the same refusal, and results that agree; and what fits fits afterwards.
+use Rattle.std.proofs.Common.{is_some}
 use Prim.Native.Nat.{ℕ, ◌-◌}
 use native.Mathlib.Omega.{arith}
 use mathlib.Core.Path.{◌≡◌, refl, sym, ap, ◌∙◌}
@@ -17,7 +18,7 @@ use Rattle.grid.proofs.Same.{same_refl}
 use Rattle.refusals.specs.Cases.{Case, given, first_applying}
 use Rattle.refusals.proofs.Cases.{later}
 use Rattle.refusals.proofs.Codes.{Coded}
-use Rattle.call_codes.specs.Decoding.{monoid_known, monoid_of, binary_known, binary_of}
+use Rattle.call_codes.specs.Decoding.{monoid_of, binary_of}
 use Rattle.operator_codes.specs.Codes.{monoid_numbered, binary_numbered}
 use Rattle.formula_texts.specs.Reader.{Outcome, read_as, unreadable, reading, accepted}
 use Rattle.formula_values.specs.Values.{
@@ -145,7 +146,7 @@ formula_fits n m x h z =
     let v = formula_on m x in
     let h₁ = later (leb slot_count x.target) 12 _ refl z in
     let h₂ =
-    later (not (monoid_known (monoid_numbered x.monoid) and binary_known (binary_numbered x.op))) 2 _ refl
+    later (not (is_some (monoid_numbered x.monoid) and is_some (binary_numbered x.op))) 2 _ refl
     h₁.rest in
     let h₃ = later (not (accepted x.text)) 14 _ refl h₂.rest in
     let h₄ = later (names_vacant m x.text) 13 _ refl h₃.rest in

@@ -1,6 +1,6 @@
 -- The calls on a store, with all their arguments, "but of a buffer lent to work in only the length", and the effect of
 -- each (document 01, "The shelf" and "When the clerk turns a call away").
-use Rattle.std.specs.Prelude.{ℕ, cond, not, List, [], ◌∷◌, ◌++◌, leb, ltb, eqb}
+use Rattle.std.specs.Prelude.{ℕ, cond, not, List, [], ◌∷◌, ◌++◌, leb, ltb, eqb, None, Some, is_some}
 use Rattle.conditions.specs.Tests.{◌and◌}
 use Rattle.limits.specs.Limits.{slot_count, max_rows, max_cols, min_stack_words}
 use Rattle.limits.specs.Ranges.{in_range}
@@ -22,12 +22,11 @@ use Rattle.grid.specs.Grid.{Grid, empty_grid}
 use Rattle.grid.specs.Position.{entry_at}
 use Rattle.grid.specs.Revision.{updating, making}
 use Rattle.grid.specs.Update.{with_cell}
-use Rattle.grid.specs.declared.Cell.TheVariants.{Absent, Present}
 use Rattle.operations.specs.declared.Call.{Call}
 use Rattle.operations.specs.Calls.{has_second, call_final}
 use Rattle.call_codes.specs.declared.Options.{Options}
 use Rattle.call_codes.specs.declared.Verb.{Verb}
-use Rattle.call_codes.specs.Decoding.{monoid_known, monoid_of, binary_known, binary_of, decoded}
+use Rattle.call_codes.specs.Decoding.{monoid_of, binary_of, decoded}
 use Rattle.operator_codes.specs.Codes.{monoid_numbered, binary_numbered}
 use Rattle.formula_texts.specs.Reader.{accepted as inLanguage}
 use Rattle.formula_values.specs.Values.{Value, value_code, value_grid}
@@ -103,7 +102,7 @@ no_grid m k = given empty_slot (is_vacant (slot_of m k))
 
 -- 2: "no such .. monoid"
 abbrev pub no_monoid : ℕ → Case
-no_monoid number = given unknown_operator (not (monoid_known (monoid_numbered number)))
+no_monoid number = given unknown_operator (not (is_some (monoid_numbered number)))
 
 -- 7: "row or column past .. the sheet named"
 abbrev pub no_cell : Grid → ℕ → ℕ → Case
@@ -187,7 +186,7 @@ formula_on m x =
 -- 2: "One semiring is named"
 abbrev pub no_semiring : ℕ → ℕ → Case
 no_semiring monoid op =
-    given unknown_operator (not (monoid_known (monoid_numbered monoid) and binary_known (binary_numbered op)))
+    given unknown_operator (not (is_some (monoid_numbered monoid) and is_some (binary_numbered op)))
 
 -- "the first failing step's 8 or 10"
 abbrev pub step_cases : Value → List Case
@@ -209,10 +208,10 @@ formula_cases n m x =
 
 -- set "puts the value into the named cell", and clear "leaves none there"
 abbrev pub with_value : Model → ℕ → ℕ → ℕ → ℕ → Grid
-with_value m k i j v = with_cell (grid_at m k) i j (Present v)
+with_value m k i j v = with_cell (grid_at m k) i j (Some v)
 
 abbrev pub without_value : Model → ℕ → ℕ → ℕ → Grid
-without_value m k i j = with_cell (grid_at m k) i j Absent
+without_value m k i j = with_cell (grid_at m k) i j None
 
 -- 12, and 8: "rows or columns outside 1 to 512" (A6: 1,000), of an empty matrix for slot k
 abbrev pub shape_cases : ℕ → ℕ → ℕ → List Case

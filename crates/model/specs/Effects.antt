@@ -1,9 +1,9 @@
 -- What a call does to the model, in one record for each call: its refusals in their order and, where none applies, what
 -- changes and what is answered. The reply and the model afterwards follow from it.
 use Rattle.std.specs.Prelude.{ℕ, cond, List, eqb}
-use Rattle.answers.specs.declared.Answer.{Answer}
-use Rattle.answers.specs.declared.CellAnswer.{CellAnswer}
-use Rattle.answers.specs.declared.NumberAnswer.{NumberAnswer}
+use Rattle.answers.specs.Answers.{Answer}
+use Rattle.answers.specs.Answers.{CellAnswer}
+use Rattle.answers.specs.Answers.{NumberAnswer}
 use Rattle.answers.specs.Refusals.{accepted, refused}
 use Rattle.answers.specs.Reads.{refused_read}
 use Rattle.answers.specs.Numbers.{refused_number}

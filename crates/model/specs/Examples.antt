@@ -1,12 +1,11 @@
 -- Short lists of calls, computed: what each call answers, and so what it left for the later ones.
-use Rattle.std.specs.Prelude.{ℕ, ◌-◌, ◌≡◌, refl, Bool, true, false, cond, List, [], ◌∷◌, ◌++◌, replicate, ltb}
+use Rattle.std.specs.Prelude.{ℕ, ◌-◌, ◌≡◌, refl, Bool, true, false, cond, List, [], ◌∷◌, ◌++◌, replicate, ltb, None, Some}
 use Rattle.conditions.specs.Tests.{◌and◌, all}
 use Rattle.limits.specs.Sizes.{workspace_words}
 use Rattle.limits.specs.Ranges.{in_range}
 use Rattle.answers.specs.Refusals.{accepted, refused}
 use Rattle.answers.specs.Reads.{found_answer, refused_read}
 use Rattle.answers.specs.Numbers.{number_answer, refused_number}
-use Rattle.grid.specs.declared.Cell.TheVariants.{Absent, Present}
 use Rattle.grid.specs.declared.EntryAt.TheVariants as entry
 use Rattle.grid.specs.Entries.{one, gather, flatten}
 use Rattle.grid.specs.Position.{entry_at}
@@ -149,7 +148,7 @@ cells_answered = refl
 -- and a set that fits exactly is accepted
 abbrev full : Model
 full =
-    holding 0 (record { rows = 64; cols = 33; cell = λ i j. cond (ltb j 32) (Present 1) Absent })
+    holding 0 (record { rows = 64; cols = 33; cell = λ i j. cond (ltb j 32) (Some 1) None })
     ∷ replicate 7 vacant
 
 abbrev full_calls : List StoreCall
@@ -181,7 +180,7 @@ laid =
 -- the union of two slots under an operator, with a mask or not, with as many words to work in
 abbrev united : ℕ → Bool → ℕ → ℕ → ℕ → ℕ → ℕ → StoreCall
 united op masked a b m c work =
-    operate (record { flags = 0; has_mask = masked; has_accumulator = false; accumulator = 9 }) (EwiseAdd op)
+    operate (record { flags = 0; has_mask = masked; accumulator = None }) (EwiseAdd op)
     (record { first = a; second = b; mask = m; output = c }) [] [] work
 
 -- under MINUS
@@ -251,7 +250,7 @@ roles_answered = refl
 -- a call by its flags, its verb and its roles, with the lists and as many words to work in
 abbrev asked : ℕ → Verb → ℕ → ℕ → ℕ → List ℕ → List ℕ → ℕ → StoreCall
 asked flags verb a b c is js work =
-    operate (record { flags = flags; has_mask = false; has_accumulator = false; accumulator = 9 }) verb
+    operate (record { flags = flags; has_mask = false; accumulator = None }) verb
     (record { first = a; second = b; mask = 9; output = c }) is js work
 
 -- the rest of the order: 12 before 1, 1 before 2, 13 before 7, 7 before 8, 8 before 9. An apply has no second input, and

@@ -1,5 +1,5 @@
 -- Formulas over a store (document 02, A8), computed: the refusals in their order, the target, and its revision.
-use Rattle.std.specs.Prelude.{ℕ, ◌≡◌, refl, cond, List, [], ◌∷◌, ltb}
+use Rattle.std.specs.Prelude.{ℕ, ◌≡◌, refl, cond, List, [], ◌∷◌, ltb, None, Some}
 use Rattle.conditions.specs.Tests.{◌and◌}
 use Rattle.limits.specs.Limits.{min_stack_words}
 use Rattle.answers.specs.Refusals.{accepted, refused}
@@ -7,7 +7,6 @@ use Rattle.answers.specs.Reads.{found_answer}
 use Rattle.twos_complement.specs.TwosComplement.{signed, word}
 use Rattle.operators.specs.Operators.{binary_word}
 use Rattle.operator_codes.specs.Codes.{binary_numbered, monoid_numbered}
-use Rattle.grid.specs.declared.Cell.TheVariants.{Absent, Present}
 use Rattle.grid.specs.declared.EntryAt.TheVariants as entry
 use Rattle.grid.specs.Grid.{Grid}
 use Rattle.grid.specs.Entries.{one, gather, flatten}
@@ -25,15 +24,15 @@ use Rattle.model.specs.Histories.{replies, model_after}
 -- slots 0 and 1 hold 5 and 2, slot 2 is 1 by 2; slot 3 has 2,048 entries and slot 4 the column that is empty there; the
 -- others are empty. 4,416 words in all
 abbrev single : ℕ → Grid
-single v = record { rows = 1; cols = 1; cell = λ i j. Present v }
+single v = record { rows = 1; cols = 1; cell = λ i j. Some v }
 
 abbrev laid : Model
 laid =
     holding 0 (single 5)
     ∷ holding 0 (single 2)
-    ∷ holding 0 (record { rows = 1; cols = 2; cell = λ i j. Present 7 })
-    ∷ holding 0 (record { rows = 64; cols = 33; cell = λ i j. cond (ltb j 32) (Present 1) Absent })
-    ∷ holding 0 (record { rows = 64; cols = 33; cell = λ i j. cond (ltb j 32) Absent (Present 1) })
+    ∷ holding 0 (record { rows = 1; cols = 2; cell = λ i j. Some 7 })
+    ∷ holding 0 (record { rows = 64; cols = 33; cell = λ i j. cond (ltb j 32) (Some 1) None })
+    ∷ holding 0 (record { rows = 64; cols = 33; cell = λ i j. cond (ltb j 32) None (Some 1) })
     ∷ vacant
     ∷ vacant
     ∷ vacant

@@ -1,5 +1,5 @@
 -- The revisions that short lists of calls leave (document 02, A12), computed.
-use Rattle.std.specs.Prelude.{ℕ, ◌≡◌, refl, false, List, [], ◌∷◌, ◌++◌, replicate}
+use Rattle.std.specs.Prelude.{ℕ, ◌≡◌, refl, false, None, List, [], ◌∷◌, ◌++◌, replicate}
 use Rattle.conditions.specs.Tests.{◌and◌, all}
 use Rattle.limits.specs.Sizes.{workspace_words}
 use Rattle.limits.specs.Ranges.{in_range}
@@ -52,7 +52,7 @@ reading = refl
 -- the union of two slots under PLUS into a third
 abbrev sum : ℕ → ℕ → ℕ → ℕ → StoreCall
 sum a b c work =
-    operate (record { flags = 0; has_mask = false; has_accumulator = false; accumulator = 9 }) (EwiseAdd 3)
+    operate (record { flags = 0; has_mask = false; accumulator = None }) (EwiseAdd 3)
     (record { first = a; second = b; mask = 0; output = c }) [] [] work
 
 -- an operation adds one to C alone; refused, nothing; and one place in several roles gains one, once

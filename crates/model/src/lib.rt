@@ -4,7 +4,7 @@
 #![tactic(auto)]
 
 // The slots that an operation names for its inputs, its mask and C.
-#[derive(Clone, Copy)]
+#[derive(Clone, Copy, Debug, PartialEq, Eq)]
 pub struct Roles {
     pub first: usize,
     pub second: usize,

@@ -6,13 +6,12 @@
 use call_codes::{Options, Verb};
 use std::io;
 
-// No mask and no accumulator: the number 9 is not looked at.
+// No mask and no accumulator.
 pub fn plain(flags: u32) -> Options {
     Options {
         flags: flags,
         has_mask: false,
-        has_accumulator: false,
-        accumulator: 9,
+        accumulator: None,
     }
 }
 
@@ -20,8 +19,7 @@ pub fn masked(flags: u32) -> Options {
     Options {
         flags: flags,
         has_mask: true,
-        has_accumulator: false,
-        accumulator: 9,
+        accumulator: None,
     }
 }
 
@@ -29,8 +27,7 @@ pub fn accumulated(flags: u32, has_mask: bool, accumulator: u32) -> Options {
     Options {
         flags: flags,
         has_mask: has_mask,
-        has_accumulator: true,
-        accumulator: accumulator,
+        accumulator: Some(accumulator),
     }
 }
 
@@ -49,7 +46,14 @@ pub fn mxm<'a>(
 ) -> io::Result<()> {
     refill(work);
     let r = calls::operate(options, Verb::Mxm(monoid, op), a, b, a, a, a, c, work);
-    report(rt, label, r.code, r.entries, &c[..], &work[..])
+    report(
+        rt,
+        label,
+        test_support::code(r),
+        test_support::value(r),
+        &c[..],
+        &work[..],
+    )
 }
 
 pub fn vxm<'a>(
@@ -65,7 +69,14 @@ pub fn vxm<'a>(
 ) -> io::Result<()> {
     refill(work);
     let r = calls::operate(options, Verb::Vxm(monoid, op), u, a, u, u, u, c, work);
-    report(rt, label, r.code, r.entries, &c[..], &work[..])
+    report(
+        rt,
+        label,
+        test_support::code(r),
+        test_support::value(r),
+        &c[..],
+        &work[..],
+    )
 }
 
 pub fn ewise_mult<'a>(
@@ -80,7 +91,14 @@ pub fn ewise_mult<'a>(
 ) -> io::Result<()> {
     refill(work);
     let r = calls::operate(options, Verb::EwiseMult(op), a, b, a, a, a, c, work);
-    report(rt, label, r.code, r.entries, &c[..], &work[..])
+    report(
+        rt,
+        label,
+        test_support::code(r),
+        test_support::value(r),
+        &c[..],
+        &work[..],
+    )
 }
 
 pub fn ewise_add<'a>(
@@ -96,7 +114,14 @@ pub fn ewise_add<'a>(
 ) -> io::Result<()> {
     refill(work);
     let r = calls::operate(options, Verb::EwiseAdd(op), a, b, mask, a, a, c, work);
-    report(rt, label, r.code, r.entries, &c[..], &work[..])
+    report(
+        rt,
+        label,
+        test_support::code(r),
+        test_support::value(r),
+        &c[..],
+        &work[..],
+    )
 }
 
 pub fn apply(
@@ -123,7 +148,14 @@ pub fn apply(
         c,
         work,
     );
-    report(rt, label, r.code, r.entries, &c[..], &work[..])
+    report(
+        rt,
+        label,
+        test_support::code(r),
+        test_support::value(r),
+        &c[..],
+        &work[..],
+    )
 }
 
 pub fn extract(
@@ -138,7 +170,14 @@ pub fn extract(
 ) -> io::Result<()> {
     refill(work);
     let r = calls::operate(options, Verb::Extract, a, a, a, is, js, c, work);
-    report(rt, label, r.code, r.entries, &c[..], &work[..])
+    report(
+        rt,
+        label,
+        test_support::code(r),
+        test_support::value(r),
+        &c[..],
+        &work[..],
+    )
 }
 
 // The answer and the words of C's buffer: all of them, or the first and the last.

@@ -1,4 +1,5 @@
 -- A call depends only on the cells of its grids within their shapes.
+use Rattle.std.proofs.Common.{None}
 use Prim.Native.Nat.{ℕ, ◌<◌}
 use native.Mathlib.Omega.{arith}
 use mathlib.Core.Path.{◌≡◌, refl, ap, ◌∙◌}
@@ -7,8 +8,7 @@ use mathlib.Core.Bool.{Bool, true, false, cond, not}
 use borrow.Author.Tests.{eqb-true}
 use Rattle.conditions.specs.Tests.{◌and◌}
 use Rattle.conditions.proofs.Tests.{and_left, and_right}
-use Rattle.grid.specs.declared.Cell.{Cell}
-use Rattle.grid.specs.declared.Cell.TheVariants.{Absent}
+use Rattle.grid.specs.Cell.{Cell}
 use Rattle.grid.specs.Grid.{Grid, Same}
 use Rattle.operations.specs.declared.Call.{Call}
 use Rattle.operations.specs.declared.Shapes.{Shapes}
@@ -47,7 +47,7 @@ where_there false p q f = refl
 mask_same : (w : WriteBack) (x y c t : Cell) → (w.has_mask ≡ true → x ≡ y) → write_back w x c t ≡ write_back w y c t
 unfolding write_back
 mask_same w x y c t f =
-    ap (λ (z : Bool). cond (cond w.complement (not z) z) (accumulated w.accumulator c t) (cond w.replace Absent c))
+    ap (λ (z : Bool). cond (cond w.complement (not z) z) (accumulated w.accumulator c t) (cond w.replace None c))
     (where_there w.has_mask (mask_holds w.structural x) (mask_holds w.structural y)
     (λ h. ap (mask_holds w.structural) (f h)))
 

@@ -1,10 +1,9 @@
 -- Computed examples: definitions beside their nearest wrong readings.
-use Rattle.std.specs.Prelude.{ℕ, zero, suc, ◌+◌, ◌*◌, ◌≡◌, refl, List, [], ◌∷◌, ◌++◌, Bool, true, false, cond, replicate, eqb}
+use Rattle.std.specs.Prelude.{ℕ, zero, suc, ◌+◌, ◌*◌, ◌≡◌, refl, List, [], ◌∷◌, ◌++◌, Bool, true, false, cond, replicate, eqb, None, Some}
 use Rattle.limits.specs.Limits.{max_list}
 use Rattle.conditions.specs.Tests.{◌and◌, all}
 use Rattle.twos_complement.specs.TwosComplement.{signed, word}
-use Rattle.grid.specs.declared.Cell.{Cell}
-use Rattle.grid.specs.declared.Cell.TheVariants.{Absent, Present}
+use Rattle.grid.specs.Cell.{Cell}
 use Rattle.grid.specs.Grid.{Grid, empty_grid}
 use Rattle.operators.specs.declared.ApplyOp.TheVariants.{Unary, BinaryScalarFirst, BinaryScalarSecond, IndexUnary}
 use Rattle.operators.specs.declared.BinaryOp.TheVariants as binary
@@ -18,7 +17,6 @@ use Rattle.select_ops.specs.declared.SelectOp.TheVariants.{ValueGt, Tril, Triu}
 use Rattle.select_ops.specs.Selects.{selects}
 use Rattle.grid.specs.Entries.{one, gather}
 use Rattle.reductions.specs.Reductions.{reduced_row}
-use Rattle.operations.specs.declared.Accumulator.TheVariants.{Absent as NoAccumulator, Present as By}
 use Rattle.operations.specs.declared.Call.{Call}
 use Rattle.operations.specs.declared.Operation.{Operation}
 use Rattle.operations.specs.declared.Operation.TheVariants.{
@@ -50,8 +48,8 @@ use Rattle.operations.specs.Calls.{
 
 -- a row of two cells
 abbrev pick : ℕ → ℕ → ℕ → Cell
-pick x y zero = Present x
-pick x y (suc k) = Present y
+pick x y zero = Some x
+pick x y (suc k) = Some y
 
 -- a product, an intersection, a union, an apply
 abbrev mxm : Operation
@@ -75,7 +73,7 @@ sums = ReduceRows monoid.Plus
 
 -- an assign without an accumulator, and a Kronecker product
 abbrev assign : Operation
-assign = Assign NoAccumulator
+assign = Assign None
 
 abbrev kronecker : Operation
 kronecker = Kronecker binary.Minus
@@ -88,7 +86,7 @@ plain flags op = record {
   operation = op;
   vector_first = false;
   has_mask = false;
-  accumulator = NoAccumulator;
+  accumulator = None;
 }
 
 abbrev masked : ℕ → Operation → Call
@@ -98,7 +96,7 @@ masked flags op = record {
   operation = op;
   vector_first = false;
   has_mask = true;
-  accumulator = NoAccumulator;
+  accumulator = None;
 }
 
 abbrev vector : ℕ → Operation → Call
@@ -108,7 +106,7 @@ vector flags op = record {
   operation = op;
   vector_first = true;
   has_mask = false;
-  accumulator = NoAccumulator;
+  accumulator = None;
 }
 
 -- 24 is 8 and 16
@@ -136,12 +134,12 @@ second_not_by_8 = refl
 
 -- a grid of 2 rows and 3 columns that has 12 in row 1 and column 2
 abbrev wide : Grid
-wide = record { rows = 2; cols = 3; cell = λ i j. Present (10 * i + j) }
+wide = record { rows = 2; cols = 3; cell = λ i j. Some (10 * i + j) }
 
-transposed_cell : (oriented true wide).cell 2 1 ≡ Present 12
+transposed_cell : (oriented true wide).cell 2 1 ≡ Some 12
 transposed_cell = refl
 
-stored_cell : (oriented false wide).cell 1 2 ≡ Present 12
+stored_cell : (oriented false wide).cell 1 2 ≡ Some 12
 stored_cell = refl
 
 transposed_rows : (oriented true wide).rows ≡ 3
@@ -311,33 +309,33 @@ unfolding shapes_agree ◌and◌
 extract_turned = refl
 
 -- "T(i,j) = A(I[i], J[j])"
-extract_cell : (call_result (plain 0 Extract) wide (by 5 7) (by 1 2) (1 ∷ []) (2 ∷ 0 ∷ [])).cell 0 0 ≡ Present 12
+extract_cell : (call_result (plain 0 Extract) wide (by 5 7) (by 1 2) (1 ∷ []) (2 ∷ 0 ∷ [])).cell 0 0 ≡ Some 12
 extract_cell = refl
 
-extract_next : (call_result (plain 0 Extract) wide (by 5 7) (by 1 2) (1 ∷ []) (2 ∷ 0 ∷ [])).cell 0 1 ≡ Present 10
+extract_next : (call_result (plain 0 Extract) wide (by 5 7) (by 1 2) (1 ∷ []) (2 ∷ 0 ∷ [])).cell 0 1 ≡ Some 10
 extract_next = refl
 
 -- "An entry stored at (2, 5) of a transposed input has row 5 and column 2" (document 02, A5): DIAGINDEX with 10 is
 -- 2 - 5 + 10. Not transposed it has row 2 and column 5.
 abbrev three_by_six : Grid
-three_by_six = record { rows = 3; cols = 6; cell = λ i j. Present 1 }
+three_by_six = record { rows = 3; cols = 6; cell = λ i j. Some 1 }
 
 abbrev numbered : ℕ → IndexUnaryOp → ℕ → ℕ → ℕ → Cell
 numbered flags op s i j = (call_result (plain flags (Apply (IndexUnary op s))) three_by_six (by 1 1) (by 6 3) [] []).cell i j
 
-row_transposed : numbered 8 RowIndex 0 5 2 ≡ Present 5
+row_transposed : numbered 8 RowIndex 0 5 2 ≡ Some 5
 unfolding entry_word index_unary_word signed word
 row_transposed = refl
 
-column_transposed : numbered 8 ColIndex 0 5 2 ≡ Present 2
+column_transposed : numbered 8 ColIndex 0 5 2 ≡ Some 2
 unfolding entry_word index_unary_word signed word
 column_transposed = refl
 
-diagonal_transposed : numbered 8 DiagIndex 10 5 2 ≡ Present 7
+diagonal_transposed : numbered 8 DiagIndex 10 5 2 ≡ Some 7
 unfolding entry_word index_unary_word signed word
 diagonal_transposed = refl
 
-row_stored : numbered 0 RowIndex 0 2 5 ≡ Present 2
+row_stored : numbered 0 RowIndex 0 2 5 ≡ Some 2
 unfolding entry_word index_unary_word signed word
 row_stored = refl
 
@@ -350,11 +348,11 @@ select_turned : agree (plain 0 above) (by 2 3) (by 5 7) (by 1 1) (by 3 2) ≡ fa
 unfolding shapes_agree ◌and◌
 select_turned = refl
 
-select_kept : (call_result (plain 0 above) wide (by 1 1) (by 2 3) [] []).cell 1 2 ≡ Present 12
+select_kept : (call_result (plain 0 above) wide (by 1 1) (by 2 3) [] []).cell 1 2 ≡ Some 12
 unfolding selects signed
 select_kept = refl
 
-select_dropped : (call_result (plain 0 above) wide (by 1 1) (by 2 3) [] []).cell 1 0 ≡ Absent
+select_dropped : (call_result (plain 0 above) wide (by 1 1) (by 2 3) [] []).cell 1 0 ≡ None
 unfolding selects signed
 select_dropped = refl
 
@@ -362,15 +360,15 @@ select_dropped = refl
 abbrev triangle : ℕ → SelectOp → ℕ → ℕ → Cell
 triangle flags op i j = (call_result (plain flags (Select op)) three_by_six (by 1 1) (by 6 3) [] []).cell i j
 
-lower_transposed : triangle 8 (Tril 0) 5 2 ≡ Present 1
+lower_transposed : triangle 8 (Tril 0) 5 2 ≡ Some 1
 unfolding selects signed
 lower_transposed = refl
 
-upper_transposed : triangle 8 (Triu 0) 5 2 ≡ Absent
+upper_transposed : triangle 8 (Triu 0) 5 2 ≡ None
 unfolding selects signed
 upper_transposed = refl
 
-lower_stored : triangle 0 (Tril 0) 2 5 ≡ Absent
+lower_stored : triangle 0 (Tril 0) 2 5 ≡ None
 unfolding selects signed
 lower_stored = refl
 
@@ -396,11 +394,11 @@ unfolding shapes_agree ◌and◌
 sums_mask = refl
 
 -- row 1 of 10, 11 and 12; transposed, row 2 of 2 and 12
-sums_row : (call_result (plain 0 sums) wide (by 1 1) (by 1 2) [] []).cell 0 1 ≡ Present 33
+sums_row : (call_result (plain 0 sums) wide (by 1 1) (by 1 2) [] []).cell 0 1 ≡ Some 33
 unfolding reduced_row gather one binary_word signed word
 sums_row = refl
 
-sums_column : (call_result (plain 8 sums) wide (by 1 1) (by 1 3) [] []).cell 0 2 ≡ Present 14
+sums_column : (call_result (plain 8 sums) wide (by 1 1) (by 1 3) [] []).cell 0 2 ≡ Some 14
 unfolding reduced_row gather one binary_word signed word
 sums_column = refl
 
@@ -522,35 +520,35 @@ assign_twice = refl
 
 -- A has 7 and an empty cell, for columns 2 and 0 of row 1; `wide` is old C
 abbrev half : ℕ → ℕ → Cell
-half k zero = Present 7
-half k (suc l) = Absent
+half k zero = Some 7
+half k (suc l) = None
 
 abbrev lone : Grid
 lone = record { rows = 1; cols = 2; cell = half }
 
 -- C after an assign of it, with a mask that has a place only at row 1 and column 2, where the call has one
 abbrev corner : ℕ → ℕ → Cell
-corner i j = cond (eqb i 1 and eqb j 2) (Present 1) Absent
+corner i j = cond (eqb i 1 and eqb j 2) (Some 1) None
 
 abbrev assigned : Call → ℕ → ℕ → Cell
 assigned call i j =
     (call_final call lone (by 5 7) (record { rows = 2; cols = 3; cell = corner }) wide (1 ∷ []) (2 ∷ 0 ∷ [])).cell i j
 
 -- "Without an accumulator a listed place takes A's emptiness too"
-assign_listed : assigned (plain 0 assign) 1 2 ≡ Present 7
+assign_listed : assigned (plain 0 assign) 1 2 ≡ Some 7
 unfolding call_final write_back listed_cell ◌and◌
 assign_listed = refl
 
-assign_emptied : assigned (plain 0 assign) 1 0 ≡ Absent
+assign_emptied : assigned (plain 0 assign) 1 0 ≡ None
 unfolding call_final write_back listed_cell ◌and◌
 assign_emptied = refl
 
 -- "a place not listed keeps old C": its column is not listed, or its row
-assign_column : assigned (plain 0 assign) 1 1 ≡ Present 11
+assign_column : assigned (plain 0 assign) 1 1 ≡ Some 11
 unfolding call_final write_back listed_cell ◌and◌
 assign_column = refl
 
-assign_row : assigned (plain 0 assign) 0 2 ≡ Present 2
+assign_row : assigned (plain 0 assign) 0 2 ≡ Some 2
 unfolding call_final write_back listed_cell ◌and◌
 assign_row = refl
 
@@ -559,38 +557,38 @@ abbrev accumulating : Call
 accumulating = record {
   flags = 0;
   known = true;
-  operation = Assign (By binary.Minus);
+  operation = Assign (Some binary.Minus);
   vector_first = false;
   has_mask = false;
-  accumulator = By binary.Minus;
+  accumulator = Some binary.Minus;
 }
 
-accumulate_listed : assigned accumulating 1 2 ≡ Present 5
+accumulate_listed : assigned accumulating 1 2 ≡ Some 5
 unfolding call_final write_back listed_cell ◌and◌ binary_word signed word
 accumulate_listed = refl
 
-accumulate_empty : assigned accumulating 1 0 ≡ Present 10
+accumulate_empty : assigned accumulating 1 0 ≡ Some 10
 unfolding call_final write_back listed_cell ◌and◌
 accumulate_empty = refl
 
-accumulate_unlisted : assigned accumulating 1 1 ≡ Present 11
+accumulate_unlisted : assigned accumulating 1 1 ≡ Some 11
 unfolding call_final write_back listed_cell ◌and◌
 accumulate_unlisted = refl
 
 -- the mask covers all of C: outside it a listed place keeps old C, and replace empties every place, listed or not
-outside_listed : assigned (masked 0 assign) 1 0 ≡ Present 10
+outside_listed : assigned (masked 0 assign) 1 0 ≡ Some 10
 unfolding call_final write_back listed_cell ◌and◌
 outside_listed = refl
 
-replaced_listed : assigned (masked 1 assign) 1 0 ≡ Absent
+replaced_listed : assigned (masked 1 assign) 1 0 ≡ None
 unfolding call_final write_back listed_cell ◌and◌
 replaced_listed = refl
 
-replaced_unlisted : assigned (masked 1 assign) 0 2 ≡ Absent
+replaced_unlisted : assigned (masked 1 assign) 0 2 ≡ None
 unfolding call_final write_back listed_cell ◌and◌
 replaced_unlisted = refl
 
-replaced_inside : assigned (masked 1 assign) 1 2 ≡ Present 7
+replaced_inside : assigned (masked 1 assign) 1 2 ≡ Some 7
 unfolding call_final write_back listed_cell ◌and◌
 replaced_inside = refl
 
@@ -619,50 +617,50 @@ kronecker_past = refl
 -- "entry (i·p + k, j·q + l) from A(i,j) and a p by q B(k,l)", A's value first: with `wide` and a 2 by 4 B that has 3k + l,
 -- place (3, 8) is by A(1,2) and B(1,0), and place (2, 7) by A(1,1) and B(0,3)
 abbrev block : Grid
-block = record { rows = 2; cols = 4; cell = λ k l. Present (3 * k + l) }
+block = record { rows = 2; cols = 4; cell = λ k l. Some (3 * k + l) }
 
-kronecker_cell : (call_result (plain 0 kronecker) wide block (by 4 12) [] []).cell 3 8 ≡ Present 9
+kronecker_cell : (call_result (plain 0 kronecker) wide block (by 4 12) [] []).cell 3 8 ≡ Some 9
 unfolding binary_word signed word
 kronecker_cell = refl
 
-kronecker_next : (call_result (plain 0 kronecker) wide block (by 4 12) [] []).cell 2 7 ≡ Present 8
+kronecker_next : (call_result (plain 0 kronecker) wide block (by 4 12) [] []).cell 2 7 ≡ Some 8
 unfolding binary_word signed word
 kronecker_next = refl
 
 -- ---- which operand is first, and which operator is which
 
 -- the operator of an intersection takes the first input's value first; of a union too, and a lone value is passed
-intersect_order : intersect binary.Minus (Present 9) (Present 4) ≡ Present 5
+intersect_order : intersect binary.Minus (Some 9) (Some 4) ≡ Some 5
 unfolding binary_word signed word
 intersect_order = refl
 
-unite_order : unite binary.Minus (Present 9) (Present 4) ≡ Present 5
+unite_order : unite binary.Minus (Some 9) (Some 4) ≡ Some 5
 unfolding binary_word signed word
 unite_order = refl
 
-unite_lone : unite binary.Minus Absent (Present 4) ≡ Present 4
+unite_lone : unite binary.Minus None (Some 4) ≡ Some 4
 unite_lone = refl
 
 -- old C first
-accumulated_order : accumulated (By binary.Minus) (Present 9) (Present 4) ≡ Present 5
+accumulated_order : accumulated (Some binary.Minus) (Some 9) (Some 4) ≡ Some 5
 unfolding binary_word signed word
 accumulated_order = refl
 
 -- the smaller of 3 + 4 and 5 + 1, and not the sum of the smaller ones; MINUS takes A's value first
-dot_sums : dot monoid.Min binary.Plus 2 (pick 3 5) (pick 4 1) ≡ Present 6
+dot_sums : dot monoid.Min binary.Plus 2 (pick 3 5) (pick 4 1) ≡ Some 6
 unfolding dot binary_word signed word
 dot_sums = refl
 
-dot_order : dot monoid.Plus binary.Minus 2 (pick 9 5) (pick 4 1) ≡ Present 9
+dot_order : dot monoid.Plus binary.Minus 2 (pick 9 5) (pick 4 1) ≡ Some 9
 unfolding dot binary_word signed word
 dot_order = refl
 
 -- the scalar first, and second
-scalar_first_lem : apply_cell (BinaryScalarFirst binary.Minus 15) 0 0 (Present 10) ≡ Present 5
+scalar_first_lem : apply_cell (BinaryScalarFirst binary.Minus 15) 0 0 (Some 10) ≡ Some 5
 unfolding entry_word binary_word signed word
 scalar_first_lem = refl
 
-scalar_second_lem : apply_cell (BinaryScalarSecond binary.Minus 15) 0 0 (Present 20) ≡ Present 5
+scalar_second_lem : apply_cell (BinaryScalarSecond binary.Minus 15) 0 0 (Some 20) ≡ Some 5
 unfolding entry_word binary_word signed word
 scalar_second_lem = refl
 

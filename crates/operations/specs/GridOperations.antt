@@ -3,7 +3,7 @@
 -- operation follows from these.
 use Rattle.std.specs.Prelude.{ℕ, ◌*◌, ◌/◌, ◌%◌, List, Bool, true, false, cond, length}
 use Rattle.words.specs.Words.{at}
-use Rattle.grid.specs.declared.Cell.{Cell}
+use Rattle.grid.specs.Cell.{Cell}
 use Rattle.grid.specs.Grid.{Grid}
 use Rattle.reductions.specs.Reductions.{reduced_row}
 use Rattle.operations.specs.CellOperations.{
@@ -63,7 +63,7 @@ inputs_of (Kronecker op) = record { second = true; lists = false }
 
 -- What it asks for: the shapes that both inputs have to have, the bounds of the indexes, and T's shape, each by what it is
 -- made of. An input that may have any shape is asked for its own; the bounds matter where there are lists.
-abbrev rules : Part → Part → Part → Part → Rules
+abbrev pub rules : Part → Part → Part → Part → Rules
 rules first second bounds result = record { first = first; second = second; bounds = bounds; result = result }
 
 abbrev pub rules_of : Operation → Rules

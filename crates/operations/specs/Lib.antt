@@ -1,3 +1,4 @@
+pub mod Accumulator
 pub mod CellOperations
 pub mod GridOperations
 pub mod WriteBacks

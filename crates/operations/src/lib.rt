@@ -5,7 +5,7 @@
 
 ghost use Rattle.std.specs.Prelude.{◌≡◌};
 ghost use Rattle.limits.specs.Limits.{max_cols};
-ghost use Rattle.operations.specs.GridOperations.{inputs_of, rules_of, part_shape, needs_of};
+ghost use Rattle.operations.specs.GridOperations.{inputs_of, rules, rules_of, part_shape, needs_of};
 ghost use Rattle.operations.specs.Lists.{Small};
 
 use operators::{ApplyOp, BinaryOp, Monoid};
@@ -14,7 +14,7 @@ use select_ops::SelectOp;
 // Document 01's operations that give a T, and document 02's. A vector times a matrix is the product with a first input of one
 // row. Assign has the accumulator that it is written back with: T's places that are not listed depend on whether there is
 // one.
-#[derive(Clone, Copy)]
+#[derive(Clone, Copy, Debug, PartialEq, Eq)]
 pub enum Operation {
     Mxm(Monoid, BinaryOp),
     EwiseMult(BinaryOp),
@@ -28,14 +28,10 @@ pub enum Operation {
 }
 
 // "Whether there is a mask or an accumulator is said apart from its words or number."
-#[derive(Clone, Copy)]
-pub enum Accumulator {
-    Absent,
-    Present(BinaryOp),
-}
+pub type Accumulator = Option<BinaryOp>;
 
 // How T is written back into C: the flags that act there, whether there is a mask, and the accumulator.
-#[derive(Clone, Copy)]
+#[derive(Clone, Copy, Debug, PartialEq, Eq)]
 pub struct WriteBack {
     pub replace: bool,
     pub complement: bool,
@@ -47,7 +43,7 @@ pub struct WriteBack {
 // A call of one of these operations, its numbers decoded: the flags, whether every operator, monoid and accumulator
 // number is one, what is computed, whether the first input has to be a vector (it is then never transposed), whether
 // there is a mask, and the accumulator.
-#[derive(Clone, Copy)]
+#[derive(Clone, Copy, Debug, PartialEq, Eq)]
 pub struct Call {
     pub flags: u32,
     pub known: bool,
@@ -58,21 +54,21 @@ pub struct Call {
 }
 
 // The rows and columns of a matrix.
-#[derive(Clone, Copy)]
+#[derive(Clone, Copy, Debug, PartialEq, Eq)]
 pub struct Shape {
     pub rows: usize,
     pub cols: usize,
 }
 
 // Which inputs an operation has beside the first: a second one, index lists.
-#[derive(Clone, Copy)]
+#[derive(Clone, Copy, Debug, PartialEq, Eq)]
 pub struct Inputs {
     pub second: bool,
     pub lists: bool,
 }
 
 // The shapes of a call: of the inputs as their flags ask, of the old C, and the lengths of the two index lists.
-#[derive(Clone, Copy)]
+#[derive(Clone, Copy, Debug, PartialEq, Eq)]
 pub struct Shapes {
     pub first: Shape,
     pub second: Shape,
@@ -81,7 +77,7 @@ pub struct Shapes {
 }
 
 // What an operation asks of them: the shapes that its inputs have to have, the bounds of the indexes, and T's shape.
-#[derive(Clone, Copy)]
+#[derive(Clone, Copy, Debug, PartialEq, Eq)]
 pub struct Needs {
     pub first: Shape,
     pub second: Shape,
@@ -91,37 +87,26 @@ pub struct Needs {
 
 // Which inputs an operation has.
 pub fn inputs_of(operation: Operation) -> Inputs
-    ensures { (result.second ≡ (inputs_of operation).second) × (result.lists ≡ (inputs_of operation).lists) }
+    ensures { result ≡ inputs_of operation }
 {
-    let alone = Inputs {
-        second: false,
-        lists: false,
+    let (second, lists) = match operation {
+        Operation::Mxm(_, _) => (true, false),
+        Operation::EwiseMult(_) => (true, false),
+        Operation::EwiseAdd(_) => (true, false),
+        Operation::Apply(_) => (false, false),
+        Operation::Extract => (false, true),
+        Operation::Select(_) => (false, false),
+        Operation::ReduceRows(_) => (false, false),
+        Operation::Assign(_) => (false, true),
+        Operation::Kronecker(_) => (true, false),
     };
-    let with_second = Inputs {
-        second: true,
-        lists: false,
-    };
-    let with_lists = Inputs {
-        second: false,
-        lists: true,
-    };
-    match operation {
-        Operation::Mxm(_, _) => with_second,
-        Operation::EwiseMult(_) => with_second,
-        Operation::EwiseAdd(_) => with_second,
-        Operation::Apply(_) => alone,
-        Operation::Extract => with_lists,
-        Operation::Select(_) => alone,
-        Operation::ReduceRows(_) => alone,
-        Operation::Assign(_) => with_lists,
-        Operation::Kronecker(_) => with_second,
-    }
+    Inputs { second, lists }
 }
 
 // A shape that an operation asks for or gives, by what it is made of: the first input, the second, A's columns by B's
 // columns, A's rows by B's columns, the lengths of the lists, the old C, a vector with a place for each of A's rows, a
 // block of B's shape for each place of A.
-#[derive(Clone, Copy)]
+#[derive(Clone, Copy, Debug, PartialEq, Eq)]
 pub enum Part {
     First,
     Second,
@@ -134,7 +119,7 @@ pub enum Part {
 }
 
 // What an operation asks for: the shapes of its inputs, the bounds of the indexes, and T's shape.
-#[derive(Clone, Copy)]
+#[derive(Clone, Copy, Debug, PartialEq, Eq)]
 pub struct Rules {
     pub first: Part,
     pub second: Part,
@@ -144,74 +129,47 @@ pub struct Rules {
 
 // What an operation asks for. An input that may have any shape is asked for its own.
 fn rules_of(operation: Operation) -> Rules
-    ensures { (result.first ≡ (rules_of operation).first) × (result.second ≡ (rules_of operation).second)
-        × (result.bounds ≡ (rules_of operation).bounds) × (result.result ≡ (rules_of operation).result) }
+    ensures { result ≡ rules_of operation }
 {
-    let product = Rules {
-        first: Part::First,
-        second: Part::Inner,
-        bounds: Part::First,
-        result: Part::Outer,
-    };
-    let same = Rules {
-        first: Part::First,
-        second: Part::First,
-        bounds: Part::First,
-        result: Part::First,
-    };
-    let single = Rules {
-        first: Part::First,
-        second: Part::Second,
-        bounds: Part::First,
-        result: Part::First,
-    };
-    let listed = Rules {
-        first: Part::First,
-        second: Part::Second,
-        bounds: Part::First,
-        result: Part::Lists,
-    };
-    let by_row = Rules {
-        first: Part::First,
-        second: Part::Second,
-        bounds: Part::First,
-        result: Part::OfRows,
-    };
-    let into_lists = Rules {
-        first: Part::Lists,
-        second: Part::Second,
-        bounds: Part::Output,
-        result: Part::Output,
-    };
-    let in_blocks = Rules {
-        first: Part::First,
-        second: Part::Second,
-        bounds: Part::First,
-        result: Part::Blocks,
-    };
+    let first = Part::First;
+    let second = Part::Second;
+    let output = Part::Output;
     match operation {
-        Operation::Mxm(_, _) => product,
-        Operation::EwiseMult(_) => same,
-        Operation::EwiseAdd(_) => same,
-        Operation::Apply(_) => single,
-        Operation::Extract => listed,
-        Operation::Select(_) => single,
-        Operation::ReduceRows(_) => by_row,
-        Operation::Assign(_) => into_lists,
-        Operation::Kronecker(_) => in_blocks,
+        Operation::Mxm(_, _) => rules_with(first, Part::Inner, first, Part::Outer),
+        Operation::EwiseMult(_) => rules_with(first, first, first, first),
+        Operation::EwiseAdd(_) => rules_with(first, first, first, first),
+        Operation::Apply(_) => rules_with(first, second, first, first),
+        Operation::Extract => rules_with(first, second, first, Part::Lists),
+        Operation::Select(_) => rules_with(first, second, first, first),
+        Operation::ReduceRows(_) => rules_with(first, second, first, Part::OfRows),
+        Operation::Assign(_) => rules_with(Part::Lists, second, output, output),
+        Operation::Kronecker(_) => rules_with(first, second, first, Part::Blocks),
+    }
+}
+
+fn rules_with(first: Part, second: Part, bounds: Part, result_part: Part) -> Rules
+    ensures { result ≡ rules first second bounds result_part }
+{
+    Rules {
+        first,
+        second,
+        bounds,
+        result: result_part,
     }
 }
 
 // The shape that a part names.
 fn part_shape(part: Part, shapes: Shapes) -> Shape
-    requires fact_1 { Small max_cols shapes.first }
-    requires fact_2 { Small max_cols shapes.second }
+    requires first_small { Small max_cols shapes.first }
+    requires second_small { Small max_cols shapes.second }
     ensures { result ≡ part_shape part shapes }
 {
-    let first = shapes.first;
-    let second = shapes.second;
-    let output = shapes.output;
-    let lists = shapes.lists;
+    let Shapes {
+        first,
+        second,
+        output,
+        lists,
+    } = shapes;
     match part {
         Part::First => first,
         Part::Second => second,
@@ -238,19 +196,15 @@ fn part_shape(part: Part, shapes: Shapes) -> Shape
 
 // What an operation asks of the shapes of its call.
 pub fn needs_of(operation: Operation, shapes: Shapes) -> Needs
-    requires fact_1 { Small max_cols shapes.first }
-    requires fact_2 { Small max_cols shapes.second }
+    requires first_small { Small max_cols shapes.first }
+    requires second_small { Small max_cols shapes.second }
     ensures { result ≡ needs_of operation shapes }
 {
     let rules = rules_of(operation);
-    let first = rules.first;
-    let second = rules.second;
-    let bounds = rules.bounds;
-    let result = rules.result;
     Needs {
-        first: part_shape(first, shapes),
-        second: part_shape(second, shapes),
-        bounds: part_shape(bounds, shapes),
-        result: part_shape(result, shapes),
+        first: part_shape(rules.first, shapes),
+        second: part_shape(rules.second, shapes),
+        bounds: part_shape(rules.bounds, shapes),
+        result: part_shape(rules.result, shapes),
     }
 }

@@ -35,7 +35,7 @@ fn matrix_product(rt: &impl Print, work: &mut Workspace) -> io::Result<()> {
     let columns: &[u32] = &[1, 2, 0, 1, 1, 2, 0, 1];
     let values: &[u32] = &[12, 8, 36, 24, 12, 4, 0, 20];
     test_support::store(&mut b, 4, 3, starts, columns, values);
-    create::new_empty(&mut c, 4, 3);
+    let _ = create::new_empty(&mut c, 4, 3);
     test_support::heading(rt, b"products")?;
     mxm(rt, b"mxm, min_plus", plain(0), 6, 3, &a, &b, &mut c, work)
 }
@@ -54,11 +54,11 @@ fn vector_products(rt: &impl Print, work: &mut Workspace) -> io::Result<()> {
     let values: &[u32] = &[3, 2, 9, 6, 3, 1, 0, 5];
     test_support::store(&mut b, 4, 3, starts, columns, values);
     let b: &[u32] = &b;
-    create::new_empty(&mut c, 1, 4);
+    let _ = create::new_empty(&mut c, 1, 4);
     vxm(rt, b"mxv, plus_times", plain(16), 3, 5, v, &a, &mut c, work)?;
-    create::new_empty(&mut c, 1, 3);
+    let _ = create::new_empty(&mut c, 1, 3);
     vxm(rt, b"vxm, plus_plus", plain(0), 3, 3, v, b, &mut c, work)?;
-    create::new_empty(&mut c, 1, 3);
+    let _ = create::new_empty(&mut c, 1, 3);
     vxm(rt, b"vxm, flag 8", plain(8), 3, 3, v, b, &mut c, work)
 }
 
@@ -74,11 +74,11 @@ fn reductions(rt: &impl Print, work: &mut Workspace) -> io::Result<()> {
     test_support::store(&mut a, 3, 4, &[0, 2, 4, 6], columns, values);
     let a: &[u32] = &a;
     test_support::heading(rt, b"reductions")?;
-    create::new_empty(&mut c, 1, 4);
+    let _ = create::new_empty(&mut c, 1, 4);
     vxm(rt, b"columns, times", plain(0), 5, 1, ones, a, &mut c, work)?;
-    create::new_empty(&mut c, 1, 4);
+    let _ = create::new_empty(&mut c, 1, 4);
     vxm(rt, b"columns, max", plain(0), 7, 1, ones, a, &mut c, work)?;
-    create::new_empty(&mut s, 1, 1);
+    let _ = create::new_empty(&mut s, 1, 1);
     vxm(rt, b"value, max", plain(16), 7, 0, &c, more, &mut s, work)
 }
 
@@ -93,7 +93,7 @@ fn intersection(rt: &impl Print, work: &mut Workspace) -> io::Result<()> {
     let columns: &[u32] = &[1, 2, 0, 1, 1, 2];
     let values: &[u32] = &[6, 4294967292, 0, 12, 6, 2];
     test_support::store(&mut b, 3, 3, &[0, 2, 4, 6], columns, values);
-    create::new_empty(&mut c, 3, 3);
+    let _ = create::new_empty(&mut c, 3, 3);
     test_support::heading(rt, b"intersection and union")?;
     ewise_mult(rt, b"ewise_mult, min", plain(0), 6, &a, &b, &mut c, work)
 }
@@ -109,7 +109,7 @@ fn union(rt: &impl Print, work: &mut Workspace) -> io::Result<()> {
     let columns: &[u32] = &[0, 1, 2, 0, 1, 2];
     let values: &[u32] = &[8, 0, 4294967292, 12, 6, 2];
     test_support::store(&mut b, 3, 3, &[0, 3, 3, 6], columns, values);
-    create::new_empty(&mut c, 3, 3);
+    let _ = create::new_empty(&mut c, 3, 3);
     let a: &[u32] = &a;
     ewise_add(rt, b"ewise_add, minus", plain(0), 4, a, &b, a, &mut c, work)
 }
@@ -128,11 +128,11 @@ fn extracts(rt: &impl Print, work: &mut Workspace) -> io::Result<()> {
     test_support::store(&mut a, 3, 3, &[0, 2, 4, 6], columns, values);
     let a: &[u32] = &a;
     test_support::heading(rt, b"extract")?;
-    create::new_empty(&mut w, 1, 4);
+    let _ = create::new_empty(&mut w, 1, 4);
     extract(rt, b"slice", plain(0), v, &[0], &[0, 1, 2, 3], &mut w, work)?;
-    create::new_empty(&mut c, 2, 3);
+    let _ = create::new_empty(&mut c, 2, 3);
     extract(rt, b"rows", plain(0), a, &[0, 2], &[0, 1, 2], &mut c, work)?;
-    create::new_empty(&mut c, 2, 2);
+    let _ = create::new_empty(&mut c, 2, 2);
     extract(
         rt,
         b"reordered",
@@ -152,7 +152,7 @@ fn applies(rt: &impl Print, work: &mut Workspace) -> io::Result<()> {
     ];
     let v: &[u32] = &[1, 0, 2, 1, 4, 2, 0, 3, 3, 0, 1, 3, 3, 10, 20, 40];
     let mut c = [9u32; 18];
-    create::new_empty(&mut c, 1, 4);
+    let _ = create::new_empty(&mut c, 1, 4);
     test_support::heading(rt, b"apply")?;
     apply(rt, b"unary, ainv", plain(0), 0, 1, 0, u, u, &mut c, work)?;
     apply(rt, b"unary, abs", plain(0), 0, 2, 0, u, u, &mut c, work)?;
@@ -191,7 +191,7 @@ fn transposed(rt: &impl Print, work: &mut Workspace) -> io::Result<()> {
     let columns: &[u32] = &[1, 3, 0, 1, 0, 2];
     let values: &[u32] = &[4, 10, 3, 8, 1, 4294967282];
     test_support::store(&mut a, 3, 4, &[0, 2, 4, 6], columns, values);
-    create::new_empty(&mut c, 4, 3);
+    let _ = create::new_empty(&mut c, 4, 3);
     let a: &[u32] = &a;
     test_support::heading(rt, b"transpose")?;
     apply(rt, b"identity", plain(8), 0, 0, 0, a, a, &mut c, work)?;

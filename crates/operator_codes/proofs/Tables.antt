@@ -1,11 +1,11 @@
 -- A table read at a number that has no arm in the code's `match`: what the last arm of each decoder cites.
+use Rattle.std.proofs.Common.{None}
 use mathlib.Core.Path.{◌≡◌, refl, sym, subst}
 use mathlib.Core.List.{List}
 use Prim.Native.Nat.{ℕ, zero, suc, ◌≤◌, zero-le}
 use native.Mathlib.Decide.{ℕ_discrete}
 use native.Mathlib.Omega.{arith}
 use lib.ListN.{get_or, length, get_or-eq_default}
-use Rattle.operator_codes.specs.declared.MonoidCode.TheVariants.{Unknown}
 use Rattle.operator_codes.specs.Codes.{monoid_table, monoid_numbered}
 
 -- n is none of 0 to k - 1, in the form that the last arm of a `match` leaves
@@ -35,15 +35,15 @@ unless P k n here other = by (ℕ_discrete n k)
 
 -- the monoids' table has Unknown at 0, 1, 2 and 4 too
 pub no_monoid_lem : (n : ℕ) → (((Unit {0} × (n ≡ 3 → ⊥)) × (n ≡ 5 → ⊥)) × (n ≡ 6 → ⊥)) × (n ≡ 7 → ⊥)
-    → Unknown ≡ monoid_numbered n
+    → None ≡ monoid_numbered n
 unfolding monoid_numbered
 no_monoid_lem n f =
     unless Right 0 n refl λ n0.
     unless Right 1 n refl λ n1.
     unless Right 2 n refl λ n2.
     unless Right 4 n refl λ n4.
-    unlisted monoid_table Unknown n
+    unlisted monoid_table None n
     ((((((((tt, n0), n1), n2), f.0.0.0.1), n4), f.0.0.1), f.0.1), f.1)
   where
     Right : ℕ → Type 0
-    Right k = Unknown ≡ monoid_numbered k
+    Right k = None ≡ monoid_numbered k

@@ -1,6 +1,30 @@
 -- MAX on words is a least upper bound in the order of the numbers that the words hold, so that neither order nor
 -- repetition matters: for merges by MAX (`merging`).
-use Rattle.std.proofs.Common.{◌≡◌, ℕ, suc, ◌+◌, ◌-◌, ◌%◌, ◌^◌, ◌<◌, ◌≤◌, Bool, true, false, cond, leb, pos, negsuc, sym, refl, ◌∙◌, arith, le-leb, leb-false, leb-true}
+use Rattle.std.proofs.Common.{
+  ◌≡◌,
+  ℕ,
+  suc,
+  ◌+◌,
+  ◌-◌,
+  ◌%◌,
+  ◌^◌,
+  ◌<◌,
+  ◌≤◌,
+  Bool,
+  true,
+  false,
+  cond,
+  leb,
+  pos,
+  negsuc,
+  sym,
+  refl,
+  ◌∙◌,
+  arith,
+  le-leb,
+  leb-false,
+  leb-true,
+}
 use native.Mathlib.Decide.{dec_le}
 use lib.Signed.{le_z}
 use borrow.Author.Tests.{lt-leb}

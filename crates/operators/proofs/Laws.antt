@@ -1,5 +1,5 @@
 -- What the arms of `apply_binary`, `apply_unary` and `apply_index_unary` work out on words is what the operators mean.
-use Rattle.std.proofs.Common.{◌≡◌, ℕ, ◌+◌, ◌%◌, ◌^◌, ◌<◌, pos, ◌-ℤ◌, sym}
+use Rattle.std.proofs.Common.{◌≡◌, ℕ, ◌+◌, ◌-◌, ◌%◌, ◌^◌, ◌<◌, pos, ◌-ℤ◌, sym}
 use Rattle.twos_complement.specs.TwosComplement.{signed}
 use Rattle.twos_complement.proofs.Words.{word_signed, word_pos, wrapping_sum, wrapping_difference}
 use Rattle.operators.specs.declared.BinaryOp.TheVariants.{First, Second, Plus, Minus}
@@ -21,13 +21,13 @@ module _ {x : ℕ} (hx : x < 2 ^ 32) where
   unfolding binary_word
   second_word y = sym (word_signed x hx)
 
--- PLUS and MINUS return the wrapping sum, and the wrapping difference r
+-- PLUS and MINUS return the wrapping sum and the wrapping difference
 module _ {x y : ℕ} (hx : x < 2 ^ 32) (hy : y < 2 ^ 32) where
   pub plus_word : (x + y) % 2 ^ 32 ≡ binary_word Plus x y
   unfolding binary_word
   plus_word = wrapping_sum (signed x) (signed y) (word_signed x hx) (word_signed y hy)
 
-  pub minus_word : {r : ℕ} → r < 2 ^ 32 → (r + y) % 2 ^ 32 ≡ x → r ≡ binary_word Minus x y
+  pub minus_word : (x + (2 ^ 32 - y)) % 2 ^ 32 ≡ binary_word Minus x y
   unfolding binary_word
   minus_word = wrapping_difference (signed x) (signed y) (word_signed x hx) (word_signed y hy)
 
@@ -41,9 +41,8 @@ module _ {i j s : ℕ} (hi : i < 2 ^ 32) (hj : j < 2 ^ 32) (hs : s < 2 ^ 32) whe
   unfolding index_unary_word
   column_word = wrapping_sum (pos j) (signed s) (word_pos j hj) (word_signed s hs)
 
-  -- d is j - i, worked out first
-  pub diagonal_word : {d : ℕ} → d < 2 ^ 32 → (d + i) % 2 ^ 32 ≡ j → (d + s) % 2 ^ 32 ≡ index_unary_word DiagIndex i j s
+  pub diagonal_word : ((j + (2 ^ 32 - i)) % 2 ^ 32 + s) % 2 ^ 32 ≡ index_unary_word DiagIndex i j s
   unfolding index_unary_word
-  diagonal_word h e =
+  diagonal_word =
       wrapping_sum (pos j -ℤ pos i) (signed s)
-      (sym (wrapping_difference (pos j) (pos i) (word_pos j hj) (word_pos i hi) h e)) (word_signed s hs)
+      (sym (wrapping_difference (pos j) (pos i) (word_pos j hj) (word_pos i hi))) (word_signed s hs)

@@ -5,7 +5,7 @@
 ghost use Rattle.std.specs.Prelude.{◌≡◌};
 ghost use Rattle.operators.specs.Operators.{binary_word, unary_word, index_unary_word, entry_word, monoid_op};
 
-#[derive(Clone, Copy)]
+#[derive(Clone, Copy, Debug, PartialEq, Eq)]
 pub enum BinaryOp {
     First,
     Second,
@@ -17,7 +17,7 @@ pub enum BinaryOp {
     Max,
 }
 
-#[derive(Clone, Copy)]
+#[derive(Clone, Copy, Debug, PartialEq, Eq)]
 pub enum Monoid {
     Plus,
     Times,
@@ -25,7 +25,7 @@ pub enum Monoid {
     Max,
 }
 
-#[derive(Clone, Copy)]
+#[derive(Clone, Copy, Debug, PartialEq, Eq)]
 pub enum UnaryOp {
     Identity,
     Ainv,
@@ -34,7 +34,7 @@ pub enum UnaryOp {
     One,
 }
 
-#[derive(Clone, Copy)]
+#[derive(Clone, Copy, Debug, PartialEq, Eq)]
 pub enum IndexUnaryOp {
     RowIndex,
     ColIndex,
@@ -42,7 +42,7 @@ pub enum IndexUnaryOp {
 }
 
 // The four kinds of apply, each with its operator, and with the scalar where it has one.
-#[derive(Clone, Copy)]
+#[derive(Clone, Copy, Debug, PartialEq, Eq)]
 pub enum ApplyOp {
     Unary(UnaryOp),
     BinaryScalarFirst(BinaryOp, u32),
@@ -58,8 +58,8 @@ pub fn apply_binary(op: BinaryOp, x: u32, y: u32) -> u32
         BinaryOp::First => x,
         BinaryOp::Second => y,
         BinaryOp::Oneb => 1,
-        BinaryOp::Plus => std::num::wrapping_add_u32(x, y),
-        BinaryOp::Minus => std::num::wrapping_sub_u32(x, y),
+        BinaryOp::Plus => x.wrapping_add(y),
+        BinaryOp::Minus => x.wrapping_sub(y),
         BinaryOp::Times => twos_complement::multiply(x, y),
         BinaryOp::Min => twos_complement::minimum(x, y),
         BinaryOp::Max => twos_complement::maximum(x, y),
@@ -96,9 +96,9 @@ pub fn apply_index_unary(op: IndexUnaryOp, i: u32, j: u32, s: u32) -> u32
     ensures { result ≡ index_unary_word op i j s }
 {
     match op {
-        IndexUnaryOp::RowIndex => std::num::wrapping_add_u32(i, s),
-        IndexUnaryOp::ColIndex => std::num::wrapping_add_u32(j, s),
-        IndexUnaryOp::DiagIndex => std::num::wrapping_add_u32(std::num::wrapping_sub_u32(j, i), s),
+        IndexUnaryOp::RowIndex => i.wrapping_add(s),
+        IndexUnaryOp::ColIndex => j.wrapping_add(s),
+        IndexUnaryOp::DiagIndex => j.wrapping_sub(i).wrapping_add(s),
     }
 }
 

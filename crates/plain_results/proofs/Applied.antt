@@ -6,7 +6,9 @@ use mathlib.Core.List.{List, [], ◌∷◌, map, map-append}
 use mathlib.Core.Bool.{true, false≢true}
 use lib.ListN.{length, take, length-map}
 use lib.Seq.{take_at}
+use Rattle.std.specs.Prelude.{Result, Ok, None, Some}
 use Rattle.limits.specs.Limits.{max_entries}
+use Rattle.answers.specs.declared.Refusal.{Refusal}
 use Rattle.words.specs.Words.{at, part, overwrite}
 use Rattle.words.proofs.Parts.{length_part, part_at}
 use Rattle.words.proofs.Overwrite.{
@@ -20,8 +22,7 @@ use Rattle.words.proofs.Overwrite.{
 use Rattle.operators.specs.declared.ApplyOp.{ApplyOp}
 use Rattle.operators.specs.declared.ApplyOp.TheVariants.{Unary, BinaryScalarFirst, BinaryScalarSecond, IndexUnary}
 use Rattle.operators.specs.Operators.{entry_word}
-use Rattle.grid.specs.declared.Cell.{Cell}
-use Rattle.grid.specs.declared.Cell.TheVariants.{Absent, Present}
+use Rattle.grid.specs.Cell.{Cell}
 use Rattle.grid.specs.Grid.{Grid}
 use Rattle.grid.specs.Entries.{column, value, one, gather, flatten, entry_count}
 use Rattle.operations.specs.declared.Operation.{Operation}
@@ -54,8 +55,8 @@ module _ (op : ApplyOp) (v : by_value op ≡ true) where
   -- the entries of a cell, of a row, of several rows: the same columns
   one_columns : (i j : ℕ) (c : Cell) → one column j (apply_cell op i j c) ≡ one column j c
   unfolding one
-  one_columns i j Absent = refl
-  one_columns i j (Present x) = refl
+  one_columns i j None = refl
+  one_columns i j (Some x) = refl
 
   gather_columns : (i n : ℕ) (row : ℕ → Cell) → gather column n (λ j. apply_cell op i j (row j)) ≡ gather column n row
   unfolding gather
@@ -71,8 +72,8 @@ module _ (op : ApplyOp) (v : by_value op ≡ true) where
   -- and the operator's values
   one_values : (i j : ℕ) (c : Cell) → one value j (apply_cell op i j c) ≡ map (value_word op) (one value j c)
   unfolding one
-  one_values i j Absent = refl
-  one_values i j (Present x) = ap (λ (y : ℕ). y ∷ []) (value_word_lem x i j)
+  one_values i j None = refl
+  one_values i j (Some x) = ap (λ (y : ℕ). y ∷ []) (value_word_lem x i j)
 
   gather_values : (i n : ℕ) (row : ℕ → Cell)
       → gather value n (λ j. apply_cell op i j (row j)) ≡ map (value_word op) (gather value n row)
@@ -168,16 +169,15 @@ module _ (op : ApplyOp) (v : by_value op ≡ true) where
         }
 
     -- with the header, they are the writing of T
-    pub written_applied : (w' : List ℕ) → w' ≡ headed r (cols a) n w₂ → Written T n w'
+    pub written_applied : (w' : List ℕ) → w' ≡ headed r (cols a) n w₂ → Written T (Ok n) w'
     written_applied w' e =
         let q : n ≡ entry_count T =
-        sym (ap length (flatten_columns (cols a) (grid_of a).cell r) ∙ valid_entries a (matrix_made a m)) in
-        record {
-          count = λ l. q;
-          words = λ l. ap (take (grid_size T)) (e ∙ ap (λ (k : ℕ). headed r (cols a) k w₂) q ∙ headed_written applied_in_place)
-              ∙ take_at (encode T) _ (grid_size T) (encode_length 0 T);
-          full = λ f. absurd (omega (arith, few));
-        }
+        sym (ap length (flatten_columns (cols a) (grid_of a).cell r) ∙ valid_entries a (matrix_made a m)) in (
+          q,
+          few,
+          ap (take (grid_size T)) (e ∙ ap (λ (k : ℕ). headed r (cols a) k w₂) q ∙ headed_written applied_in_place)
+              ∙ take_at (encode T) _ (grid_size T) (encode_length 0 T),
+        )
 
     -- by the numbers that the code has read
     module _ (r' n' k' : ℕ) (r-is : r' ≡ r) (n-is : n' ≡ n) (k-is : k' ≡ cols a) where
@@ -189,9 +189,9 @@ module _ (op : ApplyOp) (v : by_value op ≡ true) where
 
       pub written_made : (w₁' w₂' w' : List ℕ) → w₁' ≡ overwrite starts_at (part starts_at (count_again_at r' n') a) w
           → w₂' ≡ overwrite (values_at r' n') (map (value_word op) (part (values_at r' n') (values_at r' n' + n') a)) w₁'
-          → w' ≡ headed r' k' n' w₂' → Written T n' w'
+          → w' ≡ headed r' k' n' w₂' → Written T (Ok n') w'
       written_made w₁' w₂' w' e f h =
-          subst (λ (x : ℕ). Written T x w') (sym n-is)
+          subst (λ (x : ℕ). Written T (Ok x) w') (sym n-is)
           (written_applied w' (h ∙ ap (headed r' k' n') (f ∙ ap (overwrite (values_at r' n') (map (value_word op)
           (part (values_at r' n') (values_at r' n' + n') a))) e)
           ∙ ap (λ (x : ℕ). made x n' k') r-is ∙ ap (λ (x : ℕ). made r x k') n-is ∙ ap (made r n) k-is))
@@ -201,7 +201,7 @@ module _ {o p : Operation} (e : o ≡ p) (a b c is js : List ℕ) where
   pub inputs_matched : Inputs o a b c is js → Inputs p a b c is js
   inputs_matched h = subst (λ (x : Operation). Inputs x a b c is js) e h
 
-  pub written_matched : (n : ℕ) (w : List ℕ) → Written (result_grid p (grid_of a) (grid_of b) (grid_of c) is js) n w
+  pub written_matched : (n : Result ℕ Refusal) (w : List ℕ) → Written (result_grid p (grid_of a) (grid_of b) (grid_of c) is js) n w
       → Written (result_grid o (grid_of a) (grid_of b) (grid_of c) is js) n w
   written_matched n w h =
       subst (λ (x : Operation). Written (result_grid x (grid_of a) (grid_of b) (grid_of c) is js) n w) (sym e) h

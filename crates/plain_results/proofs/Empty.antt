@@ -1,9 +1,9 @@
 -- Rows of T without entries, where the rows of the inputs have none.
+use Rattle.std.proofs.Common.{None}
 use Prim.Native.Nat.{ℕ, ◌<◌}
 use mathlib.Core.Path.{◌≡◌, refl, sym, subst}
 use mathlib.Core.List.{List}
 use lib.ListN.{length}
-use Rattle.grid.specs.declared.Cell.TheVariants.{Absent}
 use Rattle.rows.proofs.Walk.{absent_all}
 use Rattle.matrix.specs.Layout.{rows, row_columns, row_values, cell_of, grid_of}
 use Rattle.matrix.specs.Facts.{Header, RowSpan, Matrix}
@@ -29,26 +29,26 @@ pub spanned : {s : List ℕ} {i : ℕ} → Matrix s → i < rows s → Header s 
 spanned m l = (m.header, row_span _ m.starts _ l)
 
 -- the cells of a row without entries
-cells_none : (s : List ℕ) (i : ℕ) → length (row_columns s i) ≡ 0 → (j : ℕ) → cell_of s i j ≡ Absent
+cells_none : (s : List ℕ) (i : ℕ) → length (row_columns s i) ≡ 0 → (j : ℕ) → cell_of s i j ≡ None
 unfolding cell_of
 cells_none s i e j = absent_all (row_columns s i) (row_values s i) e j
 
 -- row i of T, for the operation o that was matched
 module _ (a b c is js : List ℕ) (i : ℕ) (e : length (row_columns a i) ≡ 0) where
-  abbrev None : Operation → Type 0
-  None op = EmptyRow (result_grid op (grid_of a) (grid_of b) (grid_of c) is js) i
+  abbrev Empty : Operation → Type 0
+  Empty op = EmptyRow (result_grid op (grid_of a) (grid_of b) (grid_of c) is js) i
 
-  pub product_none : {o : Operation} {monoid : Monoid} {op : BinaryOp} → o ≡ Mxm monoid op → None o
-  product_none {monoid = monoid} {op} m = subst None (sym m) (λ j. dot_none monoid op _ _ _ (λ k l. cells_none a i e k))
+  pub product_none : {o : Operation} {monoid : Monoid} {op : BinaryOp} → o ≡ Mxm monoid op → Empty o
+  product_none {monoid = monoid} {op} m = subst Empty (sym m) (λ j. dot_none monoid op _ _ _ (λ k l. cells_none a i e k))
 
-  pub mult_none : {o : Operation} {op : BinaryOp} → o ≡ EwiseMult op → None o
-  mult_none m = subst None (sym m) (λ j. rw (cells_none a i e j) refl)
+  pub mult_none : {o : Operation} {op : BinaryOp} → o ≡ EwiseMult op → Empty o
+  mult_none m = subst Empty (sym m) (λ j. rw (cells_none a i e j) refl)
 
-  pub add_none : {o : Operation} {op : BinaryOp} → length (row_columns b i) ≡ 0 → o ≡ EwiseAdd op → None o
-  add_none f m = subst None (sym m) (λ j. rw (cells_none a i e j, cells_none b i f j) refl)
+  pub add_none : {o : Operation} {op : BinaryOp} → length (row_columns b i) ≡ 0 → o ≡ EwiseAdd op → Empty o
+  add_none f m = subst Empty (sym m) (λ j. rw (cells_none a i e j, cells_none b i f j) refl)
 
-  pub apply_none : {o : Operation} {op : ApplyOp} → o ≡ Apply op → None o
-  apply_none m = subst None (sym m) (λ j. rw (cells_none a i e j) refl)
+  pub apply_none : {o : Operation} {op : ApplyOp} → o ≡ Apply op → Empty o
+  apply_none m = subst Empty (sym m) (λ j. rw (cells_none a i e j) refl)
 
-  pub select_none : {o : Operation} {op : SelectOp} → o ≡ Select op → None o
-  select_none m = subst None (sym m) (λ j. rw (cells_none a i e j) refl)
+  pub select_none : {o : Operation} {op : SelectOp} → o ≡ Select op → Empty o
+  select_none m = subst Empty (sym m) (λ j. rw (cells_none a i e j) refl)

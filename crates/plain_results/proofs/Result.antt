@@ -5,6 +5,7 @@ use mathlib.Core.Path.{◌≡◌, sym, ap, subst, ◌∙◌}
 use mathlib.Core.List.{List}
 use lib.ListN.{length, take, drop, replicate, length-take, length-replicate}
 use lib.Seq.{length-take-le, take_at, drop_at, get_or-take}
+use Rattle.std.specs.Prelude.{Ok}
 use Rattle.limits.specs.Limits.{max_rows, max_cols, max_entries}
 use Rattle.words.specs.Words.{part}
 use Rattle.grid.specs.Grid.{Grid}
@@ -18,7 +19,7 @@ use Rattle.operations.specs.declared.Operation.{Operation}
 use Rattle.operations.specs.GridOperations.{result_grid}
 use Rattle.results.specs.Joining.{SectionBounds, joined}
 use Rattle.results.proofs.Joined.{joined_written}
-use Rattle.plain_results.specs.Rows.{Inputs, Space, Rows, AllRows, Written}
+use Rattle.plain_results.specs.Rows.{Inputs, Space, Rows, Written}
 use Rattle.plain_results.proofs.Rows.{lent, back, back_is, lent_length, back_length}
 
 -- fresh buffers, and the workspace from the column numbers' place on
@@ -30,19 +31,11 @@ space_fresh r q w i l m =
     length-replicate {A = ℕ} (max_entries + max_cols) 0 in
     record { starts = omega arith; columns = omega (arith, lent_length (columns_at r) w); values = omega arith }
 
--- too many entries
-pub written_full : {g : Grid} {n : ℕ} {st oc ov : List ℕ} → AllRows g n st oc ov → max_entries < n → (w : List ℕ)
-    → Written g n w
-written_full h f w =
-    record { count = λ o. absurd (omega arith); words = λ o. absurd (omega arith); full = h.full }
-
 module _ (op : Operation) (a b c is js : List ℕ) (p : Inputs op a b c is js) (n : ℕ) (st xc ov : List ℕ)
-    (h : AllRows (result_grid op (grid_of a) (grid_of b) (grid_of c) is js) n st xc ov) (few : n ≤ max_entries) where
+    (few : n ≤ max_entries)
+    (rows : Rows (result_grid op (grid_of a) (grid_of b) (grid_of c) is js) (result_grid op (grid_of a) (grid_of b) (grid_of c) is js).rows n st xc ov) where
   abbrev T : Grid
   T = result_grid op (grid_of a) (grid_of b) (grid_of c) is js
-
-  rows : Rows T T.rows n st xc ov
-  rows = h.all few
 
   values_long : length (take n ov) ≡ n
   values_long =
@@ -81,7 +74,7 @@ module _ (op : Operation) (a b c is js : List ℕ) (p : Inputs op a b c is js) (
         ∙ rows.columns)
 
     -- the words that they make
-    pub written_joined : (w' : List ℕ) → w' ≡ joined r k (take r st) (take n ov) w₁ → Written T n w'
+    pub written_joined : (w' : List ℕ) → w' ≡ joined r k (take r st) (take n ov) w₁ → Written T (Ok n) w'
     written_joined w' e =
         let q : r ≡ T.rows = r-is ∙ sym p.same_rows in
         let s : k ≡ T.cols = k-is ∙ sym p.same_cols in
@@ -94,8 +87,4 @@ module _ (op : Operation) (a b c is js : List ℕ) (p : Inputs op a b c is js) (
         let y = joined_written T (take T.rows st) (take n ov) w₁ b
         (λ i l. get_or-take T.rows st i 0 l ∙ rows.starts i l)
         (ap (λ (m : ℕ). part (columns_at m) (columns_at m + length (take n ov)) w₁) (sym q) ∙ columns) rows.values in
-        record {
-          count = λ o. rows.count;
-          words = λ o. ap (take (grid_size T)) (x ∙ y) ∙ take_at (encode T) _ (grid_size T) (encode_length 0 T);
-          full = h.full;
-        }
+        (rows.count, few, ap (take (grid_size T)) (x ∙ y) ∙ take_at (encode T) _ (grid_size T) (encode_length 0 T))

@@ -22,7 +22,7 @@ use Rattle.matrix.specs.Layout.{grid_of}
 use Rattle.operations.specs.declared.Operation.{Operation}
 use Rattle.operations.specs.GridOperations.{result_grid}
 use Rattle.result_rows.specs.RowInputs.{RowInputs, Buffers}
-use Rattle.plain_results.specs.Rows.{Inputs, EmptyRow, Space, Rows, Skipped, AllRows}
+use Rattle.plain_results.specs.Rows.{Inputs, EmptyRow, Space, Rows, Skipped}
 
 -- no rows yet
 pub rows_none : (g : Grid) (starts oc ov : List ℕ) → Rows g 0 0 starts oc ov
@@ -144,10 +144,10 @@ module _ (op : Operation) (a b c is js : List ℕ) where
 
   module _ {total n i : ℕ} {starts oc ov : List ℕ} (p : Passed op a b c is js total n i starts oc ov) where
     -- the rows are all passed
-    pub passed_all : total ≤ i → AllRows T n starts oc ov
+    pub passed_all : total ≤ i → (n ≤ max_entries) × Rows T T.rows n starts oc ov
     passed_all l =
         let e : i ≡ T.rows = omega (arith, p.within, p.rows_are, p.inputs.same_rows) in
-        record { all = λ o. rw e at p.rows; full = λ f. absurd (omega (arith, p.few)) }
+        (p.few, rw e at p.rows)
 
     pub columns_room : n ≤ length oc
     columns_room = omega (arith, p.few, p.space.columns)
@@ -192,11 +192,8 @@ module _ (op : Operation) (a b c is js : List ℕ) where
       pub sum_fits : Fits w64 (n + k)
       sum_fits = record { fits = omega (arith, holds_most h, cols_most, p.few) }
 
-      pub passed_full : i < total → max_entries < n + k → (starts' oc' ov' : List ℕ) → AllRows T (n + k) starts' oc' ov'
-      passed_full l f starts' oc' ov' = record {
-        all = λ o. absurd (omega arith);
-        full = rows_full p.rows columns_room values_room h (omega (arith, p.rows_are, p.inputs.same_rows));
-      }
+      pub passed_full : i < total → max_entries < n + k → max_entries < entry_count T
+      passed_full l f = rows_full p.rows columns_room values_room h (omega (arith, p.rows_are, p.inputs.same_rows)) f
 
       pub passed_next : i < total → n + k ≤ max_entries → length xc ≡ length (lent n oc) → length xv ≡ length (lent n ov)
           → Passed op a b c is js total (n + k) (i + 1) (set starts i n) (back n oc xc) (back n ov xv)

@@ -1,8 +1,9 @@
 -- The rows of T one after another: what they need, and what is left of them.
-use Rattle.std.specs.Prelude.{ℕ, ◌+◌, ◌≤◌, ◌<◌, ◌≡◌, List, length, take}
+use Rattle.std.specs.Prelude.{ℕ, ◌+◌, ◌≤◌, ◌<◌, ◌≡◌, List, length, take, Result, Ok, Err, None}
 use Rattle.limits.specs.Limits.{max_rows, max_cols, max_entries}
+use Rattle.answers.specs.declared.Refusal.{Refusal}
+use Rattle.answers.specs.declared.Refusal.TheVariants.{TooManyEntries}
 use Rattle.words.specs.Words.{at}
-use Rattle.grid.specs.declared.Cell.TheVariants.{Absent}
 use Rattle.grid.specs.Grid.{Grid}
 use Rattle.grid.specs.Entries.{column, value, flatten, entry_count}
 use Rattle.matrix.specs.Layout.{rows, cols}
@@ -20,7 +21,7 @@ pub record Inputs (op : Operation) (a b c is js : List ℕ) : Type 0 where
 
 -- row i has no entries
 abbrev pub EmptyRow : Grid → ℕ → Type 0
-EmptyRow g i = (j : ℕ) → g.cell i j ≡ Absent
+EmptyRow g i = (j : ℕ) → g.cell i j ≡ None
 
 -- room for the starts, and for one row more than the entries of a matrix
 pub record Space (st oc ov : List ℕ) : Type 0 where
@@ -42,13 +43,12 @@ pub record Skipped (g : Grid) (total i n : ℕ) (st : List ℕ) (r : ℕ) (st' :
   pub size : length st' ≡ length st
   pub passes : (oc ov : List ℕ) → Rows g i n st oc ov → Rows g r n st' oc ov
 
--- all rows of g, with n entries, or too many entries
-pub record AllRows (g : Grid) (n : ℕ) (starts oc ov : List ℕ) : Type 0 where
-  pub all : n ≤ max_entries → Rows g g.rows n starts oc ov
-  pub full : max_entries < n → max_entries < entry_count g
+-- all rows of g, with n entries, or the refusal of too many
+abbrev pub AllRows : Grid → Result ℕ Refusal → List ℕ → List ℕ → List ℕ → Type 0
+AllRows g (Ok n) starts oc ov = (n ≤ max_entries) × Rows g g.rows n starts oc ov
+AllRows g (Err r) starts oc ov = (r ≡ TooManyEntries) × (max_entries < entry_count g)
 
--- the writing of g at the front of the words, with n entries, or too many entries
-pub record Written (g : Grid) (n : ℕ) (w : List ℕ) : Type 0 where
-  pub count : n ≤ max_entries → n ≡ entry_count g
-  pub words : n ≤ max_entries → take (grid_size g) w ≡ encode g
-  pub full : max_entries < n → max_entries < entry_count g
+-- the writing of g at the front of the words, with n entries, or the refusal of too many
+abbrev pub Written : Grid → Result ℕ Refusal → List ℕ → Type 0
+Written g (Ok n) w = (n ≡ entry_count g) × (n ≤ max_entries) × (take (grid_size g) w ≡ encode g)
+Written g (Err r) w = (r ≡ TooManyEntries) × (max_entries < entry_count g)

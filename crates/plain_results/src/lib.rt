@@ -3,7 +3,7 @@
 
 #![tactic(auto)]
 
-ghost use Rattle.std.specs.Prelude.{◌≡◌, true, ◌≤◌, length};
+ghost use Rattle.std.specs.Prelude.{◌≡◌, true, ◌≤◌, length, Ok};
 ghost use Rattle.limits.specs.Limits.{max_rows, max_entries};
 ghost use Rattle.matrix.specs.Layout.{rows, row_columns, grid_of, workspace_words};
 ghost use Rattle.operations.specs.GridOperations.{result_grid};
@@ -13,6 +13,7 @@ ghost use Rattle.apply_rows.specs.Values.{by_value};
 ghost use Rattle.plain_results.specs.Applied.{applied_grid};
 ghost use Rattle.plain_results.specs.Rows.{Inputs, EmptyRow, Space, Skipped, AllRows, Written};
 
+use answers::Refusal;
 use limits::{MAX_ENTRIES, MAX_ROWS, ROW_PLACES};
 use matrix::layout::{COLUMNS_PAST, COUNT_AGAIN_PAST, STARTS_AT, VALUES_PAST};
 use operations::Operation;
@@ -24,7 +25,7 @@ const RESULT_PLACES: usize = MAX_ENTRIES as usize + ROW_PLACES;
 
 const START_PLACES: usize = MAX_ROWS as usize;
 
-// T at the front of the workspace. The number of entries; where it is too large, that of the rows so far.
+// T at the front of the workspace. The number of entries, or the refusal of too many.
 pub fn write_result(
     operation: Operation,
     a: &[u32],
@@ -34,29 +35,24 @@ pub fn write_result(
     js: &[u32],
     work: &mut [u32],
     engine: Engine,
-) -> usize
-    requires fact_1 { Inputs operation a.now b.now c.now is.now js.now }
-    requires fact_2 { workspace_words ≤ length work.old }
+) -> Result<usize, Refusal>
+    requires inputs { Inputs operation a.now b.now c.now is.now js.now }
+    requires space { workspace_words ≤ length work.old }
     ensures { Written (result_grid operation (grid_of a.now) (grid_of b.now)
         (grid_of c.now) is.now js.now) result work.new }
 {
     match operation {
-        Operation::Apply(op) => {
-            if apply_rows::by_value(op) {
-                return write_applied(op, a, work);
-            }
-            write_rows(operation, a, b, c, is, js, work, engine)
-        }
+        Operation::Apply(op) if apply_rows::by_value(op) => Ok(write_applied(op, a, work)),
         _ => write_rows(operation, a, b, c, is, js, work, engine),
     }
 }
 
 // T of apply by an operator that looks at the value alone: row starts and column numbers are those of A.
 fn write_applied(op: ApplyOp, a: &[u32], work: &mut [u32]) -> usize
-    requires fact_1 { Matrix a.now }
-    requires fact_2 { by_value op ≡ true }
-    requires fact_3 { workspace_words ≤ length work.old }
-    ensures { Written (applied_grid op (grid_of a.now)) result work.new }
+    requires input { Matrix a.now }
+    requires by_value { by_value op ≡ true }
+    requires space { workspace_words ≤ length work.old }
+    ensures { Written (applied_grid op (grid_of a.now)) (Ok result) work.new }
 {
     let rows = matrix::row_count(a) as usize;
     let n = matrix::entry_count(a) as usize;
@@ -69,7 +65,9 @@ fn write_applied(op: ApplyOp, a: &[u32], work: &mut [u32]) -> usize
 }
 
 // T row by row: its column numbers are written where they stay, the starts of its rows and its values
-// are joined to them at the end. The number of entries; where it is too large, that of the rows so far.
+// are joined to them at the end. The number of entries, or the refusal of too many. Not inlined, so that its buffers
+// stand on the stack only meanwhile.
+#[inline(never)]
 fn write_rows(
     operation: Operation,
     a: &[u32],
@@ -79,9 +77,9 @@ fn write_rows(
     js: &[u32],
     work: &mut [u32],
     engine: Engine,
-) -> usize
-    requires fact_1 { Inputs operation a.now b.now c.now is.now js.now }
-    requires fact_2 { workspace_words ≤ length work.old }
+) -> Result<usize, Refusal>
+    requires inputs { Inputs operation a.now b.now c.now is.now js.now }
+    requires space { workspace_words ≤ length work.old }
     ensures { Written (result_grid operation (grid_of a.now) (grid_of b.now)
         (grid_of c.now) is.now js.now) result work.new }
 {
@@ -99,17 +97,14 @@ fn write_rows(
         &mut work[total + COLUMNS_PAST..],
         &mut ov,
         engine,
-    );
-    if (MAX_ENTRIES as usize) < n {
-        return n;
-    }
+    )?;
     let cols = matrix::col_count(c) as usize;
     results::join(work, total, cols, &starts[..total], &ov[..n]);
-    n
+    Ok(n)
 }
 
 // The rows of T: where each begins in `starts`, and their column numbers and values in `oc` and `ov`. The number of
-// entries; where it is too large, that of the rows so far.
+// entries, or the refusal of too many.
 fn all_rows(
     operation: Operation,
     a: &[u32],
@@ -121,7 +116,7 @@ fn all_rows(
     oc: &mut [u32],
     ov: &mut [u32],
     engine: Engine,
-) -> usize
+) -> Result<usize, Refusal>
     requires inputs { Inputs operation a.now b.now c.now is.now js.now }
     requires space { Space starts.old oc.old ov.old }
     ensures { AllRows (result_grid operation (grid_of a.now) (grid_of b.now)
@@ -131,6 +126,7 @@ fn all_rows(
     let total = matrix::row_count(c) as usize;
     let mut n: usize = 0;
     let mut i = skip_rows(operation, a, b, c, is, js, starts, 0, 0);
+    // Kept: a turn goes on at the row that `skip_rows` has come to.
     while i < total {
         starts[i] = n as u32;
         n += result_rows::result_row(
@@ -146,11 +142,11 @@ fn all_rows(
             &mut ov[n..],
         );
         if (MAX_ENTRIES as usize) < n {
-            return n;
+            return Err(Refusal::TooManyEntries);
         }
         i = skip_rows(operation, a, b, c, is, js, starts, i + 1, n);
     }
-    n
+    Ok(n)
 }
 
 // Writes the starts of the rows from `from` on that are known to be empty, after n entries: the first row that is not.
@@ -166,22 +162,21 @@ fn skip_rows(
     n: usize,
 ) -> usize
     requires inputs { Inputs operation a.now b.now c.now is.now js.now }
-    requires from_bound_1 { (from ≤ rows c.now) × (n ≤ max_entries) }
-    requires from_bound_2 { max_rows ≤ length starts.old }
+    requires within { from ≤ rows c.now }
+    requires few { n ≤ max_entries }
+    requires places { max_rows ≤ length starts.old }
     ensures { Skipped (result_grid operation (grid_of a.now) (grid_of b.now)
         (grid_of c.now) is.now js.now)
         (rows c.now) from n starts.old result starts.new }
 {
     let total = matrix::row_count(c) as usize;
-    let mut i = from;
-    while i < total {
+    for i in from..total {
         if !is_empty(operation, a, b, c, is, js, i) {
             return i;
         }
         starts[i] = n as u32;
-        i += 1;
     }
-    i
+    total
 }
 
 // Whether the row starts alone tell that row i of T has no entries.
@@ -201,12 +196,7 @@ fn is_empty(
     match operation {
         Operation::Mxm(_, _) => has_none(a, i),
         Operation::EwiseMult(_) => has_none(a, i),
-        Operation::EwiseAdd(_) => {
-            if !has_none(a, i) {
-                return false;
-            }
-            has_none(b, i)
-        }
+        Operation::EwiseAdd(_) => has_none(a, i) && has_none(b, i),
         Operation::Apply(_) => has_none(a, i),
         Operation::Select(_) => has_none(a, i),
         _ => false,
@@ -215,10 +205,9 @@ fn is_empty(
 
 // Whether row i of a matrix has no entries.
 fn has_none(words: &[u32], i: usize) -> bool
-    requires fact_1 { Header words.now }
-    requires fact_2 { RowSpan words.now i }
+    requires header { Header words.now }
+    requires span { RowSpan words.now i }
     ensures { result ≡ true → length (row_columns words.now i) ≡ 0 }
 {
-    let columns = matrix::row_columns(words, i);
-    columns.len() == 0
+    matrix::row_columns(words, i).is_empty()
 }

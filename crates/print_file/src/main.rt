@@ -40,13 +40,12 @@ fn read_full(input: &mut impl Read, bytes: &mut [u8]) -> usize
 // The text of a file, or the refusal.
 fn print_file(rt: &impl Print, bytes: &[u8]) -> io::Result<()> {
     let mut words = [0u32; MAX_MATRIX_WORDS];
-    let answer = files::read_file(bytes, &mut words);
-    if answer.code != 0 {
+    if files::read_file(bytes, &mut words).is_err() {
         return refuse(rt);
     }
     let mut out = [0u8; MAX_TEXT_BYTES];
-    let written = text::write_text(&words, &mut out);
-    print_front(rt, &out, written.length as usize)
+    let length = text::write_text(&words, &mut out).unwrap_or(0);
+    print_front(rt, &out, length as usize)
 }
 
 // The first n bytes.

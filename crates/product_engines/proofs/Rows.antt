@@ -2,7 +2,7 @@
 use Prim.Native.Nat.{ℕ}
 use mathlib.Core.Path.{◌≡◌, sym, ◌∙◌}
 use mathlib.Core.List.{List}
-use Rattle.grid.specs.declared.Cell.{Cell}
+use Rattle.grid.specs.Cell.{Cell}
 use Rattle.rows.specs.Row.{Holds}
 use Rattle.products.proofs.product_row.Met as by_places_met
 use Rattle.products.proofs.by_entries.product_row_by_entries.Met as by_entries_met

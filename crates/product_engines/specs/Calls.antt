@@ -4,11 +4,13 @@
 -- What a call does is taken from the contract of `calls::operate_with` and `store_calls::operate_with`, by name, at
 -- `Engine::ByPlaces` and at `Engine::ByEntries`; and from that of `calls::operate` and `store_calls::operate`, the
 -- calls of hosts.
-use Rattle.std.specs.Prelude.{ℕ, ◌≡◌, List}
+use Rattle.std.specs.Prelude.{ℕ, ◌≡◌, List, Result}
 use contract.Lifetimes.{Lfts}
 use Rattle.std.specs.Borrow.{Bor, MutBor}
 use borrow.Fn.Picked.{KnownAs}
-use Rattle.answers.specs.declared.Answer.{Answer}
+use Rattle.answers.specs.Answers.{Answer}
+use Rattle.answers.specs.declared.Refusal.{Refusal}
+use Rattle.answers.specs.Results.{answer}
 use Rattle.words.specs.Lent.{Address, lent, lent_mut}
 use Rattle.call_codes.specs.declared.Options.{Options}
 use Rattle.call_codes.specs.declared.Verb.{Verb}
@@ -45,8 +47,9 @@ pub record CallWords : Type 0 where
   pub work : List ℕ
 
 -- A call of `calls::operate_with` with an engine: its answer, and the words of C's buffer and of the workspace after.
-abbrev pub CallWith : Engine → CallAddresses → Lfts 6 → Options → Verb → CallWords → Answer → List ℕ → List ℕ → Type 0
-CallWith engine p κs o verb s answer c' w' =
+abbrev pub CallWith : Engine → CallAddresses → Lfts 6 → Options → Verb → CallWords → Result ℕ Refusal → List ℕ
+    → List ℕ → Type 0
+CallWith engine p κs o verb s result c' w' =
     with.Learnt κs (
       o,
       (
@@ -68,7 +71,7 @@ CallWith engine p κs o verb s answer c' w' =
           ),
         ),
       ),
-    ) answer (
+    ) result (
       o,
       (
         verb,
@@ -92,8 +95,9 @@ CallWith engine p κs o verb s answer c' w' =
     )
 
 -- the same of `calls::operate`, which is given no engine
-abbrev pub PublicCall : CallAddresses → Lfts 6 → Options → Verb → CallWords → Answer → List ℕ → List ℕ → Type 0
-PublicCall p κs o verb s answer c' w' =
+abbrev pub PublicCall : CallAddresses → Lfts 6 → Options → Verb → CallWords → Result ℕ Refusal → List ℕ
+    → List ℕ → Type 0
+PublicCall p κs o verb s result c' w' =
     operate.Learnt κs (
       o,
       (
@@ -115,7 +119,7 @@ PublicCall p κs o verb s answer c' w' =
           ),
         ),
       ),
-    ) answer (
+    ) result (
       o,
       (
         verb,
@@ -151,9 +155,9 @@ pub record StoreWords : Type 0 where
   pub columns : List ℕ
   pub work : List ℕ
 
-abbrev pub StoreCallWith : Engine → StoreAddresses → Lfts 4 → Options → Verb → Roles → StoreWords → Answer → List ℕ
-    → List ℕ → Type 0
-StoreCallWith engine p κs o verb named s answer s' w' =
+abbrev pub StoreCallWith : Engine → StoreAddresses → Lfts 4 → Options → Verb → Roles → StoreWords → Result ℕ Refusal
+    → List ℕ → List ℕ → Type 0
+StoreCallWith engine p κs o verb named s result s' w' =
     store_with.Learnt κs (
       lent_mut p.store s.store,
       (
@@ -172,7 +176,7 @@ StoreCallWith engine p κs o verb named s answer s' w' =
           ),
         ),
       ),
-    ) answer (
+    ) result (
       lent_mut p.store s',
       (
         o,
@@ -192,9 +196,9 @@ StoreCallWith engine p κs o verb named s answer s' w' =
       ),
     )
 
-abbrev pub PublicStoreCall : StoreAddresses → Lfts 4 → Options → Verb → Roles → StoreWords → Answer → List ℕ → List ℕ
-    → Type 0
-PublicStoreCall p κs o verb named s answer s' w' =
+abbrev pub PublicStoreCall : StoreAddresses → Lfts 4 → Options → Verb → Roles → StoreWords → Result ℕ Refusal → List ℕ
+    → List ℕ → Type 0
+PublicStoreCall p κs o verb named s result s' w' =
     store_operate.Learnt κs (
       lent_mut p.store s.store,
       (
@@ -213,7 +217,7 @@ PublicStoreCall p κs o verb named s answer s' w' =
           ),
         ),
       ),
-    ) answer (
+    ) result (
       lent_mut p.store s',
       (
         o,
@@ -234,8 +238,8 @@ PublicStoreCall p κs o verb named s answer s' w' =
     )
 
 -- two answers, and the words of two buffers after each
-pub record SameCall (answer answer' : Answer) (c c' work work' : List ℕ) : Type 0 where
-  pub answers : answer' ≡ answer
+pub record SameCall (a a' : Answer) (c c' work work' : List ℕ) : Type 0 where
+  pub answers : a' ≡ a
   pub written : c' ≡ c
   pub workspace : work' ≡ work
 
@@ -252,21 +256,23 @@ pub record Calls : Type 3 where
       (engine : Engine) → store_with.Asked κs (s, (o, (verb, (named, (is, (js, (w, (engine, tt))))))))
   -- on lent matrices, by places and by entries
   pub same : (p q : CallAddresses) (κs κs' : Lfts 6) (o : Options) (verb : Verb) (s : CallWords)
-      (c₁ c₂ w₁ w₂ : List ℕ) (answer answer' : Answer)
-      → CallWith ByPlaces p κs o verb s answer c₁ w₁ → CallWith ByEntries q κs' o verb s answer' c₂ w₂
-      → SameCall answer answer' c₁ c₂ w₁ w₂
+      (c₁ c₂ w₁ w₂ : List ℕ) (result result' : Result ℕ Refusal)
+      → CallWith ByPlaces p κs o verb s result c₁ w₁ → CallWith ByEntries q κs' o verb s result' c₂ w₂
+      → SameCall (answer result) (answer result') c₁ c₂ w₁ w₂
   -- and the call of hosts
   pub public_same : (p q : CallAddresses) (κs κs' : Lfts 6) (o : Options) (verb : Verb) (s : CallWords)
-      (c₁ c₂ w₁ w₂ : List ℕ) (answer answer' : Answer)
-      → CallWith ByPlaces p κs o verb s answer c₁ w₁ → PublicCall q κs' o verb s answer' c₂ w₂
-      → SameCall answer answer' c₁ c₂ w₁ w₂
+      (c₁ c₂ w₁ w₂ : List ℕ) (result result' : Result ℕ Refusal)
+      → CallWith ByPlaces p κs o verb s result c₁ w₁ → PublicCall q κs' o verb s result' c₂ w₂
+      → SameCall (answer result) (answer result') c₁ c₂ w₁ w₂
   -- on a store, by places and by entries
   pub store_same : (p q : StoreAddresses) (κs κs' : Lfts 4) (o : Options) (verb : Verb) (named : Roles) (s : StoreWords)
-      (s₁ s₂ w₁ w₂ : List ℕ) (answer answer' : Answer)
-      → StoreCallWith ByPlaces p κs o verb named s answer s₁ w₁
-      → StoreCallWith ByEntries q κs' o verb named s answer' s₂ w₂ → SameCall answer answer' s₁ s₂ w₁ w₂
+      (s₁ s₂ w₁ w₂ : List ℕ) (result result' : Result ℕ Refusal)
+      → StoreCallWith ByPlaces p κs o verb named s result s₁ w₁
+      → StoreCallWith ByEntries q κs' o verb named s result' s₂ w₂
+      → SameCall (answer result) (answer result') s₁ s₂ w₁ w₂
   -- and the call of hosts
   pub public_store_same : (p q : StoreAddresses) (κs κs' : Lfts 4) (o : Options) (verb : Verb) (named : Roles)
-      (s : StoreWords) (s₁ s₂ w₁ w₂ : List ℕ) (answer answer' : Answer)
-      → StoreCallWith ByPlaces p κs o verb named s answer s₁ w₁
-      → PublicStoreCall q κs' o verb named s answer' s₂ w₂ → SameCall answer answer' s₁ s₂ w₁ w₂
+      (s : StoreWords) (s₁ s₂ w₁ w₂ : List ℕ) (result result' : Result ℕ Refusal)
+      → StoreCallWith ByPlaces p κs o verb named s result s₁ w₁
+      → PublicStoreCall q κs' o verb named s result' s₂ w₂
+      → SameCall (answer result) (answer result') s₁ s₂ w₁ w₂

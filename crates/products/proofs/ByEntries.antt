@@ -1,4 +1,5 @@
 -- The loops of `sum_entries` and `sum_rows`, and the row that is collected at the end.
+use Rattle.std.proofs.Common.{None, Some}
 use Prim.Native.Nat.{ℕ, ◌+◌, ◌≤◌, ◌<◌}
 use native.Mathlib.Omega.{arith}
 use mathlib.Core.Path.{◌≡◌, refl, sym, ap, subst, ◌∙◌}
@@ -7,8 +8,7 @@ use mathlib.Core.Bool.{Bool, true, false, cond}
 use lib.ListN.{length, set, length-set}
 use Rattle.limits.specs.Limits.{max_cols}
 use Rattle.words.specs.Words.{at}
-use Rattle.grid.specs.declared.Cell.{Cell}
-use Rattle.grid.specs.declared.Cell.TheVariants.{Absent, Present}
+use Rattle.grid.specs.Cell.{Cell}
 use Rattle.grid.specs.Entries.{column, value}
 use Rattle.grid.proofs.Gather.{gather_skip}
 use Rattle.operators.specs.declared.BinaryOp.{BinaryOp}
@@ -42,7 +42,7 @@ added_first monoid x {j} {map} sums e g =
     record { marking = g; sum = x; adds = rw (flagged_unmarked map sums j e); stored = refl }
 
 pub added_later : (monoid : Monoid) (x : ℕ) {j : ℕ} {map : List ℕ} (sums : List ℕ) {top m s : ℕ} → Tracked top map
-    → m ≡ mark map j → (m ≡ 0 → ⊥) → Present s ≡ unite (monoid_op monoid) (marked m (at sums j)) (Present x)
+    → m ≡ mark map j → (m ≡ 0 → ⊥) → Some s ≡ unite (monoid_op monoid) (marked m (at sums j)) (Some x)
     → AddedAt monoid x j map sums top map (set sums j s)
 unfolding bit flagged
 added_later monoid x sums {s = s} t e n f = record {
@@ -96,7 +96,7 @@ pub record Totalling (monoid : Monoid) (op : BinaryOp) (n : ℕ) (columns vals :
 
 module _ {n : ℕ} {columns vals : List ℕ} (w : Row n columns vals) {monoid : Monoid} {op : BinaryOp} {b : ℕ → ℕ → Cell}
     {sums₀ : List ℕ} where
-  pub totalling_start : {top : ℕ} {map : List ℕ} → Carries (λ j. Absent) top map sums₀
+  pub totalling_start : {top : ℕ} {map : List ℕ} → Carries (λ j. None) top map sums₀
       → Totalling monoid op n columns vals b sums₀ top map sums₀ 0
   totalling_start s = record { tracked = s.tracked; long = refl; totals = sums_start w s.cell }
 
@@ -123,11 +123,11 @@ matrix_row_in b m k l e = row_wider (valid_row b (matrix_made b m) k l) e
 
 -- a row without entries from column n on, once its marked columns are collected
 collected_row : {f : ℕ → Cell} {top : ℕ} {map sums : List ℕ} → Carries f top map sums → (n : ℕ) → n ≤ map_places
-    → ((j : ℕ) → n ≤ j → f j ≡ Absent) → {e : ℕ} {oc ov : List ℕ} → Holds map_places (flagged map sums) e oc ov
+    → ((j : ℕ) → n ≤ j → f j ≡ None) → {e : ℕ} {oc ov : List ℕ} → Holds map_places (flagged map sums) e oc ov
     → Holds n f e oc ov
 collected_row {f} h n l past c =
     let g = holds_same c f (λ j u. h.cell j) in
-    let none : (j : ℕ) → n ≤ j → j < map_places → f j ≡ Absent = λ j u v. past j u in
+    let none : (j : ℕ) → n ≤ j → j < map_places → f j ≡ None = λ j u v. past j u in
     record {
       count = g.count ∙ ap length (gather_skip column f n map_places l none);
       columns = g.columns ∙ gather_skip column f n map_places l none;
@@ -135,11 +135,11 @@ collected_row {f} h n l past c =
     }
 
 -- a column without an entry has none inside the mask
-inside_none : (w : WriteBack) (m f : ℕ → Cell) (j : ℕ) → f j ≡ Absent → inside_row w m f j ≡ Absent
+inside_none : (w : WriteBack) (m f : ℕ → Cell) (j : ℕ) → f j ≡ None → inside_row w m f j ≡ None
 unfolding inside_row
 inside_none w m f j e = go (inside w (m j))
   where
-    go : (t : Bool) → cond t (f j) Absent ≡ Absent
+    go : (t : Bool) → cond t (f j) None ≡ None
     go true = e
     go false = refl
 
@@ -161,13 +161,13 @@ carries_inside {w} {m} {f} {top} {map} {map'} {sums} h k = record {
   cell = λ j. ap (λ (b : ℕ). marked b (at sums j)) (k.marks j) ∙ go j (inside w (m j));
 }
   where
-    go : (j : ℕ) (b : Bool) → marked (cond b (mark map j) 0) (at sums j) ≡ cond b (f j) Absent
+    go : (j : ℕ) (b : Bool) → marked (cond b (mark map j) 0) (at sums j) ≡ cond b (f j) None
     go j true = h.cell j
     go j false = refl
 
 module _ (monoid : Monoid) (op : BinaryOp) (a : ℕ → Cell) (b : List ℕ) (m : Matrix b) where
   -- the product has no entries past the columns of b
-  product_past : (j : ℕ) → cols b ≤ j → product_row monoid op a b j ≡ Absent
+  product_past : (j : ℕ) → cols b ≤ j → product_row monoid op a b j ≡ None
   unfolding cell_of
   product_past j l =
       dot_empty monoid op a (λ k. cell_of b k j) (rows b)
@@ -184,7 +184,7 @@ module _ (monoid : Monoid) (op : BinaryOp) (a : ℕ → Cell) (b : List ℕ) (m 
 
   -- the same for what lies inside the mask
   module _ (w : WriteBack) (k : ℕ → Cell) where
-    inside_past : (j : ℕ) → cols b ≤ j → inside_row w k (product_row monoid op a b) j ≡ Absent
+    inside_past : (j : ℕ) → cols b ≤ j → inside_row w k (product_row monoid op a b) j ≡ None
     inside_past j l = inside_none w k (product_row monoid op a b) j (product_past j l)
 
     module _ {top : ℕ} {map sums : List ℕ} (h : Carries (inside_row w k (product_row monoid op a b)) top map sums) where

@@ -1,3 +1,4 @@
+pub mod Turns
 pub mod Dot
 pub mod Adding
 pub mod Sums

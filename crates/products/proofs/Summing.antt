@@ -1,11 +1,11 @@
 -- The loop of `add_rows`: the rows of the matrix b that the entries before p name are added up.
+use Rattle.std.proofs.Common.{None}
 use Prim.Native.Nat.{ℕ, ◌+◌, ◌≤◌, ◌<◌}
 use mathlib.Core.List.{List}
 use lib.ListN.{length}
 use Rattle.limits.specs.Limits.{max_cols}
 use Rattle.words.specs.Words.{at}
-use Rattle.grid.specs.declared.Cell.{Cell}
-use Rattle.grid.specs.declared.Cell.TheVariants.{Absent}
+use Rattle.grid.specs.Cell.{Cell}
 use Rattle.operators.specs.declared.BinaryOp.{BinaryOp}
 use Rattle.operators.specs.declared.Monoid.{Monoid}
 use Rattle.operations.specs.CellOperations.{dot}
@@ -30,7 +30,7 @@ pub record Summing (monoid : Monoid) (op : BinaryOp) (n : ℕ) (cols vals : List
   pub sums : Sums monoid op n cols vals b (dense marks cells) p
 
 module _ {n : ℕ} {cols vals : List ℕ} (w : Row n cols vals) {monoid : Monoid} {op : BinaryOp} {b : ℕ → ℕ → Cell} where
-  pub summing_start : {marks cells : List ℕ} → Spread (λ j. Absent) marks cells
+  pub summing_start : {marks cells : List ℕ} → Spread (λ j. None) marks cells
       → Summing monoid op n cols vals b marks cells 0
   summing_start s = record { sized = s.sized; sums = sums_start w s.cell }
 

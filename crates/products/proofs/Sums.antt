@@ -1,12 +1,13 @@
--- The sums of the products at the places before an entry, for any row that holds them. Cited by the loops that add up rows.
+-- The sums of the products at the places before an entry, for any row that holds them. Cited by the loops that add up
+-- rows.
+use Rattle.std.proofs.Common.{None}
 use Prim.Native.Nat.{ℕ, ◌+◌, ◌≤◌, ◌<◌}
 use native.Mathlib.Omega.{arith}
 use mathlib.Core.Path.{◌≡◌, sym, ap, ◌∙◌}
 use mathlib.Core.List.{List}
 use lib.ListN.{length}
 use Rattle.words.specs.Words.{at}
-use Rattle.grid.specs.declared.Cell.{Cell}
-use Rattle.grid.specs.declared.Cell.TheVariants.{Absent}
+use Rattle.grid.specs.Cell.{Cell}
 use Rattle.operators.specs.declared.BinaryOp.{BinaryOp}
 use Rattle.operators.specs.declared.Monoid.{Monoid}
 use Rattle.operations.specs.CellOperations.{dot}
@@ -16,12 +17,12 @@ use Rattle.products.specs.Products.{added_row}
 use Rattle.products.proofs.Dot.{dot_next, dot_skip}
 
 -- at every column j the sum of the products at the places before entry p
-pub record Sums (monoid : Monoid) (op : BinaryOp) (n : ℕ) (cols vals : List ℕ) (b : ℕ → ℕ → Cell) (sum : ℕ → Cell) (p : ℕ)
-    : Type 0 where
+pub record Sums (monoid : Monoid) (op : BinaryOp) (n : ℕ) (cols vals : List ℕ) (b : ℕ → ℕ → Cell) (sum : ℕ → Cell)
+    (p : ℕ) : Type 0 where
   pub total : (j : ℕ) → sum j ≡ dot monoid op (front n cols p) (lookup cols vals) (λ k. b k j)
 
 module _ {n : ℕ} {cols vals : List ℕ} (w : Row n cols vals) {monoid : Monoid} {op : BinaryOp} {b : ℕ → ℕ → Cell} where
-  pub sums_start : {sum : ℕ → Cell} → ((j : ℕ) → sum j ≡ Absent) → Sums monoid op n cols vals b sum 0
+  pub sums_start : {sum : ℕ → Cell} → ((j : ℕ) → sum j ≡ None) → Sums monoid op n cols vals b sum 0
   unfolding dot
   sums_start s = record {
     total = λ j.

@@ -1,8 +1,7 @@
 // The product's row in time by entries: the sums stand in `ov` itself, each at its column, the columns are marked in a
 // map of bits, and the marked ones are collected in place. No buffer of a row's size is cleared or gone through.
-ghost use Rattle.std.specs.Prelude.{◌≡◌, true, ◌≤◌, ◌<◌, length};
+ghost use Rattle.std.specs.Prelude.{◌≡◌, true, ◌≤◌, ◌<◌, length, None};
 ghost use Rattle.limits.specs.Limits.{max_cols};
-ghost use Rattle.grid.specs.declared.Cell.TheVariants.{Absent};
 ghost use Rattle.operators.specs.declared.Monoid.TheVariants.{Plus};
 ghost use Rattle.operators.specs.declared.BinaryOp.TheVariants.{Times};
 ghost use Rattle.rows.specs.Row.{lookup, Row, Holds};
@@ -27,14 +26,14 @@ pub fn product_row_by_entries(
     oc: &mut [u32],
     ov: &mut [u32],
 ) -> usize
-    requires row_1 { Row (rows b.now) columns.now values.now }
-    requires row_2 { Matrix b.now }
-    requires b_in_bounds { (cols b.now ≤ length oc.old) × (cols b.now ≤ length ov.old) }
+    requires row { Row (rows b.now) columns.now values.now }
+    requires matrix { Matrix b.now }
+    requires output_room { (cols b.now ≤ length oc.old) × (cols b.now ≤ length ov.old) }
     ensures { Holds (cols b.now)
         (product_row monoid op (lookup columns.now values.now) b.now)
         result oc.new ov.new }
 {
-    if columns.len() == 0 {
+    if columns.is_empty() {
         return 0;
     }
     let mut map = [0u64; MAP_WORDS];
@@ -55,16 +54,16 @@ pub fn product_row_inside(
     oc: &mut [u32],
     ov: &mut [u32],
 ) -> usize
-    requires row_1 { Row (rows b.now) columns.now values.now }
-    requires row_2 { Matrix b.now }
-    requires b_in_bounds { (cols b.now ≤ length oc.old) × (cols b.now ≤ length ov.old) }
+    requires row { Row (rows b.now) columns.now values.now }
+    requires matrix { Matrix b.now }
+    requires output_room { (cols b.now ≤ length oc.old) × (cols b.now ≤ length ov.old) }
     requires under_mask { UnderMask w mc.now mv.now }
     ensures { Holds (cols b.now)
         (inside_row w (lookup mc.now mv.now)
         (product_row monoid op (lookup columns.now values.now) b.now))
         result oc.new ov.new }
 {
-    if columns.len() == 0 {
+    if columns.is_empty() {
         return 0;
     }
     let mut kept = [0u64; MAP_WORDS];
@@ -83,20 +82,17 @@ fn sum_rows(
     map: &mut [u64; MAP_WORDS],
     sums: &mut [u32],
 ) -> u64
-    requires row_1 { Row (rows b.now) columns.now values.now }
-    requires row_2 { Matrix b.now }
-    requires carries_1 { Carries (λ j. Absent) 0 map.old sums.old }
-    requires carries_2 { cols b.now ≤ length sums.old }
+    requires row { Row (rows b.now) columns.now values.now }
+    requires matrix { Matrix b.now }
+    requires clear { Carries (λ j. None) 0 map.old sums.old }
+    requires sums_room { cols b.now ≤ length sums.old }
     ensures { Carries
         (product_row monoid op (lookup columns.now values.now) b.now)
         result map.new sums.new }
 {
     let mut top: u64 = 0;
-    let mut p: usize = 0;
-    while p < columns.len() {
-        let k = columns[p] as usize;
-        top = sum_matrix_row(monoid, op, values[p], b, k, top, map, sums);
-        p += 1;
+    for (&k, &x) in columns.iter().zip(values) {
+        top = sum_matrix_row(monoid, op, x, b, k as usize, top, map, sums);
     }
     top
 }
@@ -112,11 +108,11 @@ fn sum_matrix_row(
     map: &mut [u64; MAP_WORDS],
     sums: &mut [u32],
 ) -> u64
-    requires header_1 { Header b.now }
-    requires header_2 { RowSpan b.now k }
-    requires header_3 { Row max_cols (row_columns b.now k) (row_values b.now k) }
-    requires row_1 { Row (length sums.old) (row_columns b.now k) (row_values b.now k) }
-    requires row_2 { Tracked top map.old }
+    requires header { Header b.now }
+    requires row_span { RowSpan b.now k }
+    requires row { Row max_cols (row_columns b.now k) (row_values b.now k) }
+    requires row_fits { Row (length sums.old) (row_columns b.now k) (row_values b.now k) }
+    requires tracked { Tracked top map.old }
     ensures { Carries
         (added_row monoid op x (cell_of b.now k) (flagged map.old sums.old))
         result map.new sums.new }
@@ -144,8 +140,8 @@ fn sum_row(
     map: &mut [u64; MAP_WORDS],
     sums: &mut [u32],
 ) -> u64
-    requires row_1 { Row max_cols columns.now values.now }
-    requires row_2 { Row (length sums.old) columns.now values.now }
+    requires row { Row max_cols columns.now values.now }
+    requires row_fits { Row (length sums.old) columns.now values.now }
     requires tracked { Tracked top map.old }
     ensures { Carries
         (added_row monoid op x (lookup columns.now values.now)
@@ -171,13 +167,7 @@ fn sum_row(
 fn is_plus_times(monoid: Monoid, op: BinaryOp) -> bool
     ensures { result ≡ true → (monoid ≡ Plus) × (op ≡ Times) }
 {
-    match monoid {
-        Monoid::Plus => match op {
-            BinaryOp::Times => true,
-            _ => false,
-        },
-        _ => false,
-    }
+    matches!((monoid, op), (Monoid::Plus, BinaryOp::Times))
 }
 
 // Adds x times each entry of a row: the new top word.
@@ -191,8 +181,8 @@ fn sum_entries(
     map: &mut [u64; MAP_WORDS],
     sums: &mut [u32],
 ) -> u64
-    requires row_1 { Row max_cols columns.now values.now }
-    requires row_2 { Row (length sums.old) columns.now values.now }
+    requires row { Row max_cols columns.now values.now }
+    requires row_fits { Row (length sums.old) columns.now values.now }
     requires tracked { Tracked top map.old }
     ensures { Carries
         (added_row monoid op x (lookup columns.now values.now)
@@ -200,13 +190,11 @@ fn sum_entries(
         result map.new sums.new }
 {
     let mut used = top;
-    let mut p: usize = 0;
-    while p < columns.len() {
-        let j = columns[p] as usize;
+    // Kept: `values[p]`, as a zip tests two lengths for each entry (`add_row`).
+    for (p, &j) in columns.iter().enumerate() {
         let y = values[p];
         let product = operators::apply_binary(op, x, y);
-        used = add_at(monoid, product, j, used, map, sums);
-        p += 1;
+        used = add_at(monoid, product, j as usize, used, map, sums);
     }
     used
 }
@@ -220,8 +208,8 @@ fn add_at(
     map: &mut [u64; MAP_WORDS],
     sums: &mut [u32],
 ) -> u64
-    requires fact_1 { (j < max_cols) × (j < length sums.old) }
-    requires fact_2 { Tracked top map.old }
+    requires in_reach { (j < max_cols) × (j < length sums.old) }
+    requires tracked { Tracked top map.old }
     ensures { AddedAt monoid product j map.old sums.old
         result map.new sums.new }
 {

@@ -1,5 +1,5 @@
 // One row of the product: "over all k where A(i,k) and B(k,j) are both present, multiply, then add up with the monoid".
-// The rows of the second input that the entries of the row name are added up in rising order of k: in a dense row, which
+// The rows of the second input that the entries of the row name are added up in rising order of k: in a dense row, that
 // is gone through by its places, or by entries (`by_entries`).
 
 #![tactic(auto)]
@@ -10,9 +10,8 @@ use operators::{BinaryOp, Monoid};
 
 pub mod by_entries;
 
-ghost use Rattle.std.specs.Prelude.{◌≡◌, ◌≤◌, length};
+ghost use Rattle.std.specs.Prelude.{◌≡◌, ◌≤◌, length, None, Some};
 ghost use Rattle.limits.specs.Limits.{max_cols};
-ghost use Rattle.grid.specs.declared.Cell.TheVariants.{Absent, Present};
 ghost use Rattle.operators.specs.Operators.{monoid_op};
 ghost use Rattle.operations.specs.CellOperations.{unite};
 ghost use Rattle.rows.specs.Row.{lookup, Row, Holds};
@@ -22,7 +21,7 @@ ghost use Rattle.dense_rows.specs.Dense.{marked, dense, Sized, Spread};
 ghost use Rattle.products.specs.Products.{product_row, added_row};
 
 // The two engines of the product. They give the same rows.
-#[derive(Clone, Copy)]
+#[derive(Clone, Copy, Debug, PartialEq, Eq)]
 pub enum Engine {
     ByPlaces,
     ByEntries,
@@ -39,8 +38,8 @@ pub fn product_row_by(
     oc: &mut [u32],
     ov: &mut [u32],
 ) -> usize
-    requires row { (Row (rows b.now) columns.now values.now) × (Matrix b.now) }
-    requires b_in_bounds { (cols b.now ≤ length oc.old) × (cols b.now ≤ length ov.old) }
+    requires inputs { (Row (rows b.now) columns.now values.now) × (Matrix b.now) }
+    requires output_room { (cols b.now ≤ length oc.old) × (cols b.now ≤ length ov.old) }
     ensures { Holds (cols b.now)
         (product_row monoid op (lookup columns.now values.now) b.now)
         result oc.new ov.new }
@@ -64,14 +63,14 @@ pub fn product_row(
     oc: &mut [u32],
     ov: &mut [u32],
 ) -> usize
-    requires row_1 { Row (rows b.now) columns.now values.now }
-    requires row_2 { Matrix b.now }
-    requires b_in_bounds { (cols b.now ≤ length oc.old) × (cols b.now ≤ length ov.old) }
+    requires row { Row (rows b.now) columns.now values.now }
+    requires matrix { Matrix b.now }
+    requires output_room { (cols b.now ≤ length oc.old) × (cols b.now ≤ length ov.old) }
     ensures { Holds (cols b.now)
         (product_row monoid op (lookup columns.now values.now) b.now)
         result oc.new ov.new }
 {
-    if columns.len() == 0 {
+    if columns.is_empty() {
         return 0;
     }
     let mut marks = [0u32; ROW_PLACES];
@@ -90,18 +89,15 @@ fn add_rows(
     marks: &mut [u32; ROW_PLACES],
     cells: &mut [u32; ROW_PLACES],
 )
-    requires row_1 { Row (rows b.now) columns.now values.now }
-    requires row_2 { Matrix b.now }
-    requires spread { Spread (λ j. Absent) marks.old cells.old }
+    requires row { Row (rows b.now) columns.now values.now }
+    requires matrix { Matrix b.now }
+    requires spread { Spread (λ j. None) marks.old cells.old }
     ensures { Spread
         (product_row monoid op (lookup columns.now values.now) b.now)
         marks.new cells.new }
 {
-    let mut p: usize = 0;
-    while p < columns.len() {
-        let k = columns[p] as usize;
-        add_matrix_row(monoid, op, values[p], b, k, marks, cells);
-        p += 1;
+    for (&k, &x) in columns.iter().zip(values) {
+        add_matrix_row(monoid, op, x, b, k as usize, marks, cells);
     }
 }
 
@@ -115,9 +111,9 @@ fn add_matrix_row(
     marks: &mut [u32; ROW_PLACES],
     cells: &mut [u32; ROW_PLACES],
 )
-    requires header_1 { Header b.now }
-    requires header_2 { RowSpan b.now k }
-    requires header_3 { Row max_cols (row_columns b.now k) (row_values b.now k) }
+    requires header { Header b.now }
+    requires row_span { RowSpan b.now k }
+    requires row { Row max_cols (row_columns b.now k) (row_values b.now k) }
     requires sized { Sized marks.old cells.old }
     ensures { Spread
         (added_row monoid op x (cell_of b.now k) (dense marks.old cells.old))
@@ -144,28 +140,27 @@ fn add_row(
     marks: &mut [u32; ROW_PLACES],
     cells: &mut [u32; ROW_PLACES],
 )
-    requires fact_1 { Row max_cols columns.now values.now }
-    requires fact_2 { Sized marks.old cells.old }
+    requires entries { Row max_cols columns.now values.now }
+    requires sized { Sized marks.old cells.old }
     ensures { Spread
         (added_row monoid op x (lookup columns.now values.now)
         (dense marks.old cells.old))
         marks.new cells.new }
 {
-    let mut p: usize = 0;
-    while p < columns.len() {
-        let j = columns[p] as usize;
+    // Kept: `values[p]`, as a zip tests two lengths for each entry: 9 instructions in place of 6, measured.
+    for (p, &column) in columns.iter().enumerate() {
+        let j = column as usize;
         let y = values[p];
         let product = operators::apply_binary(op, x, y);
         let sum = add_product(monoid, marks[j], cells[j], product);
         marks[j] = 1;
         cells[j] = sum;
-        p += 1;
     }
 }
 
 // The sum at a place after one product more: the first product stands as it is.
 fn add_product(monoid: Monoid, mark: u32, sum: u32, product: u32) -> u32
-    ensures { Present result ≡ unite (monoid_op monoid) (marked mark sum) (Present product) }
+    ensures { Some result ≡ unite (monoid_op monoid) (marked mark sum) (Some product) }
 {
     if mark == 0 {
         return product;

@@ -1,11 +1,11 @@
 -- The loop of `reduce_rows`: what it has written when it stands at row j of the matrix.
+use Rattle.std.proofs.Common.{None, Some}
 use Prim.Native.Nat.{ℕ, ◌+◌, ◌≤◌, ◌<◌}
 use native.Mathlib.Omega.{arith}
 use mathlib.Core.Path.{◌≡◌, refl, sym, ap, ◌∙◌}
 use mathlib.Core.List.{List}
 use lib.ListN.{length, set, length-set}
-use Rattle.grid.specs.declared.Cell.{Cell}
-use Rattle.grid.specs.declared.Cell.TheVariants.{Absent, Present}
+use Rattle.grid.specs.Cell.{Cell}
 use Rattle.operators.specs.declared.Monoid.{Monoid}
 use Rattle.reductions.specs.Reductions.{reduced, reduced_row}
 use Rattle.rows.specs.Row.{Holds}
@@ -44,7 +44,7 @@ module _ {m : Monoid} {s : List ℕ} (w : Matrix s) {oc₀ ov₀ oc ov : List �
 
   -- row j has a total
   pub reducing_put : {x : ℕ} → j < rows s → rows s ≤ length oc₀ → rows s ≤ length ov₀
-      → reduced m (row_values s j) ≡ Present x → Reducing m s oc₀ ov₀ (set oc e j) (set ov e x) (j + 1) (e + 1)
+      → reduced m (row_values s j) ≡ Some x → Reducing m s oc₀ ov₀ (set oc e j) (set ov e x) (j + 1) (e + 1)
   reducing_put {x} l a b t =
       let room = reducing_room l in
       record {
@@ -55,7 +55,7 @@ module _ {m : Monoid} {s : List ℕ} (w : Matrix s) {oc₀ ov₀ oc ov : List �
       }
 
   -- or none
-  pub reducing_skip : j < rows s → reduced m (row_values s j) ≡ Absent → Reducing m s oc₀ ov₀ oc ov (j + 1) e
+  pub reducing_skip : j < rows s → reduced m (row_values s j) ≡ None → Reducing m s oc₀ ov₀ oc ov (j + 1) e
   reducing_skip l t = record {
     out = holds_skip h.out (j + 1) (omega arith)
         (λ i u v. let q : i ≡ j = omega arith in rw q (sym (total_of m s w j l) ∙ t));

@@ -1,7 +1,7 @@
 -- Totals depend only on the cells of a row within its columns, and of a grid within its shape.
 use Prim.Native.Nat.{ℕ, ◌<◌}
 use mathlib.Core.Path.{◌≡◌, ap}
-use Rattle.grid.specs.declared.Cell.{Cell}
+use Rattle.grid.specs.Cell.{Cell}
 use Rattle.grid.specs.Grid.{Grid, Same}
 use Rattle.grid.specs.Entries.{value}
 use Rattle.grid.proofs.Gather.{gather_same}

@@ -1,9 +1,8 @@
 -- Reduction by a monoid: document 02, A4. "Add reduce by a monoid: rows into a strip 1 by R, holding an entry exactly for the
 -- rows with entries, or a whole sheet into one number, which is the monoid's identity for an empty sheet".
-use Rattle.std.specs.Prelude.{◌≡◌, refl, List, [], ◌∷◌, ℕ, zero, suc, pos, neg_ℤ}
+use Rattle.std.specs.Prelude.{◌≡◌, refl, List, [], ◌∷◌, ℕ, zero, suc, pos, neg_ℤ, None, Some}
 use Rattle.twos_complement.specs.TwosComplement.{signed, word}
-use Rattle.grid.specs.declared.Cell.{Cell}
-use Rattle.grid.specs.declared.Cell.TheVariants.{Absent, Present}
+use Rattle.grid.specs.Cell.{Cell}
 use Rattle.grid.specs.Grid.{Grid, empty_grid}
 use Rattle.grid.specs.Entries.{value, one, gather, flatten, grid_values}
 use Rattle.operators.specs.declared.BinaryOp.{BinaryOp}
@@ -18,8 +17,8 @@ total op x (y ∷ ys) = total op (binary_word op x y) ys
 
 -- the values of a row: "an entry exactly for the rows with entries"
 abbrev pub reduced : Monoid → List ℕ → Cell
-reduced m [] = Absent
-reduced m (x ∷ xs) = Present (total (monoid_op m) x xs)
+reduced m [] = None
+reduced m (x ∷ xs) = Some (total (monoid_op m) x xs)
 
 -- a row of n columns
 unfoldable pub reduced_row : Monoid → ℕ → (ℕ → Cell) → Cell
@@ -44,36 +43,36 @@ three a b c (suc zero) = b
 three a b c (suc (suc j)) = c
 
 -- an absent cell is left out, and a total of 0 is an entry: 5, nothing, -5
-total_zero : reduced_row Plus 3 (three (Present 5) Absent (Present 4294967291)) ≡ Present 0
+total_zero : reduced_row Plus 3 (three (Some 5) None (Some 4294967291)) ≡ Some 0
 unfolding reduced_row gather one binary_word signed word
 total_zero = refl
 
 -- a row without entries has no total, and not the identity
-no_total : reduced_row Times 3 (λ j. Absent) ≡ Absent
+no_total : reduced_row Times 3 (λ j. None) ≡ None
 unfolding reduced_row gather one
 no_total = refl
 
 -- one entry is its own total
-lone_total : reduced_row Max 3 (three Absent (Present 7) Absent) ≡ Present 7
+lone_total : reduced_row Max 3 (three None (Some 7) None) ≡ Some 7
 unfolding reduced_row gather one
 lone_total = refl
 
 -- MIN and MAX by the sign, TIMES wrapping: 5, 3, -5
-min_total : reduced_row Min 3 (three (Present 5) (Present 3) (Present 4294967291)) ≡ Present 4294967291
+min_total : reduced_row Min 3 (three (Some 5) (Some 3) (Some 4294967291)) ≡ Some 4294967291
 unfolding reduced_row gather one binary_word signed word
 min_total = refl
 
-max_total : reduced_row Max 3 (three (Present 5) (Present 3) (Present 4294967291)) ≡ Present 5
+max_total : reduced_row Max 3 (three (Some 5) (Some 3) (Some 4294967291)) ≡ Some 5
 unfolding reduced_row gather one binary_word signed word
 max_total = refl
 
-times_total : reduced_row Times 3 (three (Present 65536) (Present 65536) (Present 3)) ≡ Present 0
+times_total : reduced_row Times 3 (three (Some 65536) (Some 65536) (Some 3)) ≡ Some 0
 unfolding reduced_row gather one binary_word signed word
 times_total = refl
 
 -- a whole grid: two rows of 1, 2, 3
 abbrev two_rows : Grid
-two_rows = record { rows = 2; cols = 3; cell = λ i j. three (Present 1) (Present 2) (Present 3) j }
+two_rows = record { rows = 2; cols = 3; cell = λ i j. three (Some 1) (Some 2) (Some 3) j }
 
 whole_total : grid_total Plus two_rows ≡ 12
 unfolding grid_total flatten gather one binary_word signed word

@@ -24,22 +24,17 @@ pub fn identity(m: Monoid) -> u32
 pub fn add_up(op: BinaryOp, x: u32, values: &[u32]) -> u32
     ensures { result ≡ total op x values.now }
 {
-    let mut sum = x;
-    let mut p: usize = 0;
-    while p < values.len() {
-        sum = operators::apply_binary(op, sum, values[p]);
-        p += 1;
-    }
-    sum
+    values
+        .iter()
+        .fold(x, |sum, y| operators::apply_binary(op, sum, *y))
 }
 
 // All values added up, or none where there are none.
 pub fn reduce_values(m: Monoid, values: &[u32]) -> Cell
     ensures { result ≡ reduced m values.now }
 {
-    if values.len() == 0 {
-        return Cell::Absent;
+    match values.split_first() {
+        None => None,
+        Some((first, others)) => Some(add_up(operators::monoid_op(m), *first, others)),
     }
-    let first = values[0];
-    Cell::Present(add_up(operators::monoid_op(m), first, &values[1..]))
 }

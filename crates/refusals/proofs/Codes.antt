@@ -1,9 +1,11 @@
--- Every refusal has a code: a number that is not 0 and below `code_limit`. Cited where an answer is packed into one number.
+-- Every case of a refusal has the number of one. Cited where an answer is packed into one number, and where a result is
+-- found for an answer.
 use Prim.Native.Nat.{ℕ, ◌<◌}
 use native.Mathlib.Omega.{arith}
 use mathlib.Core.Bool.{Bool, true, false, cond}
 use mathlib.Core.List.{List, [], ◌∷◌, ◌++◌}
 use Rattle.answers.specs.Refusals.{code_limit}
+use Rattle.answers.proofs.Numbers.{number_limit}
 use Rattle.grid.specs.Grid.{Grid}
 use Rattle.operations.specs.declared.Call.{Call}
 use Rattle.refusals.specs.Cases.{Case, first_applying, number_cases, agreement_cases, output_cases}
@@ -11,20 +13,23 @@ use Rattle.refusals.specs.Cases.{Case, first_applying, number_cases, agreement_c
 -- every case has one
 abbrev pub Coded : List Case → Type 0
 Coded [] = Unit {0}
-Coded (x ∷ xs) = (x.number < code_limit) × Coded xs
+Coded (x ∷ xs) = (x.number < number_limit) × Coded xs
 
 pub coded_append : (xs ys : List Case) → Coded xs → Coded ys → Coded (xs ++ ys)
 coded_append [] ys h k = k
 coded_append (x ∷ xs) ys h k = (h.0, coded_append xs ys h.1 k)
 
-either : (b : Bool) (x y : ℕ) → x < code_limit → y < code_limit → cond b x y < code_limit
+either : (b : Bool) (x y : ℕ) → x < number_limit → y < number_limit → cond b x y < number_limit
 either true x y h k = h
 either false x y h k = k
 
 -- so has the first that applies, or it is 0
+pub applying_numbered : (xs : List Case) → Coded xs → first_applying xs < number_limit
+applying_numbered [] h = omega arith
+applying_numbered (x ∷ xs) h = either x.applies x.number (first_applying xs) h.0 (applying_numbered xs h.1)
+
 pub applying_coded : (xs : List Case) → Coded xs → first_applying xs < code_limit
-applying_coded [] h = omega arith
-applying_coded (x ∷ xs) h = either x.applies x.number (first_applying xs) h.0 (applying_coded xs h.1)
+applying_coded xs h = let l = applying_numbered xs h in omega arith
 
 -- 1 and 2; 7 to 9; 10 and 11
 pub numbers_coded : (call : Call) → Coded (number_cases call)

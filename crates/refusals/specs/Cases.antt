@@ -3,7 +3,7 @@
 -- words of the workspace.
 use Rattle.std.specs.Prelude.{ℕ, List, [], ◌∷◌, Bool, cond, not, ltb, eqb}
 use Rattle.limits.specs.Limits.{max_flags, max_entries}
-use Rattle.answers.specs.declared.Answer.{Answer}
+use Rattle.answers.specs.Answers.{Answer}
 use Rattle.answers.specs.Refusals.{
   flags_out_of_range,
   unknown_operator,

@@ -32,7 +32,7 @@ fn early_refusals(rt: &impl Print) -> io::Result<()> {
     ewise_add(rt, b"B", masked(0), 3, good, bad, bad, &mut c, &mut w)?;
     ewise_add(rt, b"mask", masked(0), 3, good, good, bad, &mut c, &mut w)?;
     ewise_add(rt, b"C", masked(0), 3, good, good, wide, &mut c, &mut w)?;
-    create::new_empty(&mut c, 1, 2);
+    let _ = create::new_empty(&mut c, 1, 2);
     ewise_add(rt, b"shape", masked(0), 3, good, good, wide, &mut c, &mut w)?;
     ewise_add(rt, b"work", masked(0), 3, good, good, good, &mut c, &mut w)
 }
@@ -42,8 +42,8 @@ fn late_refusals(rt: &impl Print, work: &mut Workspace) -> io::Result<()> {
     let good: &[u32] = &[1, 0, 2, 1, 2, 2, 0, 1, 1, 0, 1, 5];
     let mut short = [9u32; 11];
     let mut c = [9u32; 12];
-    create::new_empty(&mut short, 1, 2);
-    create::new_empty(&mut c, 1, 2);
+    let _ = create::new_empty(&mut short, 1, 2);
+    let _ = create::new_empty(&mut c, 1, 2);
     ewise_add(rt, b"fit", masked(0), 3, good, good, good, &mut short, work)?;
     ewise_add(rt, b"none", masked(0), 3, good, good, good, &mut c, work)
 }
@@ -53,8 +53,7 @@ fn wrong(flags: u32) -> Options {
     Options {
         flags: flags,
         has_mask: true,
-        has_accumulator: true,
-        accumulator: 8,
+        accumulator: Some(8),
     }
 }
 
@@ -64,7 +63,7 @@ fn index_refusals(rt: &impl Print, work: &mut Workspace) -> io::Result<()> {
     let mut c = [9u32; 14];
     test_support::heading(rt, b"indexes and shapes")?;
     extract(rt, b"C, column 4", plain(0), v, &[0], &[4, 3], &mut c, work)?;
-    create::new_empty(&mut c, 1, 1);
+    let _ = create::new_empty(&mut c, 1, 1);
     extract(rt, b"column 4", plain(0), v, &[0], &[4, 3], &mut c, work)?;
     extract(rt, b"shape", plain(0), v, &[0], &[3, 2], &mut c, work)?;
     extract(
@@ -99,9 +98,9 @@ fn shape_refusals(rt: &impl Print, work: &mut Workspace) -> io::Result<()> {
     let v: &[u32] = &[1, 0, 2, 1, 4, 2, 0, 3, 3, 0, 1, 3, 3, 10, 20, 40];
     let m: &[u32] = &[1, 0, 2, 2, 2, 3, 0, 0, 0, 0, 0];
     let mut c = [9u32; 14];
-    create::new_empty(&mut c, 2, 2);
+    let _ = create::new_empty(&mut c, 2, 2);
     mxm(rt, b"mxm, two rows", plain(0), 3, 5, m, m, &mut c, work)?;
     vxm(rt, b"vxm, two rows", plain(0), 3, 5, m, m, &mut c, work)?;
-    create::new_empty(&mut c, 1, 2);
+    let _ = create::new_empty(&mut c, 1, 2);
     vxm(rt, b"vxm, 4 and 2", plain(0), 3, 5, v, m, &mut c, work)
 }

@@ -3,6 +3,7 @@ use Prim.Native.Nat.{ℕ, ◌≤◌, ◌<◌}
 use mathlib.Core.Path.{◌≡◌, refl, sym, ◌∙◌}
 use mathlib.Core.List.{List, ◌++◌}
 use mathlib.Core.Bool.{Bool, true, false, cond, not, false≢true}
+use lib.Dec.{ltb}
 use borrow.Author.Tests.{not-false, ltb-false, lt-ltb, le-ltb}
 use Rattle.answers.specs.Refusals.{
   invalid_first,
@@ -28,79 +29,16 @@ use Rattle.requests.specs.Refusal.{matrix_cases, matrices_refusal, input_refusal
 use Rattle.requests.specs.Inputs.{Valid, Ready}
 use Rattle.refusals.proofs.Cases.{later, applying_first, applying_rest, applying_none, Numbered}
 
--- what is there and not valid, from the test whether it is valid or not there
-absent_or : (there ok : Bool) {v : Bool} → cond there ok true ≡ v → (there and not ok) ≡ not v
-unfolding ◌and◌
-absent_or true ok e = rw e
-absent_or false ok e = rw (← e)
-
--- each of 3 to 6, where none before it applies
-module _ (call : Call) (a b m c : List ℕ) where
-  abbrev second : Bool
-  second = cond (has_second call.operation) (valid b) true
-
-  abbrev mask : Bool
-  mask = cond call.has_mask (valid m) true
-
-  pub first_refused : valid a ≡ false → invalid_first ≡ matrices_refusal call a b m c
-  unfolding matrices_refusal
-  first_refused h₃ = rw h₃
-
-  module _ (h₃ : valid a ≡ true) where
-    pub second_refused : second ≡ false → invalid_second ≡ matrices_refusal call a b m c
-    unfolding matrices_refusal
-    second_refused h₄ = rw (h₃, absent_or (has_second call.operation) (valid b) h₄)
-
-    module _ (h₄ : second ≡ true) where
-      pub mask_refused : mask ≡ false → invalid_mask ≡ matrices_refusal call a b m c
-      unfolding matrices_refusal
-      mask_refused h₅ =
-          rw (h₃, absent_or (has_second call.operation) (valid b) h₄, absent_or call.has_mask (valid m) h₅)
-
-      module _ (h₅ : mask ≡ true) where
-        pub output_refused : valid c ≡ false → invalid_output ≡ matrices_refusal call a b m c
-        unfolding matrices_refusal
-        output_refused h₆ =
-            rw (h₃, absent_or (has_second call.operation) (valid b) h₄, absent_or call.has_mask (valid m) h₅, h₆)
-
-        pub all_valid : valid c ≡ true → 0 ≡ matrices_refusal call a b m c
-        unfolding matrices_refusal
-        all_valid h₆ =
-            rw (h₃, absent_or (has_second call.operation) (valid b) h₄, absent_or call.has_mask (valid m) h₅, h₆)
-
--- the tests of lists and of shapes, as the code makes them: of shapes, and of what the operation asks for, in variables
-module _ (call : Call) (a b c : Grid) (is js : List ℕ) (s : Shapes) (n : Needs) (e : s ≡ call_shapes call a b c is js)
-    (f : n ≡ needs_of call.operation s) where
-  pub lists_tested : {v : Bool} → lists_valid call.operation n.bounds is js ≡ v → indexes_valid call a b c is js ≡ v
-  unfolding indexes_valid
-  lists_tested h = rw (f, e) at h
-
-  pub shapes_tested : (m : Grid) {v : Bool} → shapes_meet call s n (shape_of m) ≡ v → shapes_agree call a b m c is js ≡ v
-  unfolding shapes_agree
-  shapes_tested m h = rw (f, e) at h
-
--- each of 7 to 9
-module _ (call : Call) (a b m c : Grid) (is js : List ℕ) (work : ℕ) where
-  pub index_refused : indexes_valid call a b c is js ≡ false
-      → index_out_of_bounds ≡ agreement_refusal call a b m c is js work
-  unfolding agreement_refusal
-  index_refused h₇ = rw h₇
-
-  module _ (h₇ : indexes_valid call a b c is js ≡ true) where
-    pub shape_refused : shapes_agree call a b m c is js ≡ false
-        → invalid_shape ≡ agreement_refusal call a b m c is js work
-    unfolding agreement_refusal
-    shape_refused h₈ = rw (h₇, h₈)
-
-    module _ (h₈ : shapes_agree call a b m c is js ≡ true) where
-      pub workspace_refused : work < workspace_words
-          → workspace_too_short ≡ agreement_refusal call a b m c is js work
-      unfolding agreement_refusal
-      workspace_refused h₉ = rw (h₇, h₈, lt-ltb _ _ h₉)
-
-      pub all_agree : workspace_words ≤ work → 0 ≡ agreement_refusal call a b m c is js work
-      unfolding agreement_refusal
-      all_agree h₉ = rw (h₇, h₈, le-ltb _ _ h₉)
+-- 7 to 9 by the tests of lists and of shapes as the code makes them: of shapes, and of what the operation asks for, in
+-- variables
+pub agreement_tested : (call : Call) (a b m c : Grid) (is js : List ℕ) (work : ℕ) (s : Shapes) (n : Needs)
+    → s ≡ call_shapes call a b c is js → n ≡ needs_of call.operation s
+    → (code : ℕ) → code ≡ cond (not (lists_valid call.operation n.bounds is js)) index_out_of_bounds
+    (cond (not (shapes_meet call s n (shape_of m))) invalid_shape
+    (cond (ltb work workspace_words) workspace_too_short 0))
+    → code ≡ agreement_refusal call a b m c is js work
+unfolding agreement_refusal indexes_valid shapes_agree
+agreement_tested call a b m c is js work s n e f code h = rw (f, e) at h
 
 -- what is there is valid
 there_valid : (there ok : Bool) → (there and not ok) ≡ false → there ≡ true → ok ≡ true

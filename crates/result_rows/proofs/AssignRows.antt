@@ -7,11 +7,11 @@ use lib.ListN.{length, drop, length-drop}
 use lib.Seq.{get_or-drop}
 use Rattle.limits.specs.Limits.{max_cols}
 use Rattle.words.specs.Words.{at}
-use Rattle.grid.specs.declared.Cell.{Cell}
+use Rattle.grid.specs.Cell.{Cell}
 use Rattle.rows.specs.Row.{Row, lookup, Holds}
 use Rattle.rows.proofs.Holds.{holds_same}
 use Rattle.matrix.specs.Layout.{rows, row_columns, row_values, cell_of}
-use Rattle.operations.specs.declared.Accumulator.{Accumulator}
+use Rattle.operations.specs.Accumulator.{Accumulator}
 use Rattle.operations.specs.CellOperations.{listed_cell, assigned_cell, unlisted_cell}
 use Rattle.operations.proofs.Listed.{listed_none, listed_at}
 use Rattle.result_rows.specs.RowInputs.{AssignInputs}
@@ -51,7 +51,8 @@ module _ {a b c is js : List ℕ} {i : ℕ} (h : AssignInputs a b c is js i) whe
 
     -- the row that is not listed
     pub unlisted_holds : at b (max_cols + i) ≡ 0 → {n e : ℕ} {oc ov : List ℕ}
-        → Holds n (λ j. unlisted_cell accumulator (lookup (row_columns c i) (row_values c i) j)) e oc ov → Holds n row e oc ov
+        → Holds n (λ j. unlisted_cell accumulator (lookup (row_columns c i) (row_values c i) j)) e oc ov
+        → Holds n row e oc ov
     unfolding cell_of
     unlisted_holds z q =
         holds_same q row (λ j l. sym (listed_none (length is) is i

@@ -17,7 +17,7 @@ use Rattle.matrix.proofs.Facts.{matrix_made, row_span}
 use Rattle.encoding.proofs.Canonical.{valid_row}
 use Rattle.operators.specs.declared.BinaryOp.{BinaryOp}
 use Rattle.operators.specs.declared.Monoid.{Monoid}
-use Rattle.operations.specs.declared.Accumulator.{Accumulator}
+use Rattle.operations.specs.Accumulator.{Accumulator}
 use Rattle.operations.specs.declared.Operation.TheVariants.{Mxm, EwiseMult, EwiseAdd, Extract, Assign, Kronecker}
 use Rattle.operations.specs.Calls.{index_fits, list_valid}
 use Rattle.operations.proofs.Lists.{list_facts}

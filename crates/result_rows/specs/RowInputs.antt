@@ -1,9 +1,8 @@
 -- What the rows of T need of the inputs, which are valid matrices as their flags ask.
-use Rattle.std.specs.Prelude.{ℕ, ◌*◌, ◌≤◌, ◌<◌, ◌≡◌, List, true, length, take, drop}
+use Rattle.std.specs.Prelude.{ℕ, ◌*◌, ◌≤◌, ◌<◌, ◌≡◌, List, true, length, take, drop, None}
 use Rattle.limits.specs.Limits.{max_cols}
 use Rattle.words.specs.Words.{at}
-use Rattle.grid.specs.declared.Cell.{Cell}
-use Rattle.grid.specs.declared.Cell.TheVariants.{Absent}
+use Rattle.grid.specs.Cell.{Cell}
 use Rattle.grid.specs.Grid.{Grid}
 use Rattle.operations.specs.declared.Operation.{Operation}
 use Rattle.operations.specs.declared.Needs.{Needs}
@@ -22,8 +21,8 @@ row_shapes op a b c is js = shapes_of op (grid_of a) (grid_of b) (grid_of c) is 
 abbrev pub row_needs : Operation → List ℕ → List ℕ → List ℕ → List ℕ → List ℕ → Needs
 row_needs op a b c is js = needs_of op (row_shapes op a b c is js)
 
--- the matrices that the operation has are valid, their shapes and the lists agree, and T has row i; where there are lists
--- the words b are their inverses
+-- the matrices that the operation has are valid, their shapes and the lists agree, and T has row i; where there are
+-- lists the words b are their inverses
 pub record RowInputs (op : Operation) (a b c is js : List ℕ) (i : ℕ) : Type 0 where
   pub first : Matrix a
   pub second : has_second op ≡ true → Matrix b
@@ -75,4 +74,4 @@ pub record BlockInputs (a b : List ℕ) (i : ℕ) : Type 0 where
 
 -- a mask's cell where there is no mask
 abbrev pub no_cell : Cell
-no_cell = Absent
+no_cell = None

@@ -8,7 +8,8 @@ ghost use Rattle.words.specs.Words.{at};
 ghost use Rattle.rows.specs.Row.{Holds};
 ghost use Rattle.matrix.specs.Layout.{rows, cols, cell_of, grid_of};
 ghost use Rattle.matrix.specs.Facts.{Matrix};
-ghost use Rattle.operations.specs.CellOperations.{intersect, dot, apply_cell, select_cell, assigned_cell, unlisted_cell};
+ghost use Rattle.operations.specs.CellOperations.{intersect, dot, apply_cell, select_cell};
+ghost use Rattle.operations.specs.CellOperations.{assigned_cell, unlisted_cell};
 ghost use Rattle.operations.specs.GridOperations.{result_grid};
 ghost use Rattle.merge.specs.Combined.{combined};
 ghost use Rattle.result_rows.specs.RowInputs.{RowInputs, Buffers, ProductInputs, PairInputs, ListInputs, no_cell};
@@ -109,8 +110,8 @@ fn pair(how: Combine, a: &[u32], b: &[u32], i: usize, oc: &mut [u32], ov: &mut [
 
 // A row of apply.
 fn applied(op: ApplyOp, a: &[u32], i: usize, oc: &mut [u32], ov: &mut [u32]) -> usize
-    requires matrix_1 { Matrix a.now }
-    requires matrix_2 { i < rows a.now }
+    requires matrix { Matrix a.now }
+    requires row_in { i < rows a.now }
     requires a_in_bounds { (cols a.now ≤ length oc.old) × (cols a.now ≤ length ov.old) }
     ensures { Holds (cols a.now)
         (λ j. apply_cell op i j (cell_of a.now i j))
@@ -156,8 +157,8 @@ fn extracted(
 
 // A row of select.
 fn selected(op: SelectOp, a: &[u32], i: usize, oc: &mut [u32], ov: &mut [u32]) -> usize
-    requires matrix_1 { Matrix a.now }
-    requires matrix_2 { i < rows a.now }
+    requires matrix { Matrix a.now }
+    requires row_in { i < rows a.now }
     requires a_in_bounds { (cols a.now ≤ length oc.old) × (cols a.now ≤ length ov.old) }
     ensures { Holds (cols a.now)
         (λ j. select_cell op i j (cell_of a.now i j))

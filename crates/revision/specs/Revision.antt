@@ -1,6 +1,6 @@
 -- What a look at the revision of a matrix answers.
-use Rattle.std.specs.Prelude.{ℕ, List, [], ◌≡◌, refl, cond}
-use Rattle.answers.specs.declared.NumberAnswer.{NumberAnswer}
+use Rattle.std.specs.Prelude.{ℕ, List, cond}
+use Rattle.answers.specs.Answers.{NumberAnswer}
 use Rattle.answers.specs.Refusals.{invalid_first}
 use Rattle.answers.specs.Numbers.{number_answer, refused_number}
 use Rattle.matrix.specs.Layout.{revision}

@@ -3,22 +3,18 @@
 #![tactic(auto)]
 
 ghost use Rattle.std.specs.Prelude.{◌≡◌};
+ghost use Rattle.answers.specs.Results.{total_answer};
 ghost use Rattle.revision.specs.Revision.{revision_answer};
 
-use answers::{INVALID_FIRST, NumberAnswer};
+use answers::Refusal;
 
-// 0 and the revision. INVALID_FIRST where the words are no valid matrix.
-pub fn revision_of(words: &[u32]) -> NumberAnswer
-    ensures { result ≡ revision_answer words.now }
+// The revision. InvalidFirst where the words are no valid matrix.
+pub fn revision_of(words: &[u32]) -> Result<u32, Refusal>
+    ensures { total_answer result ≡ revision_answer words.now }
 {
-    if !matrix::is_valid(words) {
-        return NumberAnswer {
-            code: INVALID_FIRST,
-            value: 0,
-        };
-    }
-    NumberAnswer {
-        code: 0,
-        value: matrix::revision(words),
+    if matrix::is_valid(words) {
+        Ok(matrix::revision(words))
+    } else {
+        Err(Refusal::InvalidFirst)
     }
 }

@@ -17,13 +17,12 @@ fn main(rt: HostRuntime) -> io::Result<()> {
     folded(&rt)
 }
 
-// No mask and no accumulator: the number 9 is not looked at.
+// No mask and no accumulator.
 fn plain(flags: u32) -> Options {
     Options {
         flags: flags,
         has_mask: false,
-        has_accumulator: false,
-        accumulator: 9,
+        accumulator: None,
     }
 }
 
@@ -89,14 +88,19 @@ fn operate_in(
 ) -> io::Result<()> {
     let a: &[u32] = &[1, 7, 2, 1, 1, 2, 0, 1, 1, 0, 1, 5];
     let r = calls::operate(options, verb, a, a, a, &[0], &[0], c, work);
-    report(rt, r.code, r.entries, &c[..])
+    report(rt, test_support::code(r), test_support::value(r), &c[..])
 }
 
 // The answer, and the revision afterwards.
 fn report(rt: &impl Print, code: u32, entries: u32, words: &[u32]) -> io::Result<()> {
     test_support::print_pair(rt, b"answer: ", code, entries)?;
     let r = revision::revision_of(words);
-    test_support::print_pair(rt, b"  revision: ", r.code, r.value)
+    test_support::print_pair(
+        rt,
+        b"  revision: ",
+        test_support::code(r),
+        test_support::value(r),
+    )
 }
 
 // A lay over a matrix starts at 0; refused, it leaves the revision.
@@ -106,12 +110,17 @@ fn lent_lay(rt: &impl Print) -> io::Result<()> {
     lay(rt, &mut c, 0)?;
     lay(rt, &mut c, 1)?;
     let checked = matrix::check(&c);
-    report(rt, checked.code, checked.entries, &c)
+    report(
+        rt,
+        test_support::code(checked),
+        test_support::value(checked),
+        &c,
+    )
 }
 
 fn lay(rt: &impl Print, c: &mut [u32], rows: u32) -> io::Result<()> {
     let r = create::new_empty(c, rows, 1);
-    report(rt, r.code, r.entries, &c[..])
+    report(rt, test_support::code(r), test_support::value(r), &c[..])
 }
 
 // Rows of a day matrix: rewritten, refused; taken back, taken back though unmarked, refused. The marks have the last
@@ -133,19 +142,24 @@ fn day_rows(rt: &impl Print) -> io::Result<()> {
 fn rewrite(rt: &impl Print, day: &mut [u32], marks: &mut [u32], i: u32) -> io::Result<()> {
     let row: &[u32] = &[1, 7, 2, 1, 1, 2, 0, 1, 1, 0, 1, 5];
     let r = day_calls::rewrite_row(day, marks, i, row);
-    report(rt, r.code, r.entries, &day[..])?;
+    report(rt, test_support::code(r), test_support::value(r), &day[..])?;
     report_marks(rt, &marks[..])
 }
 
 fn take_back(rt: &impl Print, day: &mut [u32], marks: &mut [u32], i: u32) -> io::Result<()> {
     let r = day_calls::take_back(day, marks, i);
-    report(rt, r.code, r.entries, &day[..])?;
+    report(rt, test_support::code(r), test_support::value(r), &day[..])?;
     report_marks(rt, &marks[..])
 }
 
 fn report_marks(rt: &impl Print, marks: &[u32]) -> io::Result<()> {
     let r = revision::revision_of(marks);
-    test_support::print_pair(rt, b"  of the marks: ", r.code, r.value)
+    test_support::print_pair(
+        rt,
+        b"  of the marks: ",
+        test_support::code(r),
+        test_support::value(r),
+    )
 }
 
 // A day matrix folded into a buffer that holds a matrix of revision 7: refused, it stays; the folded one starts at 0.
@@ -159,5 +173,5 @@ fn folded(rt: &impl Print) -> io::Result<()> {
 
 fn fold<'a>(rt: &impl Print, base: &'a [u32], day: &'a [u32], out: &mut [u32]) -> io::Result<()> {
     let r = day_calls::fold(base, day, day, out);
-    report(rt, r.code, r.entries, &out[..])
+    report(rt, test_support::code(r), test_support::value(r), &out[..])
 }

@@ -1,10 +1,8 @@
 -- The words after `make_room`, by two moves up or by two moves down: each from the words before it.
 use Prim.Native.Nat.{ℕ, ◌+◌, ◌-◌, ◌≤◌, ◌<◌}
 use native.Mathlib.Omega.{arith}
-use mathlib.Core.Path.{◌≡◌, ◌∙◌}
+use mathlib.Core.Path.{◌∙◌}
 use mathlib.Core.List.{List}
-use lib.ListN.{length}
-use Rattle.words.specs.Words.{at}
 use Rattle.matrix.specs.Layout.{columns_at, values_at}
 use Rattle.edits.specs.Changes.{moved}
 use Rattle.edits.proofs.Moves.{moved_length, moved_here, moved_before, moved_after}

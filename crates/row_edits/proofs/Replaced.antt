@@ -11,9 +11,9 @@ use Rattle.matrix.specs.Layout.{starts_at, columns_at, values_at, rows, start, e
 use Rattle.matrix.specs.Facts.{RowSpan}
 use Rattle.matrix.proofs.Facts.{row_span}
 use Rattle.matrix.specs.HeaderWords.{touched}
-use Rattle.edits.specs.Changes.{Mapped, Bounded}
+use Rattle.edits.specs.Changes.{shifted, Mapped, Bounded}
 use Rattle.day_grids.specs.Day.{with_row}
-use Rattle.row_edits.specs.Replacing.{count_with, Replaceable, shifted, RoomBounds, Opened, PutBounds, row_put}
+use Rattle.row_edits.specs.Replacing.{count_with, Replaceable, RoomBounds, Opened, PutBounds, row_put}
 use Rattle.encoding.specs.Encode.{updated_to}
 use Rattle.row_edits.proofs.Changed.{RowChanged, row_changed}
 use Rattle.row_edits.proofs.Putting.{

@@ -28,10 +28,6 @@ pub record Replaceable (s : List ℕ) (i : ℕ) (cs vs : List ℕ) : Type 0 wher
   pub few : count_with (entries s) (start s i) (start s (i + 1)) (length cs) ≤ max_entries
   pub space : size_of (rows s) (count_with (entries s) (start s i) (start s (i + 1)) (length cs)) ≤ length s
 
--- a later row start
-abbrev pub shifted : ℕ → ℕ → ℕ → ℕ
-shifted more less x = x + more - less
-
 -- room for k entries can be made in place of those from a up to b, in a matrix of r rows and n entries
 pub record RoomBounds (r n a b k : ℕ) (s : List ℕ) : Type 0 where
   pub rows : r ≤ max_rows

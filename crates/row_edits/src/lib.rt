@@ -2,13 +2,11 @@
 
 #![tactic(auto)]
 
-ghost use Rattle.std.specs.Prelude.{◌≡◌, ◌≤◌};
-ghost use Rattle.limits.specs.Limits.{max_entries};
+ghost use Rattle.std.specs.Prelude.{◌≡◌};
 ghost use Rattle.rows.specs.Row.{lookup};
 ghost use Rattle.matrix.specs.Layout.{grid_of};
-ghost use Rattle.edits.specs.Changes.{Mapped, Bounded};
 ghost use Rattle.day_grids.specs.Day.{with_row};
-ghost use Rattle.row_edits.specs.Replacing.{Replaceable, shifted, RoomBounds, Opened, PutBounds, row_put};
+ghost use Rattle.row_edits.specs.Replacing.{Replaceable, RoomBounds, Opened, PutBounds, row_put};
 ghost use Rattle.encoding.specs.Encode.{updated_to};
 
 use matrix::layout::{COLUMNS_PAST, COUNT_AGAIN_PAST, COUNT_PAST, ROWS_AT, STARTS_AT, VALUES_PAST};
@@ -24,7 +22,7 @@ pub fn replace_row(words: &mut [u32], i: usize, columns: &[u32], values: &[u32])
     let a = words[i + STARTS_AT] as usize;
     let b = words[i + 1 + STARTS_AT] as usize;
     let k = columns.len();
-    shift_starts(
+    edits::shift_words(
         words,
         i + 1 + STARTS_AT,
         r + 1 + STARTS_AT,
@@ -34,19 +32,6 @@ pub fn replace_row(words: &mut [u32], i: usize, columns: &[u32], values: &[u32])
     make_room(words, r, n, a, b, k);
     put_row(words, r, n + k + a - b, a, columns, values);
     matrix::touch(words);
-}
-
-// Each word from `from` up to, and not including, `to` grows by `more` and shrinks by `less`.
-fn shift_starts(words: &mut [u32], from: usize, to: usize, more: u32, less: u32)
-    requires fact_1 { Bounded less max_entries from to words.old }
-    requires fact_2 { more ≤ max_entries }
-    ensures { Mapped (shifted more less) from to words.old words.new }
-{
-    let mut k = from;
-    while k < to {
-        words[k] = words[k] + more - less;
-        k += 1;
-    }
 }
 
 // In a matrix of r rows and n entries, room for k entries is made in place of the entries from a up to b: the values
@@ -63,10 +48,10 @@ fn make_room(words: &mut [u32], r: usize, n: usize, a: usize, b: usize, k: usize
     if b < a + k {
         words::move_up(words, values_from, values_to, n - b);
         words::move_up(words, columns_from, columns_to, n - b + 1 + a);
-        return;
+    } else {
+        words::move_down(words, columns_from, columns_to, n - b + 1 + a);
+        words::move_down(words, values_from, values_to, n - b);
     }
-    words::move_down(words, columns_from, columns_to, n - b + 1 + a);
-    words::move_down(words, values_from, values_to, n - b);
 }
 
 // The columns and the values of a row, after the first a entries of a matrix of r rows and n entries, and the counts.

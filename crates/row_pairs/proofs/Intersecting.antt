@@ -1,4 +1,5 @@
 -- The loop of `intersect_rows`: its start, a turn, and its two ends.
+use Rattle.std.proofs.Common.{None}
 use Prim.Native.Nat.{ℕ, ◌+◌, ◌≤◌, ◌<◌, min}
 use native.Mathlib.Omega.{arith}
 use native.Mathlib.Decide.{ℕ_discrete}
@@ -7,8 +8,7 @@ use mathlib.Core.Path.{◌≡◌, refl}
 use mathlib.Core.List.{List}
 use lib.ListN.{length, set}
 use Rattle.words.specs.Words.{at}
-use Rattle.grid.specs.declared.Cell.{Cell}
-use Rattle.grid.specs.declared.Cell.TheVariants.{Absent}
+use Rattle.grid.specs.Cell.{Cell}
 use Rattle.operators.specs.declared.BinaryOp.{BinaryOp}
 use Rattle.operators.specs.Operators.{binary_word}
 use Rattle.operations.specs.CellOperations.{intersect}
@@ -16,9 +16,8 @@ use Rattle.rows.specs.Row.{lookup, Row, Holds}
 use Rattle.rows.proofs.Holds.{holds_skip}
 use Rattle.rows.proofs.Walk.{front, front_at, front_end}
 use Rattle.rows.proofs.Cursors.{absent_front}
-use Rattle.row_pairs.specs.Steps.{AtMost, Equal}
 use Rattle.row_pairs.proofs.Pairs.{Paired, paired_start, paired_room, paired_on}
-use Rattle.row_pairs.proofs.Turns.{turn_within, turn_put, turn_skip}
+use Rattle.row_pairs.proofs.Turns.{AtMost, Equal, turn_within, turn_put, turn_skip}
 use Rattle.row_pairs.proofs.Cells.{intersect_none, intersect_same, intersect_apart}
 
 abbrev intersection : BinaryOp → List ℕ → List ℕ → List ℕ → List ℕ → ℕ → Cell
@@ -31,7 +30,7 @@ Intersecting op n ac av bc bv oc₀ ov₀ oc ov i k e =
     Paired (intersection op ac av bc bv) n ac bc oc₀ ov₀ oc ov i k e (min (front n ac i) (front n bc k))
 
 module _ (op : BinaryOp) {n : ℕ} {ac av bc bv : List ℕ} (w : Row n ac av) (x : Row n bc bv) where
-  quiet : (j : ℕ) → lookup ac av j ≡ Absent → lookup bc bv j ≡ Absent → intersection op ac av bc bv j ≡ Absent
+  quiet : (j : ℕ) → lookup ac av j ≡ None → lookup bc bv j ≡ None → intersection op ac av bc bv j ≡ None
   quiet j a b = rw a
 
   pub intersecting_start : (oc ov : List ℕ) → Intersecting op n ac av bc bv oc ov oc ov 0 0 0

@@ -1,12 +1,12 @@
 -- A walk over two rows side by side, column by column: what holds before column q, and how it is taken on to the next
 -- column with an entry. Cited by the loops that write one row of two.
+use Rattle.std.proofs.Common.{None}
 use Prim.Native.Nat.{ℕ, ◌+◌, ◌≤◌, ◌<◌, min}
 use native.Mathlib.Omega.{arith}
 use mathlib.Core.Path.{◌≡◌, refl, ◌∙◌}
 use mathlib.Core.List.{List}
 use lib.ListN.{length, get_or}
-use Rattle.grid.specs.declared.Cell.{Cell}
-use Rattle.grid.specs.declared.Cell.TheVariants.{Absent}
+use Rattle.grid.specs.Cell.{Cell}
 use Rattle.rows.specs.Row.{lookup, position, Row, Holds}
 use Rattle.rows.proofs.Position.{position_zero}
 use Rattle.rows.proofs.Holds.{holds_none, holds_most, holds_skip}
@@ -59,7 +59,7 @@ module _ {f : ℕ → Cell} {n : ℕ} {ac bc oc₀ ov₀ oc ov : List ℕ} {i k 
 -- on to the next column q where one of the two rows has an entry
 module _ {f : ℕ → Cell} {n : ℕ} {ac av bc bv oc₀ ov₀ oc ov : List ℕ} {i k e p q : ℕ}
     (w : Row n ac av) (x : Row n bc bv)
-    (quiet : (j : ℕ) → lookup ac av j ≡ Absent → lookup bc bv j ≡ Absent → f j ≡ Absent)
+    (quiet : (j : ℕ) → lookup ac av j ≡ None → lookup bc bv j ≡ None → f j ≡ None)
     (h : Paired f n ac bc oc₀ ov₀ oc ov i k e p) (next : q ≡ min (get_or ac i n) (get_or bc k n)) where
   -- that is no earlier column
   pub paired_up : p ≤ q

@@ -9,7 +9,7 @@ use lib.ListN.{length, take, drop, length-append, length-drop, drop_of_length-le
 use lib.Seq.{drop-append-le, take_at, take_all, length-take-le}
 use Rattle.words.specs.Words.{part, overwrite}
 use Rattle.words.proofs.Parts.{length_part}
-use Rattle.grid.specs.declared.Cell.{Cell}
+use Rattle.grid.specs.Cell.{Cell}
 use Rattle.grid.specs.Entries.{column, value, one, gather}
 use Rattle.rows.specs.Row.{lookup, position, Row, Holds}
 use Rattle.grid.proofs.Gather.{gather_most}

@@ -1,20 +1,20 @@
 -- The loop of `unite_rows`: its start, a turn, and its two ends, where the rest of the other row is copied.
+use Rattle.std.proofs.Common.{None}
 use Prim.Native.Nat.{ℕ, ◌+◌, ◌≤◌, ◌<◌, min}
 use native.Mathlib.Omega.{arith}
 use mathlib.Core.Path.{◌≡◌, refl}
 use mathlib.Core.List.{List}
 use lib.ListN.{length, set}
 use Rattle.words.specs.Words.{at}
-use Rattle.grid.specs.declared.Cell.{Cell}
-use Rattle.grid.specs.declared.Cell.TheVariants.{Absent}
+use Rattle.grid.specs.Cell.{Cell}
 use Rattle.operators.specs.declared.BinaryOp.{BinaryOp}
 use Rattle.operations.specs.CellOperations.{unite}
 use Rattle.rows.specs.Row.{lookup, Row, Holds}
 use Rattle.rows.proofs.Walk.{front, front_at, front_end}
 use Rattle.rows.proofs.Cursors.{absent_front}
-use Rattle.row_pairs.specs.Steps.{AtMost, united_value, Rest, Copied}
+use Rattle.row_pairs.specs.Steps.{united_value, Rest, Copied}
 use Rattle.row_pairs.proofs.Pairs.{Paired, paired_start, paired_room, paired_on}
-use Rattle.row_pairs.proofs.Turns.{turn_within, turn_put}
+use Rattle.row_pairs.proofs.Turns.{AtMost, turn_within, turn_put}
 use Rattle.row_pairs.proofs.Cells.{unite_none, unite_lower}
 use Rattle.row_pairs.proofs.Rest.{rest_room, rest_done}
 
@@ -28,7 +28,7 @@ Uniting op n ac av bc bv oc₀ ov₀ oc ov i k e =
     Paired (union op ac av bc bv) n ac bc oc₀ ov₀ oc ov i k e (min (front n ac i) (front n bc k))
 
 module _ (op : BinaryOp) {n : ℕ} {ac av bc bv : List ℕ} (w : Row n ac av) (x : Row n bc bv) where
-  quiet : (j : ℕ) → lookup ac av j ≡ Absent → lookup bc bv j ≡ Absent → union op ac av bc bv j ≡ Absent
+  quiet : (j : ℕ) → lookup ac av j ≡ None → lookup bc bv j ≡ None → union op ac av bc bv j ≡ None
   quiet j a b = rw (a, b)
 
   pub uniting_start : (oc ov : List ℕ) → Uniting op n ac av bc bv oc ov oc ov 0 0 0

@@ -1,20 +1,8 @@
 -- What the steps of a walk over two rows are given and leave.
-use Rattle.std.specs.Prelude.{ℕ, ◌+◌, ◌-◌, ◌≤◌, ◌<◌, ◌≡◌, List, cond, length, ltb}
+use Rattle.std.specs.Prelude.{ℕ, ◌+◌, ◌-◌, ◌≤◌, ◌≡◌, List, cond, length, ltb}
 use Rattle.words.specs.Words.{part, overwrite}
 use Rattle.operators.specs.declared.BinaryOp.{BinaryOp}
 use Rattle.operators.specs.Operators.{binary_word}
-
--- r is 1 where a is at most b, otherwise 0
-pub record AtMost (a b r : ℕ) : Type 0 where
-  pub holds : a ≤ b → r ≡ 1
-  pub fails : b < a → r ≡ 0
-  pub small : r ≤ 1
-
--- r is 1 where a is b, otherwise 0
-pub record Equal (a b r : ℕ) : Type 0 where
-  pub holds : a ≡ b → r ≡ 1
-  pub fails : (a ≡ b → ⊥) → r ≡ 0
-  pub small : r ≤ 1
 
 -- the value of a union at the lower of columns a and b, where x and y stand: "a lone value is passed as it is"
 abbrev pub united_value : BinaryOp → ℕ → ℕ → ℕ → ℕ → ℕ

@@ -3,15 +3,16 @@
 
 #![tactic(auto)]
 
-ghost use Rattle.std.specs.Prelude.{◌≡◌, ◌≤◌, min, length};
+ghost use Rattle.std.specs.Prelude.{◌≡◌, ◌≤◌, length};
 ghost use Rattle.operations.specs.CellOperations.{intersect, unite};
 ghost use Rattle.rows.specs.Row.{lookup, Row, Holds};
-ghost use Rattle.row_pairs.specs.Steps.{AtMost, Equal, united_value, Rest, Copied};
+ghost use Rattle.row_pairs.specs.Steps.{united_value, Rest, Copied};
 
 use operators::BinaryOp;
 
 // The intersection of two rows of `places` columns, to the front of `oc` and `ov`; its number of entries. Each pair of
 // entries is written behind those that count, and counts itself where the columns are equal.
+// Kept: two indexes that move by the data, which no iterator has.
 pub fn intersect_rows(
     op: BinaryOp,
     places: u32,
@@ -22,9 +23,9 @@ pub fn intersect_rows(
     oc: &mut [u32],
     ov: &mut [u32],
 ) -> usize
-    requires row_1 { Row places ac.now av.now }
-    requires row_2 { Row places bc.now bv.now }
-    requires places_in_bounds { (places ≤ length oc.old) × (places ≤ length ov.old) }
+    requires first_row { Row places ac.now av.now }
+    requires second_row { Row places bc.now bv.now }
+    requires output_room { (places ≤ length oc.old) × (places ≤ length ov.old) }
     ensures { Holds places
         (λ j. intersect op (lookup ac.now av.now j)
         (lookup bc.now bv.now j))
@@ -41,14 +42,15 @@ pub fn intersect_rows(
         let b = bc[k];
         oc[e] = a;
         ov[e] = operators::apply_binary(op, av[i], bv[k]);
-        e += same(a, b);
-        i += at_most(a, b);
-        k += at_most(b, a);
+        e += usize::from(a == b);
+        i += usize::from(a <= b);
+        k += usize::from(b <= a);
     }
     e
 }
 
 // The union of two rows of `places` columns, to the front of `oc` and `ov`; its number of entries.
+// Kept: two indexes that move by the data, which no iterator has.
 pub fn unite_rows(
     op: BinaryOp,
     places: u32,
@@ -59,9 +61,9 @@ pub fn unite_rows(
     oc: &mut [u32],
     ov: &mut [u32],
 ) -> usize
-    requires row_1 { Row places ac.now av.now }
-    requires row_2 { Row places bc.now bv.now }
-    requires places_in_bounds { (places ≤ length oc.old) × (places ≤ length ov.old) }
+    requires first_row { Row places ac.now av.now }
+    requires second_row { Row places bc.now bv.now }
+    requires output_room { (places ≤ length oc.old) × (places ≤ length ov.old) }
     ensures { Holds places
         (λ j. unite op (lookup ac.now av.now j)
         (lookup bc.now bv.now j))
@@ -76,11 +78,11 @@ pub fn unite_rows(
         }
         let a = ac[i];
         let b = bc[k];
-        oc[e] = lower(a, b);
+        oc[e] = a.min(b);
         ov[e] = united(op, a, b, av[i], bv[k]);
         e += 1;
-        i += at_most(a, b);
-        k += at_most(b, a);
+        i += usize::from(a <= b);
+        k += usize::from(b <= a);
     }
     copy_rest(bc, bv, k, oc, ov, e)
 }
@@ -94,7 +96,7 @@ pub fn copy_row(
     ov: &mut [u32],
 ) -> usize
     requires row { Row places columns.now values.now }
-    requires places_in_bounds { (places ≤ length oc.old) × (places ≤ length ov.old) }
+    requires output_room { (places ≤ length oc.old) × (places ≤ length ov.old) }
     ensures { Holds places (lookup columns.now values.now) result oc.new
         ov.new }
 {
@@ -119,46 +121,16 @@ fn copy_rest(
     at + (columns.len() - from)
 }
 
-// 1 where a is at most b, otherwise 0.
-fn at_most(a: u32, b: u32) -> usize
-    ensures { AtMost a b result }
-{
-    if a <= b {
-        return 1;
-    }
-    0
-}
-
-// 1 where a is b, otherwise 0.
-fn same(a: u32, b: u32) -> usize
-    ensures { Equal a b result }
-{
-    if a == b {
-        return 1;
-    }
-    0
-}
-
-// The lower of two columns.
-fn lower(a: u32, b: u32) -> u32
-    ensures { result ≡ min a b }
-{
-    if a < b {
-        return a;
-    }
-    b
-}
-
 // The value of a union at the lower of columns a and b, with the values x and y there: the lone one, or the operator's.
 fn united(op: BinaryOp, a: u32, b: u32, x: u32, y: u32) -> u32
     ensures { result ≡ united_value op a b x y }
 {
     let z = operators::apply_binary(op, x, y);
     if a < b {
-        return x;
+        x
+    } else if b < a {
+        y
+    } else {
+        z
     }
-    if b < a {
-        return y;
-    }
-    z
 }

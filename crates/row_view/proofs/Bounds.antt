@@ -1,5 +1,5 @@
 -- The part that is shown lies within the largest matrix: for a caller that puts the place into a number.
-use Prim.Native.Nat.{ℕ, ◌+◌, ◌-◌, ◌≤◌}
+use Prim.Native.Nat.{ℕ, ◌≤◌}
 use native.Mathlib.Omega.{arith}
 use mathlib.Core.Path.{◌≡◌, refl}
 use mathlib.Core.List.{List}
@@ -10,18 +10,7 @@ use Rattle.matrix.proofs.Facts.{matrix_facts}
 use Rattle.row_view.specs.declared.Section.{Section}
 use Rattle.row_view.specs.declared.Section.TheVariants.{Columns, Values}
 use Rattle.row_view.specs.declared.Place.{Place}
-use Rattle.row_view.specs.View.{
-  View,
-  first,
-  second,
-  nothing,
-  section_from,
-  section_to,
-  viewable,
-  row_empty,
-  row_view,
-  place_of,
-}
+use Rattle.row_view.specs.View.{first, second, nothing, section_from, section_to, viewable, row_empty, row_view, place_of}
 use Rattle.row_view.proofs.Views.{Viewable, viewable_facts, span_first, span_second}
 
 -- from where on, and how many words

@@ -5,7 +5,6 @@
 #![tactic(auto)]
 
 ghost use Rattle.std.specs.Prelude.{◌≡◌};
-ghost use Rattle.matrix.specs.Layout.{columns_from, values_from};
 ghost use Rattle.matrix.specs.Facts.{Header, RowSpan};
 ghost use Rattle.words.specs.Lent.{PartOf};
 ghost use Rattle.row_view.specs.View.{viewable, section_from, section_to, row_view, Shown, place_of, place_in};
@@ -13,7 +12,7 @@ ghost use Rattle.row_view.specs.View.{viewable, section_from, section_to, row_vi
 use matrix::layout::{COLS_AT, COLUMNS_PAST, COUNT_PAST, ROWS_AT, STARTS_AT, VALUES_PAST};
 
 // "column numbers or values as asked"
-#[derive(Clone, Copy)]
+#[derive(Clone, Copy, Debug, PartialEq, Eq)]
 pub enum Section {
     Columns,
     Values,
@@ -28,22 +27,23 @@ pub fn row_view<'a>(first: &'a [u32], second: &'a [u32], i: u32, section: Sectio
         return &first[0..0];
     }
     let row = i as usize;
-    let columns = matrix::row_columns(first, row);
-    if columns.len() == 0 {
-        return row_section(second, row, section);
+    if matrix::row_columns(first, row).is_empty() {
+        row_section(second, row, section)
+    } else {
+        row_section(first, row, section)
     }
-    row_section(first, row, section)
 }
 
-// Where the part lies that `row_view` shows, for a host that cannot take a part of its own words back: in the first
-// matrix or in the second, from which word on, and how many words.
-#[derive(Clone, Copy)]
+// Where a part lies, for a host that cannot take a part of its own words back: in the first matrix or in the second,
+// from which word on, and how many words.
+#[derive(Clone, Copy, Debug, PartialEq, Eq)]
 pub struct Place {
     pub in_second: bool,
     pub from: usize,
     pub count: usize,
 }
 
+// Where the part lies that `row_view` shows.
 pub fn place_shown(first: &[u32], second: &[u32], i: u32, section: Section) -> Place
     ensures { result ≡ place_of (row_view section first.now second.now i) }
 {
@@ -55,11 +55,11 @@ pub fn place_shown(first: &[u32], second: &[u32], i: u32, section: Section) -> P
         };
     }
     let row = i as usize;
-    let listed = matrix::row_columns(first, row);
-    if listed.len() == 0 {
-        return section_place(second, row, section, true);
+    if matrix::row_columns(first, row).is_empty() {
+        section_place(second, row, section, true)
+    } else {
+        section_place(first, row, section, false)
     }
-    section_place(first, row, section, false)
 }
 
 // Where the section asked of row i of a valid matrix lies.
@@ -69,11 +69,10 @@ pub fn section_place(words: &[u32], i: usize, section: Section, in_second: bool)
     ensures { result ≡ place_in in_second (section_from section words.now i)
         (section_to section words.now i) }
 {
-    let columns = matrix::row_columns(words, i);
     Place {
-        in_second: in_second,
+        in_second,
         from: section_from(words, i, section),
-        count: columns.len(),
+        count: matrix::row_columns(words, i).len(),
     }
 }
 
@@ -83,41 +82,22 @@ fn section_from(words: &[u32], i: usize, section: Section) -> usize
     requires fact_2 { RowSpan words.now i }
     ensures { result ≡ section_from section words.now i }
 {
-    match section {
-        Section::Columns => columns_from(words, i),
-        Section::Values => values_from(words, i),
-    }
-}
-
-fn columns_from(words: &[u32], i: usize) -> usize
-    requires { (Header words.now) × (RowSpan words.now i) }
-    ensures { result ≡ columns_from words.now i }
-{
-    words[ROWS_AT] as usize + COLUMNS_PAST + words[i + STARTS_AT] as usize
-}
-
-fn values_from(words: &[u32], i: usize) -> usize
-    requires { (Header words.now) × (RowSpan words.now i) }
-    ensures { result ≡ values_from words.now i }
-{
     let r = words[ROWS_AT] as usize;
-    r + words[r + COUNT_PAST] as usize + VALUES_PAST + words[i + STARTS_AT] as usize
+    let start = words[i + STARTS_AT] as usize;
+    match section {
+        Section::Columns => r + COLUMNS_PAST + start,
+        Section::Values => r + words[r + COUNT_PAST] as usize + VALUES_PAST + start,
+    }
 }
 
 // Whether both matrices are valid and of one shape that has row i.
 fn row_viewable(first: &[u32], second: &[u32], i: u32) -> bool
     ensures { result ≡ viewable first.now second.now i }
 {
-    if !matrix::is_valid(first) {
+    if !matrix::is_valid(first) || !matrix::is_valid(second) {
         return false;
     }
-    if !matrix::is_valid(second) {
-        return false;
-    }
-    if first[ROWS_AT] != second[ROWS_AT] {
-        return false;
-    }
-    if first[COLS_AT] != second[COLS_AT] {
+    if first[ROWS_AT] != second[ROWS_AT] || first[COLS_AT] != second[COLS_AT] {
         return false;
     }
     i < first[ROWS_AT]

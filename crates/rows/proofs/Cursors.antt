@@ -1,5 +1,6 @@
 -- An index that is the position of a column and is moved up from column to column. Cited by the loops that go through
 -- several rows side by side.
+use Rattle.std.proofs.Common.{None}
 use Prim.Native.Nat.{ℕ, ◌+◌, ◌≤◌, ◌<◌}
 use native.Mathlib.Omega.{arith}
 use native.Mathlib.Decide.{dec_lt}
@@ -7,7 +8,6 @@ use mathlib.Core.Path.{◌≡◌}
 use mathlib.Core.List.{List}
 use lib.ListN.{length}
 use Rattle.words.specs.Words.{at}
-use Rattle.grid.specs.declared.Cell.TheVariants.{Absent}
 use Rattle.rows.specs.Row.{lookup, position, Rises, Row}
 use Rattle.rows.proofs.Search.{not_below_mid, position_found}
 use Rattle.rows.proofs.Position.{Stands, stands}
@@ -83,7 +83,7 @@ module _ {n : ℕ} {cols vals : List ℕ} (w : Row n cols vals) {p i : ℕ} (e :
       (λ k b h. not_below_mid q cols i w.rises (omega (arith, front_at n cols i (omega arith))) k b h)
 
   -- and those before that one have no entries
-  pub absent_front : {j : ℕ} → p ≤ j → j < front n cols i → lookup cols vals j ≡ Absent
+  pub absent_front : {j : ℕ} → p ≤ j → j < front n cols i → lookup cols vals j ≡ None
   absent_front {j} l m =
       lookup_missing cols vals w.even w.rises j i (position_front l (omega arith))
       (λ h q. omega (arith, front_at n cols i h))

@@ -67,15 +67,7 @@ module _ {j : ℕ} {cols : List ℕ} {looks low high : ℕ} (w : Left j cols loo
   pub left_end : high ≤ low → looks ≡ position_looks j cols
   left_end l = omega (arith, w.rest, turn_none (length cols - looks) j cols low high l)
 
--- the look at the position that was found, or none behind the last column
-module _ (p n looks : ℕ) where
-  pub look_none : n ≤ p → looks ≡ looks + look_there p n
-  look_none l = rw (le-ltb p n l) (omega arith)
-
-  pub look_one : p < n → looks + 1 ≡ looks + look_there p n
-  look_one l = rw (lt-ltb p n l)
-
--- both together
+-- the looks for the position, and the one there
 pub looks_all : (j : ℕ) (cols : List ℕ) {p looks all : ℕ} → p ≡ position j cols → looks ≡ position_looks j cols
     → all ≡ looks + look_there p (length cols) → all ≡ looks_for j cols
 unfolding looks_for

@@ -1,5 +1,6 @@
 -- Laws of `Holds`: a row that is written entry by entry to the front of two buffers. Cited by the functions that leave a
 -- row there.
+use Rattle.std.proofs.Common.{None, Some}
 use Prim.Native.Nat.{ℕ, ◌+◌, ◌≤◌, ◌<◌}
 use native.Mathlib.Omega.{arith}
 use native.Mathlib.Numerals.{add-one}
@@ -7,8 +8,7 @@ use mathlib.Core.Path.{◌≡◌, refl, ap, ◌∙◌}
 use mathlib.Core.List.{List}
 use lib.ListN.{length, set, length-append}
 use lib.Seq.{take-suc-set}
-use Rattle.grid.specs.declared.Cell.{Cell}
-use Rattle.grid.specs.declared.Cell.TheVariants.{Absent, Present}
+use Rattle.grid.specs.Cell.{Cell}
 use Rattle.grid.specs.Entries.{column, value, one, gather}
 use Rattle.grid.proofs.Gather.{gather_same, gather_next, gather_skip, gather_most}
 use Rattle.rows.specs.Row.{Holds}
@@ -25,7 +25,7 @@ module _ {n e : ℕ} {f : ℕ → Cell} {cols vals : List ℕ} (h : Holds n f e 
   holds_most = omega (arith, h.count, gather_most column f n)
 
   -- column n has an entry, which is written behind the others
-  pub holds_put : {v : ℕ} → e < length cols → e < length vals → f n ≡ Present v
+  pub holds_put : {v : ℕ} → e < length cols → e < length vals → f n ≡ Some v
       → Holds (n + 1) f (e + 1) (set cols e n) (set vals e v)
   unfolding one
   holds_put {v} a b p = record {
@@ -35,7 +35,7 @@ module _ {n e : ℕ} {f : ℕ → Cell} {cols vals : List ℕ} (h : Holds n f e 
   }
 
   -- the columns from n up to q have none
-  pub holds_skip : (q : ℕ) → n ≤ q → ((j : ℕ) → n ≤ j → j < q → f j ≡ Absent) → Holds q f e cols vals
+  pub holds_skip : (q : ℕ) → n ≤ q → ((j : ℕ) → n ≤ j → j < q → f j ≡ None) → Holds q f e cols vals
   holds_skip q l a = record {
     count = rw (gather_skip column f n q l a) h.count;
     columns = rw (gather_skip column f n q l a) h.columns;
@@ -51,5 +51,5 @@ module _ {n e : ℕ} {f : ℕ → Cell} {cols vals : List ℕ} (h : Holds n f e 
   }
 
 -- a row without entries
-pub holds_absent : (n : ℕ) (f : ℕ → Cell) (cols vals : List ℕ) → ((j : ℕ) → f j ≡ Absent) → Holds n f 0 cols vals
+pub holds_absent : (n : ℕ) (f : ℕ → Cell) (cols vals : List ℕ) → ((j : ℕ) → f j ≡ None) → Holds n f 0 cols vals
 holds_absent n f cols vals a = holds_skip (holds_none f cols vals) n (omega arith) (λ j l m. a j)

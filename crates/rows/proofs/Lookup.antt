@@ -1,4 +1,5 @@
 -- Rows and cells: what is gathered from cells is a row that looks the cells up, and a row is what its cells gather.
+use Rattle.std.proofs.Common.{None, Some}
 use Prim.Native.Nat.{ℕ, zero, suc, ◌<◌}
 use native.Mathlib.Omega.{arith}
 use native.Mathlib.Decide.{dec_lt, ℕ_discrete}
@@ -9,8 +10,7 @@ use lib.ListN.{length, take, length-append, get_or-append}
 use lib.Seq.{get_or_at, take-suc, take_all}
 use borrow.Author.Tests.{eq-eqb, ne_eqb}
 use Rattle.words.specs.Words.{at}
-use Rattle.grid.specs.declared.Cell.{Cell}
-use Rattle.grid.specs.declared.Cell.TheVariants.{Absent, Present}
+use Rattle.grid.specs.Cell.{Cell}
 use Rattle.grid.specs.Entries.{column, value, one, gather}
 use Rattle.rows.specs.Row.{rising, lookup, position, Row}
 use Rattle.rows.proofs.Rising.{rising_rises, rising_below, rises_rising}
@@ -38,10 +38,10 @@ snoc_at P l x a h p q = go (dec_lt a (length l))
 row_more : (n : ℕ) (cols vals : List ℕ) (c : Cell) → Row n cols vals
     → Row (suc n) (cols ++ one column n c) (vals ++ one value n c)
 unfolding one
-row_more n cols vals Absent w =
+row_more n cols vals None w =
     rw (append-nil cols, append-nil vals)
     (record { even = w.even; rises = w.rises; small = λ a l. let u = w.small a l in omega arith })
-row_more n cols vals (Present v) w =
+row_more n cols vals (Some v) w =
     let e = length-append cols (n ∷ []) in
     record {
       even = simp length-append (omega arith);
@@ -69,7 +69,7 @@ gather_rising n f =
     let w = gather_row n f in rises_rising n 0 (gather column n f) w.rises (λ m l. omega arith) w.small
 
 -- two rows after one another: a column that is not in the second is looked up in the first
-lookup_front : (cols vals ds ws : List ℕ) (j : ℕ) → length vals ≡ length cols → lookup ds ws j ≡ Absent
+lookup_front : (cols vals ds ws : List ℕ) (j : ℕ) → length vals ≡ length cols → lookup ds ws j ≡ None
     → lookup (cols ++ ds) (vals ++ ws) j ≡ lookup cols vals j
 unfolding lookup
 lookup_front [] [] ds ws j e h = h
@@ -90,14 +90,14 @@ lookup_back (c ∷ cols) (v ∷ vals) ds ws j e h =
 -- the row of one cell: the cell is there
 lookup_one : (n : ℕ) (c : Cell) → lookup (one column n c) (one value n c) n ≡ c
 unfolding lookup one
-lookup_one n Absent = refl
-lookup_one n (Present v) = rw (eq-eqb n n refl)
+lookup_one n None = refl
+lookup_one n (Some v) = rw (eq-eqb n n refl)
 
 -- and there is nothing before it
-lookup_other : (n j : ℕ) (c : Cell) → j < n → lookup (one column n c) (one value n c) j ≡ Absent
+lookup_other : (n j : ℕ) (c : Cell) → j < n → lookup (one column n c) (one value n c) j ≡ None
 unfolding lookup one
-lookup_other n j Absent l = refl
-lookup_other n j (Present v) l = rw (ne_eqb n j (λ e. omega arith))
+lookup_other n j None l = refl
+lookup_other n j (Some v) l = rw (ne_eqb n j (λ e. omega arith))
 
 -- in what is gathered the cells are found again
 pub lookup_gather : (n : ℕ) (f : ℕ → Cell) (j : ℕ) → j < n → lookup (gather column n f) (gather value n f) j ≡ f j

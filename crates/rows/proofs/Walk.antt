@@ -1,5 +1,6 @@
 -- A walk over the entries of a row: which columns lie before an entry, between two entries, and behind the last. Cited by
 -- the loops that go through a row entry by entry.
+use Rattle.std.proofs.Common.{None, Some}
 use Prim.Native.Nat.{ℕ, zero, suc, ◌+◌, ◌≤◌, ◌<◌}
 use native.Mathlib.Omega.{arith}
 use native.Mathlib.Decide.{dec_lt}
@@ -7,7 +8,6 @@ use mathlib.Core.Path.{◌≡◌, refl}
 use mathlib.Core.List.{List, [], ◌∷◌}
 use lib.ListN.{length, get_or, get_or-eq_default}
 use Rattle.words.specs.Words.{at}
-use Rattle.grid.specs.declared.Cell.TheVariants.{Absent, Present}
 use Rattle.rows.specs.Row.{lookup, Row}
 use Rattle.rows.proofs.Found.{lookup_absent, lookup_at}
 
@@ -25,7 +25,7 @@ pub front_end : (n : ℕ) (cols : List ℕ) (p : ℕ) → length cols ≤ p → 
 front_end n cols p l = get_or-eq_default cols n l
 
 -- without entries every cell is absent
-pub absent_all : (cols vals : List ℕ) → length cols ≡ 0 → (j : ℕ) → lookup cols vals j ≡ Absent
+pub absent_all : (cols vals : List ℕ) → length cols ≡ 0 → (j : ℕ) → lookup cols vals j ≡ None
 absent_all cols vals l j = lookup_absent cols vals j (λ k m e. omega arith)
 
 module _ {n : ℕ} {cols vals : List ℕ} (w : Row n cols vals) where
@@ -38,7 +38,7 @@ module _ {n : ℕ} {cols vals : List ℕ} (w : Row n cols vals) where
   }
 
   -- the cell of entry p
-  pub lookup_entry : (p : ℕ) → p < length cols → lookup cols vals (at cols p) ≡ Present (at vals p)
+  pub lookup_entry : (p : ℕ) → p < length cols → lookup cols vals (at cols p) ≡ Some (at vals p)
   lookup_entry p l = lookup_at cols vals p w.even l (λ k b. w.rises.up k p b l)
 
   -- the front goes up
@@ -58,11 +58,11 @@ module _ {n : ℕ} {cols vals : List ℕ} (w : Row n cols vals) where
       go (no d) = let e : k ≡ p = omega arith in rw e (omega (arith, front_at n cols p (omega arith)))
 
   -- there is no entry before the first
-  pub absent_first : (j : ℕ) → j < front n cols 0 → lookup cols vals j ≡ Absent
+  pub absent_first : (j : ℕ) → j < front n cols 0 → lookup cols vals j ≡ None
   absent_first j l = lookup_absent cols vals j (λ k m e. omega (arith, front_below 0 k (omega arith) m))
 
   -- and none between entry p and the next
-  pub absent_next : (p j : ℕ) → p < length cols → at cols p < j → j < front n cols (p + 1) → lookup cols vals j ≡ Absent
+  pub absent_next : (p j : ℕ) → p < length cols → at cols p < j → j < front n cols (p + 1) → lookup cols vals j ≡ None
   absent_next p j l a b = lookup_absent cols vals j (λ k m e. go k m e (dec_lt p k))
     where
       go : (k : ℕ) → k < length cols → at cols k ≡ j → Dec (p < k) → ⊥
@@ -70,5 +70,5 @@ module _ {n : ℕ} {cols vals : List ℕ} (w : Row n cols vals) where
       go k m e (no d) = omega (arith, front_below k p (omega arith) l, front_at n cols k m)
 
   -- columns past the last have no entries
-  pub absent_past : (j : ℕ) → n ≤ j → lookup cols vals j ≡ Absent
+  pub absent_past : (j : ℕ) → n ≤ j → lookup cols vals j ≡ None
   absent_past j l = lookup_absent cols vals j (λ k m e. omega (arith, w.small k m))

@@ -1,9 +1,8 @@
 -- A sparse row in two lists of equal length: column numbers, and the values beside them.
-use Rattle.std.specs.Prelude.{ℕ, suc, ◌+◌, ◌<◌, ◌≡◌, List, [], ◌∷◌, Bool, true, cond, length, take, ltb, leb, eqb}
+use Rattle.std.specs.Prelude.{ℕ, suc, ◌+◌, ◌<◌, ◌≡◌, List, [], ◌∷◌, Bool, true, cond, length, take, ltb, leb, eqb, None, Some}
 use Rattle.words.specs.Words.{at}
 use Rattle.conditions.specs.Tests.{◌and◌}
-use Rattle.grid.specs.declared.Cell.{Cell}
-use Rattle.grid.specs.declared.Cell.TheVariants.{Absent, Present}
+use Rattle.grid.specs.Cell.{Cell}
 use Rattle.grid.specs.Entries.{column, value, gather}
 
 -- "Column numbers are below C and rise strictly within a row": each is at least `low`, and the next above it
@@ -13,9 +12,9 @@ rising bound low (c ∷ l) = leb low c and (ltb c bound and rising bound (c + 1)
 
 -- the cell at column j: the value beside that column number, or none
 unfoldable pub lookup : List ℕ → List ℕ → ℕ → Cell
-lookup [] vals j = Absent
-lookup (c ∷ cols) [] j = Absent
-lookup (c ∷ cols) (v ∷ vals) j = cond (eqb c j) (Present v) (lookup cols vals j)
+lookup [] vals j = None
+lookup (c ∷ cols) [] j = None
+lookup (c ∷ cols) (v ∷ vals) j = cond (eqb c j) (Some v) (lookup cols vals j)
 
 -- how many column numbers of a rising row are below j: where column j is, or would be put to keep the order
 unfoldable pub position : ℕ → List ℕ → ℕ

@@ -13,36 +13,30 @@ ghost use Rattle.rows.specs.Looks.{position_looks, look_there, looks_for};
 
 use grid::{Cell, EntryAt};
 
-// The place of a column in a row: its position, or where it would be put to keep the order.
-#[derive(Clone, Copy)]
-pub enum ColumnAt {
-    Present(usize),
-    Absent(usize),
-}
-
-// The place of a column, and how many column numbers were looked at to find it.
-#[derive(Clone, Copy)]
+// The place of a column in a row, as a binary search gives it: its position, or as Err where it would be put to keep
+// the order; and how many column numbers were looked at to find it.
+#[derive(Clone, Copy, Debug, PartialEq, Eq)]
 pub struct FoundColumn {
-    pub place: ColumnAt,
+    pub place: Result<usize, usize>,
     pub looks: usize,
 }
 
 // The entry of a cell, and how many column numbers were looked at to find it.
-#[derive(Clone, Copy)]
+#[derive(Clone, Copy, Debug, PartialEq, Eq)]
 pub struct FoundEntry {
     pub entry: EntryAt,
     pub looks: usize,
 }
 
 // A position, and how many column numbers were looked at to find it.
-#[derive(Clone, Copy)]
+#[derive(Clone, Copy, Debug, PartialEq, Eq)]
 struct Bound {
     position: usize,
     looks: usize,
 }
 
 // A column number, and how many were looked at, this one included.
-#[derive(Clone, Copy)]
+#[derive(Clone, Copy, Debug, PartialEq, Eq)]
 struct Seen {
     column: u32,
     looks: usize,
@@ -58,9 +52,8 @@ pub fn find_entry(columns: &[u32], values: &[u32], start: u32, j: u32) -> FoundE
     ensures fact_2 { result.looks ≡ looks_for j columns.now }
 {
     let found = find_column(columns, j);
-    let place = found.place;
     FoundEntry {
-        entry: entry_beside(values, start, place),
+        entry: entry_beside(values, start, found.place),
         looks: found.looks,
     }
 }
@@ -73,15 +66,14 @@ pub fn cell_at(columns: &[u32], values: &[u32], p: usize, j: u32) -> Cell
     ensures { result ≡ lookup columns.now values.now j }
 {
     let found = look_at(columns, p, j, 0);
-    let place = found.place;
-    cell_beside(values, place)
+    cell_beside(values, found.place)
 }
 
 // The place of column j: its position by halving, and one look more there.
 pub fn find_column(columns: &[u32], j: u32) -> FoundColumn
     requires { Rises columns.now }
-    ensures fact_1 { result.place ≡ column_at j columns.now }
-    ensures fact_2 { result.looks ≡ looks_for j columns.now }
+    ensures found { result.place ≡ column_at j columns.now }
+    ensures counted { result.looks ≡ looks_for j columns.now }
 {
     let bound = lower_bound(columns, j);
     look_at(columns, bound.position, j, bound.looks)
@@ -90,8 +82,8 @@ pub fn find_column(columns: &[u32], j: u32) -> FoundColumn
 // How many column numbers are below j, by halving the range.
 fn lower_bound(columns: &[u32], j: u32) -> Bound
     requires { Rises columns.now }
-    ensures fact_1 { result.position ≡ position j columns.now }
-    ensures fact_2 { result.looks ≡ position_looks j columns.now }
+    ensures found { result.position ≡ position j columns.now }
+    ensures counted { result.looks ≡ position_looks j columns.now }
 {
     let mut low = 0;
     let mut high = columns.len();
@@ -108,33 +100,28 @@ fn lower_bound(columns: &[u32], j: u32) -> Bound
     }
     Bound {
         position: low,
-        looks: looks,
+        looks,
     }
 }
 
 // The place of column j, whose position is p: a look there, after `looks` others, tells whether it is present.
 fn look_at(columns: &[u32], p: usize, j: u32, looks: usize) -> FoundColumn
-    requires fact_1 { Rises columns.now }
-    requires fact_2 { p ≡ position j columns.now }
-    requires fact_3 { looks ≤ length columns.now }
-    ensures fact_1 { result.place ≡ column_at j columns.now }
-    ensures fact_2 { result.looks ≡ looks + look_there p (length columns.now) }
+    requires rises { Rises columns.now }
+    requires at_position { p ≡ position j columns.now }
+    requires few { looks ≤ length columns.now }
+    ensures found { result.place ≡ column_at j columns.now }
+    ensures counted { result.looks ≡ looks + look_there p (length columns.now) }
 {
     if columns.len() <= p {
         return FoundColumn {
-            place: ColumnAt::Absent(p),
-            looks: looks,
+            place: Err(p),
+            looks,
         };
     }
     let seen = look(columns, p, looks);
-    if seen.column != j {
-        return FoundColumn {
-            place: ColumnAt::Absent(p),
-            looks: seen.looks,
-        };
-    }
+    let place = if seen.column == j { Ok(p) } else { Err(p) };
     FoundColumn {
-        place: ColumnAt::Present(p),
+        place,
         looks: seen.looks,
     }
 }
@@ -151,28 +138,28 @@ fn look(columns: &[u32], k: usize, looks: usize) -> Seen
 }
 
 // The cell at the place of a column: the value beside it, or none.
-fn cell_beside(values: &[u32], place: ColumnAt) -> Cell
+fn cell_beside(values: &[u32], place: Result<usize, usize>) -> Cell
     requires { Inside place (length values.now) }
     ensures { result ≡ cell_beside values.now place }
 {
     match place {
-        ColumnAt::Present(p) => Cell::Present(values[p]),
-        ColumnAt::Absent(_) => Cell::Absent,
+        Ok(p) => Some(values[p]),
+        Err(_) => None,
     }
 }
 
 // The entry at the place of a column, before whose row the matrix has `start` entries.
-fn entry_beside(values: &[u32], start: u32, place: ColumnAt) -> EntryAt
-    requires fact_1 { Among place (length values.now) }
-    requires fact_2 { start + length values.now ≤ max_entries }
+fn entry_beside(values: &[u32], start: u32, place: Result<usize, usize>) -> EntryAt
+    requires among { Among place (length values.now) }
+    requires few { start + length values.now ≤ max_entries }
     ensures { result ≡ entry_beside values.now start place }
 {
     match place {
-        ColumnAt::Present(p) => EntryAt::Present {
+        Ok(p) => EntryAt::Present {
             value: values[p],
             position: start + p as u32,
         },
-        ColumnAt::Absent(q) => EntryAt::Absent {
+        Err(q) => EntryAt::Absent {
             position: start + q as u32,
         },
     }

@@ -3,7 +3,8 @@
 
 #![tactic(auto)]
 
-use answers::CellAnswer;
+use answers::Refusal;
+use grid::EntryAt;
 use limits::MAX_COLS;
 use matrix::layout::ROWS_AT;
 use std::io;
@@ -34,7 +35,12 @@ fn main(rt: HostRuntime) -> io::Result<()> {
     let words: &mut [u32] = &mut space;
     build(words);
     let answer = matrix::check(words);
-    test_support::print_pair(&rt, b"check: ", answer.code, answer.entries)?;
+    test_support::print_pair(
+        &rt,
+        b"check: ",
+        test_support::code(answer),
+        test_support::value(answer),
+    )?;
     for i in 0..6u32 {
         read_row(&rt, words, i, plan(i))?;
     }
@@ -80,7 +86,7 @@ fn build(words: &mut [u32]) {
 fn build_row(words: &mut [u32], i: u32, start: u32, row: RowPlan) -> u32 {
     let entries = row.entries as usize;
     let columns_at = test_support::past(14, start as usize);
-    let end = std::num::wrapping_add_u32(start, row.entries);
+    let end = start.wrapping_add(row.entries);
     test_support::put(words, test_support::past(6, i as usize), start);
     test_support::put(words, test_support::past(7, i as usize), end);
     put_steps(words, columns_at, entries, row.first, row.step);
@@ -99,7 +105,7 @@ fn put_steps(words: &mut [u32], at: usize, n: usize, first: u32, step: u32) {
     let mut word = first;
     for k in 0..n {
         test_support::put(words, test_support::past(at, k), word);
-        word = std::num::wrapping_add_u32(word, step);
+        word = word.wrapping_add(step);
     }
 }
 
@@ -121,17 +127,20 @@ fn read_row(rt: &impl Print, words: &[u32], i: u32, row: RowPlan) -> io::Result<
 // One cell read, and held against the plan.
 fn read(words: &[u32], i: u32, j: u32, row: RowPlan, seen: Tally) -> Tally {
     let answer = cells::read_cell(words, i, j);
-    let position = std::num::wrapping_add_u32(row_start(words, i), seen.present);
+    let position = row_start(words, i).wrapping_add(seen.present);
     if seen.present < row.entries {
         if seen.next == j {
             return Tally {
-                present: std::num::wrapping_add_u32(seen.present, 1),
-                next: std::num::wrapping_add_u32(seen.next, row.step),
+                present: seen.present.wrapping_add(1),
+                next: seen.next.wrapping_add(row.step),
                 absent: seen.absent,
-                wrong: std::num::wrapping_add_u32(
-                    seen.wrong,
-                    unexpected(answer, true, seen.present, position),
-                ),
+                wrong: seen.wrong.wrapping_add(unexpected(
+                    answer,
+                    EntryAt::Present {
+                        value: seen.present,
+                        position,
+                    },
+                )),
                 most: seen.most,
                 most_at: seen.most_at,
             };
@@ -140,8 +149,10 @@ fn read(words: &[u32], i: u32, j: u32, row: RowPlan, seen: Tally) -> Tally {
     Tally {
         present: seen.present,
         next: seen.next,
-        absent: std::num::wrapping_add_u32(seen.absent, 1),
-        wrong: std::num::wrapping_add_u32(seen.wrong, unexpected(answer, false, 0, position)),
+        absent: seen.absent.wrapping_add(1),
+        wrong: seen
+            .wrong
+            .wrapping_add(unexpected(answer, EntryAt::Absent { position })),
         most: seen.most,
         most_at: seen.most_at,
     }
@@ -153,20 +164,8 @@ fn row_start(words: &[u32], i: u32) -> u32 {
 }
 
 // 1 where the answer is another one.
-fn unexpected(answer: CellAnswer, present: bool, value: u32, position: u32) -> u32 {
-    if answer.code != 0 {
-        return 1;
-    }
-    if answer.present != present {
-        return 1;
-    }
-    if answer.value != value {
-        return 1;
-    }
-    if answer.position != position {
-        return 1;
-    }
-    0
+fn unexpected(answer: Result<EntryAt, Refusal>, expected: EntryAt) -> u32 {
+    u32::from(answer != Ok(expected))
 }
 
 fn looked(seen: Tally, looks: u32, j: u32) -> Tally {

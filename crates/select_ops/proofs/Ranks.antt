@@ -1,25 +1,32 @@
 -- The conditions by ranks: what the arms of `is_selected` work out on words is what the conditions mean on numbers.
-use Rattle.std.proofs.Common.{◌≡◌, ℕ, suc, ◌+◌, ◌-◌, ◌%◌, ◌^◌, ◌<◌, ◌≤◌, not, ltb, leb, ℤ, pos, negsuc, ◌+ℤ◌, sym, refl, ◌∙◌, arith, le-ltb, lt-ltb, le-leb}
-use native.Mathlib.Decide.{dec_le, dec_lt}
+use Rattle.std.proofs.Common.{
+  ◌≡◌,
+  ℕ,
+  suc,
+  ◌+◌,
+  ◌-◌,
+  ◌^◌,
+  ◌<◌,
+  ◌≤◌,
+  ltb,
+  leb,
+  pos,
+  negsuc,
+  ◌+ℤ◌,
+  sym,
+  ◌∙◌,
+  arith,
+  le-ltb,
+  lt-ltb,
+  le-leb,
+}
+use native.Mathlib.Decide.{dec_lt}
 use lib.Signed.{le_z, lt_z}
 use borrow.Author.Tests.{lt-leb}
 use Rattle.twos_complement.specs.TwosComplement.{signed}
 use Rattle.twos_complement.proofs.Words.{signed_cases}
+use Rattle.twos_complement.proofs.Values.{less_not, less_not_ℤ}
 use Rattle.operators.proofs.Larger.{rank, leb_same, rank_order}
-
--- a test of less is a test of at most that fails
-less_not : (a b : ℕ) → ltb a b ≡ not (leb b a)
-less_not a b = go (dec_lt a b)
-  where
-    go : Dec (a < b) → ltb a b ≡ not (leb b a)
-    go (yes l) = rw (lt-ltb a b l, lt-leb b a l)
-    go (no n) = let l : b ≤ a = omega arith in rw (le-ltb a b l, le-leb b a l)
-
-less_not_ℤ : (a b : ℤ) → lt_z a b ≡ not (le_z b a)
-less_not_ℤ (pos a) (pos b) = less_not a b
-less_not_ℤ (pos a) (negsuc b) = refl
-less_not_ℤ (negsuc a) (pos b) = refl
-less_not_ℤ (negsuc a) (negsuc b) = less_not b a
 
 -- the order of two values
 module _ (x y : ℕ) (hx : x < 2 ^ 32) (hy : y < 2 ^ 32) where

@@ -7,7 +7,7 @@ ghost use Rattle.select_ops.specs.Selects.{selects};
 
 // Each with the scalar s: the value equal, not equal, less, at most, greater, at least s; the lower triangle, where the
 // column is at most the row plus s, and the upper, where it is at least that.
-#[derive(Clone, Copy)]
+#[derive(Clone, Copy, Debug, PartialEq, Eq)]
 pub enum SelectOp {
     ValueEq(u32),
     ValueNe(u32),
@@ -39,19 +39,19 @@ pub fn is_selected(op: SelectOp, x: u32, i: u32, j: u32) -> bool
 fn rank(x: u32) -> u32
     ensures { result ≡ (x + 2147483648) % 4294967296 }
 {
-    std::num::wrapping_add_u32(x, 2147483648)
+    x.wrapping_add(2147483648)
 }
 
 // A column raised by 2^31.
 fn raised(j: u32) -> u64
     ensures { result ≡ j + 2147483648 }
 {
-    j as u64 + 2147483648
+    u64::from(j) + 2147483648
 }
 
 // The exact sum of a row and a scalar, raised by 2^31.
 fn raised_sum(i: u32, s: u32) -> u64
     ensures { result ≡ i + (s + 2147483648) % 4294967296 }
 {
-    i as u64 + rank(s) as u64
+    u64::from(i) + u64::from(rank(s))
 }

@@ -1,4 +1,5 @@
 -- The loop of `select_row`: what it has written when it stands at entry p of the row.
+use Rattle.std.proofs.Common.{None, Some}
 use Prim.Native.Nat.{ℕ, ◌+◌, ◌≤◌, ◌<◌}
 use native.Mathlib.Omega.{arith}
 use mathlib.Core.Path.{◌≡◌, refl, ◌∙◌}
@@ -6,8 +7,7 @@ use mathlib.Core.Bool.{true, false}
 use mathlib.Core.List.{List}
 use lib.ListN.{length, set, length-set}
 use Rattle.words.specs.Words.{at}
-use Rattle.grid.specs.declared.Cell.{Cell}
-use Rattle.grid.specs.declared.Cell.TheVariants.{Absent, Present}
+use Rattle.grid.specs.Cell.{Cell}
 use Rattle.select_ops.specs.declared.SelectOp.{SelectOp}
 use Rattle.select_ops.specs.Selects.{selects}
 use Rattle.operations.specs.CellOperations.{select_cell}
@@ -50,7 +50,7 @@ module _ {n : ℕ} {cols vals : List ℕ} (w : Row n cols vals) where
         → Selecting n op i cols vals oc₀ ov₀ (set oc e (at cols p)) (set ov e (at vals p)) (p + 1) (e + 1)
     selecting_kept l a b t =
         let room = selecting_room l in
-        let here : selected op i cols vals (at cols p) ≡ Present (at vals p) = rw (lookup_entry w p l, t) in
+        let here : selected op i cols vals (at cols p) ≡ Some (at vals p) = rw (lookup_entry w p l, t) in
         record {
           out = holds_skip (holds_put (before l) (omega (arith, h.long_cols)) (omega (arith, h.long_vals)) here)
               (front n cols (p + 1)) (omega (arith, front_above w p (p + 1) (omega arith) l))
@@ -63,7 +63,7 @@ module _ {n : ℕ} {cols vals : List ℕ} (w : Row n cols vals) where
     pub selecting_left : p < length cols → selects op (at vals p) i (at cols p) ≡ false
         → Selecting n op i cols vals oc₀ ov₀ oc ov (p + 1) e
     selecting_left l t =
-        let here : selected op i cols vals (at cols p) ≡ Absent = rw (lookup_entry w p l, t) in
+        let here : selected op i cols vals (at cols p) ≡ None = rw (lookup_entry w p l, t) in
         record {
           out = holds_skip
               (holds_skip (before l) (at cols p + 1) (omega arith)

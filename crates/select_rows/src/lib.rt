@@ -8,8 +8,8 @@ ghost use Rattle.rows.specs.Row.{lookup, Row, Holds};
 
 use select_ops::SelectOp;
 
-// Row i, of `places` columns: the entries for which the condition holds at row i and their column, each as it is. The result
-// is left at the front of `oc` and `ov`, and its number of entries returned.
+// Row i, of `places` columns: the entries for which the condition holds at row i and their column, each as it is. The
+// result is left at the front of `oc` and `ov`, and its number of entries returned.
 pub fn select_row(
     places: usize,
     op: SelectOp,
@@ -25,17 +25,14 @@ pub fn select_row(
         (λ j. select_cell op i j (lookup columns.now values.now j))
         result oc.new ov.new }
 {
-    let mut p: usize = 0;
     let mut e: usize = 0;
-    while p < columns.len() {
-        let j = columns[p];
+    for (p, &j) in columns.iter().enumerate() {
         let x = values[p];
         if select_ops::is_selected(op, x, i, j) {
             oc[e] = j;
             ov[e] = x;
             e += 1;
         }
-        p += 1;
     }
     e
 }

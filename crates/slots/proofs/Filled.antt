@@ -13,7 +13,7 @@ use Rattle.words.specs.Words.{part, overwrite}
 use Rattle.words.proofs.Parts.{length_part}
 use Rattle.slots.specs.Sections.{end_from, slots_of, count_at}
 use Rattle.slots.specs.Facts.{Sections, Fits}
-use Rattle.slots.specs.Room.{slot_put, words_with, Filled, resized}
+use Rattle.slots.specs.Room.{words_with, Filled, resized}
 use Rattle.slots.proofs.Sections.{slot_count_lem, section_at}
 use Rattle.slots.proofs.Slot.{section_start}
 use Rattle.slots.proofs.Placed.{placed}
@@ -31,6 +31,10 @@ pub record Filling (s : List ℕ) (k end : ℕ) : Type 0 where
   pub slot : k < slot_count
   pub ends : end ≡ end_from slot_count s
   pub most : length s ≤ max_store_words
+
+pub filling : {s : List ℕ} {k end : ℕ} → Sections slot_count s → k < slot_count → end ≡ end_from slot_count s
+    → length s ≤ max_store_words → Filling s k end
+filling a b e m = record { sections = a; slot = b; ends = e; most = m }
 
 module _ {s : List ℕ} {k end : ℕ} (h : Filling s k end) (x : List ℕ) where
   -- the test for room, as the definition and as the code have it

@@ -4,37 +4,32 @@
 
 #![tactic(auto)]
 
-ghost use Rattle.std.specs.Prelude.{◌≡◌, cond, ◌+◌, ◌-◌, ◌≤◌, ◌<◌, leb, length, drop};
+ghost use Rattle.std.specs.Prelude.{◌≡◌, cond, ◌+◌, ◌-◌, ◌≤◌, ◌<◌, leb, length, drop, Result, Ok, Err, Option, Some, None};
 ghost use Rattle.limits.specs.Limits.{slot_count, max_store_words};
-ghost use Rattle.matrix.specs.Facts.{Header};
-ghost use Rattle.matrix.specs.Layout.{size, max_matrix_words};
+ghost use Rattle.answers.specs.declared.Refusal.TheVariants.{InvalidStore};
+ghost use Rattle.matrix.specs.Layout.{max_matrix_words};
 ghost use Rattle.slots.specs.Sections.{end_from, all_zero, count_at};
 ghost use Rattle.slots.specs.Valid.{contents_valid, section_valid, sections_valid, store_valid};
 ghost use Rattle.slots.specs.Facts.{Sections, Fits};
 ghost use Rattle.slots.specs.Lent.{SlotPart};
 ghost use Rattle.slots.specs.Room.{Filled, resized, Room, room_made};
 
+use answers::Refusal;
 use limits::{MAX_STORE_WORDS, SLOTS};
-use matrix::layout::FIXED_WORDS;
 
-// Where the sections end; 0 if the words are no store.
-pub fn check(store: &[u32]) -> usize
-    ensures { result ≡ cond (store_valid store.now) (end_from slot_count store.now) 0 }
+// Where the sections end, or that the words are no store.
+pub fn check(store: &[u32]) -> Result<usize, Refusal>
+    ensures { result ≡ cond (store_valid store.now) (Ok (end_from slot_count store.now)) (Err InvalidStore) }
 {
-    if store.len() < SLOTS {
-        return 0;
+    if store.len() < SLOTS || MAX_STORE_WORDS < store.len() {
+        return Err(Refusal::InvalidStore);
     }
-    if MAX_STORE_WORDS < store.len() {
-        return 0;
+    let end = sections_end(store).ok_or(Refusal::InvalidStore)?;
+    if zeros_from(store, end) {
+        Ok(end)
+    } else {
+        Err(Refusal::InvalidStore)
     }
-    let end = sections_end(store);
-    if end == 0 {
-        return 0;
-    }
-    if !zeros_from(store, end) {
-        return 0;
-    }
-    end
 }
 
 // Where the section of a slot starts.
@@ -43,11 +38,9 @@ pub fn find(store: &[u32], slot: usize) -> usize
     requires fact_2 { slot < slot_count }
     ensures { result ≡ end_from slot store.now }
 {
-    let mut at: usize = 0;
-    let mut k: usize = 0;
-    while k < slot {
+    let mut at = 0;
+    for _k in 0..slot {
         at = at + 1 + store[at] as usize;
-        k += 1;
     }
     at
 }
@@ -124,27 +117,25 @@ fn make_room(tail: &mut [u32], end: usize, size: usize)
     let later = end - from;
     if old < size {
         words::move_up(tail, from, to, later);
-        return;
+    } else {
+        words::move_down(tail, from, to, later);
+        let free = to + later;
+        words::clear(&mut tail[free..end]);
     }
-    words::move_down(tail, from, to, later);
-    let free = to + later;
-    words::clear(&mut tail[free..end]);
 }
 
-// Where the sections end, if all lie within the words and what each holds is valid; else 0.
-fn sections_end(store: &[u32]) -> usize
-    ensures { result ≡ cond (sections_valid store.now) (end_from slot_count store.now) 0 }
+// Where the sections end, if all lie within the words and what each holds is valid.
+fn sections_end(store: &[u32]) -> Option<usize>
+    ensures { result ≡ cond (sections_valid store.now) (Some (end_from slot_count store.now)) None }
 {
-    let mut end: usize = 0;
-    let mut k: usize = 0;
-    while k < SLOTS {
+    let mut end = 0;
+    for _k in 0..SLOTS {
         if !section_valid(store, end) {
-            return 0;
+            return None;
         }
         end = end + 1 + store[end] as usize;
-        k += 1;
     }
-    end
+    Some(end)
 }
 
 // Whether the section at `at` lies within the words, and what it holds is valid.
@@ -159,30 +150,14 @@ fn section_valid(store: &[u32], at: usize) -> bool
         return false;
     }
     let from = at + 1;
-    let to = from + count;
-    contents_valid(&store[from..to])
+    contents_valid(&store[from..from + count])
 }
 
 // Whether a slot may hold these words: none, or a valid matrix of that size.
 fn contents_valid(contents: &[u32]) -> bool
     ensures { result ≡ contents_valid contents.now }
 {
-    if contents.len() == 0 {
-        return true;
-    }
-    if !matrix::is_valid(contents) {
-        return false;
-    }
-    matrix_size(contents) == contents.len()
-}
-
-// The size of a matrix.
-fn matrix_size(words: &[u32]) -> usize
-    requires { Header words.now }
-    ensures { result ≡ size words.now }
-{
-    let n = matrix::entry_count(words) as usize;
-    matrix::row_count(words) as usize + n + n + FIXED_WORDS
+    contents.is_empty() || matrix::is_valid(contents) && matrix::size(contents) == contents.len()
 }
 
 // Whether the words from `at` on are zeros: the bits of all of them are collected, which takes less time than a test of
@@ -191,11 +166,9 @@ fn zeros_from(store: &[u32], at: usize) -> bool
     requires { at ≤ length store.now }
     ensures { result ≡ all_zero (drop at store.now) }
 {
-    let mut bits: u32 = 0;
-    let mut i = at;
-    while i < store.len() {
-        bits = bits | store[i];
-        i += 1;
+    let mut bits = 0;
+    for word in &store[at..] {
+        bits |= *word;
     }
     bits == 0
 }

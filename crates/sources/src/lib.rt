@@ -23,11 +23,7 @@ pub const REGIONS_END: usize = 3 * MAX_MATRIX_WORDS;
 pub fn second_flag(call: Call) -> bool
     ensures { result ≡ second_flag call }
 {
-    let operation = call.operation;
-    if !requests::has_second(operation) {
-        return false;
-    }
-    requests::transpose_second(call)
+    requests::has_second(call.operation) && requests::transpose_second(call)
 }
 
 // The transpose of a matrix, where it is asked for.

@@ -9,13 +9,23 @@ use lib.Seq.{length-take-le}
 use lib.Dec.{leb}
 use Rattle.limits.specs.Limits.{max_entries}
 use Rattle.limits.specs.Sizes.{size_of, max_matrix_words}
-use Rattle.answers.specs.declared.Answer.{Answer}
+use Rattle.answers.specs.Answers.{Answer}
 use Rattle.answers.specs.Refusals.{accepted, refused, insufficient_space}
 use Rattle.matrix.specs.Layout.{rows}
 use Rattle.slots.specs.Sections.{slot_at}
 use Rattle.slots.specs.Facts.{Held}
 use Rattle.slots.specs.Room.{words_with, Filled}
 use Rattle.store_calls.specs.Attempts.{Committed}
+
+-- the size that is counted: of the rows r of a slot's words x
+pub size_counted : (n r k : ℕ) (s x : List ℕ) → r ≡ rows x → x ≡ slot_at s k
+    → size_of r n ≡ size_of (rows (slot_at s k)) n
+size_counted n r k s x e f = ap (λ (z : ℕ). size_of z n) (e ∙ ap rows f)
+
+-- so many words are there
+pub size_there : (n r k : ℕ) (s x w : List ℕ) → r ≡ rows x → x ≡ slot_at s k
+    → size_of (rows (slot_at s k)) n ≤ length w → size_of r n ≤ length w
+size_there n r k s x w e f l = let q = size_counted n r k s x e f in omega arith
 
 -- the size of a matrix with the rows of another is within what `put` takes
 pub size_most : (x : List ℕ) (n size : ℕ) → Held x → n ≤ max_entries → size ≡ size_of (rows x) n

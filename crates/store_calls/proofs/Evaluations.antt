@@ -21,9 +21,6 @@ use Rattle.operations.specs.Calls.{call_final}
 use Rattle.refusals.specs.Cases.{first_applying, agreement_cases, agreement_refusal}
 use Rattle.requests.specs.Refusal.{lent_final}
 use Rattle.requests.specs.Inputs.{Valid}
-use Rattle.compute.specs.declared.Outcome.{Outcome}
-use Rattle.compute.specs.declared.Outcome.TheVariants as outcome
-use Rattle.compute.specs.Computing.{Computed}
 use Rattle.slots.specs.Sections.{slot_at}
 use Rattle.slots.specs.Facts.{Held}
 use Rattle.model.specs.declared.Roles.{Roles}
@@ -47,17 +44,16 @@ revised_front v g w t =
     ap (λ (x : List ℕ). take k (with_revision v x)) d ∙ ap (take k) (encode_revised_lem 0 v g (drop k w))
     ∙ take_at (encode_revised v g) (drop k w) k (encode_length v g)
 
--- what the working part left, once it is known to be done
-pub computed_done : {r : Outcome} (n : ℕ) (g : Grid) (w : List ℕ) → r ≡ outcome.Done n → Computed r g w
-    → Computed (outcome.Done n) g w
-computed_done n g w e h = subst (λ (x : Outcome). Computed x g w) e h
-
 -- the words of each role, as they are lent
 pub record Lent (s : List ℕ) (r : Roles) (a b m c : List ℕ) : Type 0 where
   pub first : a ≡ slot_at s r.first
   pub second : b ≡ slot_at s r.second
   pub mask : m ≡ slot_at s r.mask
   pub output : c ≡ slot_at s r.output
+
+pub lent : (s : List ℕ) (r : Roles) (a b m c : List ℕ) → a ≡ slot_at s r.first → b ≡ slot_at s r.second
+    → m ≡ slot_at s r.mask → c ≡ slot_at s r.output → Lent s r a b m c
+lent s r a b m c p q t u = record { first = p; second = q; mask = t; output = u }
 
 -- they are valid matrices
 pub all_valid : (call : Call) (s : List ℕ) (r : Roles) (a b m c : List ℕ) → Holding s r → Lent s r a b m c

@@ -8,7 +8,10 @@ use mathlib.Core.List.{List}
 use lib.ListN.{length, take, length-take}
 use borrow.Author.Tests.{eqb-false, ne_eqb, le-leb, lt-leb, lt-ltb, le-ltb}
 use Rattle.limits.specs.Limits.{slot_count, max_entries}
-use Rattle.answers.specs.declared.Answer.{Answer}
+use Rattle.std.specs.Prelude.{Ok, Err}
+use Rattle.answers.specs.declared.Refusal.{Refusal}
+use Rattle.answers.specs.declared.Refusal.TheVariants.{InvalidStore}
+use Rattle.answers.specs.Answers.{Answer}
 use Rattle.answers.specs.Refusals.{accepted, refused, insufficient_space, invalid_store}
 use Rattle.conditions.proofs.Tests.{refuted}
 use Rattle.grid.specs.Grid.{Grid}
@@ -52,13 +55,14 @@ use Rattle.store_calls.proofs.Evaluations.{not_empty}
 -- ---- what `check` has found
 
 -- the words are no store
-pub no_store : (s : List ℕ) (end : ℕ) → end ≡ cond (store_valid s) (end_from slot_count s) 0 → end ≡ 0
-    → store_valid s ≡ false
-no_store s end e z =
-    refuted _ (λ t.
-    let l = end_least slot_count s in
-    let q : end ≡ end_from slot_count s = e ∙ rw t in
-    omega arith)
+pub no_store : (s : List ℕ) (r : Refusal) → Err r ≡ cond (store_valid s) (Ok (end_from slot_count s)) (Err InvalidStore)
+    → (store_valid s ≡ false) × (r ≡ InvalidStore)
+no_store s r e = go (store_valid s) refl e
+  where
+    go : (b : Bool) → store_valid s ≡ b → Err r ≡ cond b (Ok (end_from slot_count s)) (Err InvalidStore)
+        → (store_valid s ≡ false) × (r ≡ InvalidStore)
+    go true t q = cc
+    go false t q = (t, cc)
 
 -- they are one
 pub record Found (s : List ℕ) (end : ℕ) : Type 0 where
@@ -66,13 +70,13 @@ pub record Found (s : List ℕ) (end : ℕ) : Type 0 where
   pub store : Store s
   pub ends : end ≡ end_from slot_count s
 
-pub store_found : (s : List ℕ) (end : ℕ) → end ≡ cond (store_valid s) (end_from slot_count s) 0 → (end ≡ 0 → ⊥)
+pub store_found : (s : List ℕ) (end : ℕ) → Ok end ≡ cond (store_valid s) (Ok (end_from slot_count s)) (Err InvalidStore)
     → Found s end
-store_found s end e n = go (store_valid s) refl
+store_found s end e = go (store_valid s) refl e
   where
-    go : (b : Bool) → store_valid s ≡ b → Found s end
-    go true t = record { valid = t; store = store_facts s t; ends = e ∙ rw t }
-    go false t = absurd (n (e ∙ rw t))
+    go : (b : Bool) → store_valid s ≡ b → Ok end ≡ cond b (Ok (end_from slot_count s)) (Err InvalidStore) → Found s end
+    go true t q = record { valid = t; store = store_facts s t; ends = cc }
+    go false t q = cc
 
 -- ---- the operation
 

@@ -5,6 +5,11 @@ use mathlib.Core.Path.{◌≡◌, refl, sym, ap, ◌∙◌}
 use mathlib.Core.Bool.{Bool, cond}
 use mathlib.Core.List.{List, ◌++◌}
 use borrow.Author.Tests.{eq-eqb, ne_eqb}
+use Rattle.std.specs.Prelude.{Result, Ok, Err}
+use Rattle.std.specs.Result.{result_and}
+use Rattle.answers.specs.declared.Refusal.{Refusal}
+use Rattle.answers.specs.Results.{number, code_of}
+use Rattle.answers.proofs.Numbers.{number_not_0}
 use Rattle.operations.specs.declared.Call.{Call}
 use Rattle.refusals.specs.Cases.{Case, first_applying, number_cases, numbers_refusal, first_of}
 use Rattle.refusals.proofs.Cases.{Numbered, applying_first, applying_rest, applying_none}
@@ -28,6 +33,12 @@ applying_append xs ys m = go (ℕ_discrete (first_applying xs) 0)
     go (no n) =
         sym (applying_first xs ys (first_applying xs) refl n)
         ∙ sym (ap (λ (b : Bool). cond b (first_applying ys) (first_applying xs)) (ne_eqb (first_applying xs) 0 n))
+
+-- the first of two refusals, as a number
+pub code_and : (r s : Result (Unit {0}) Refusal) → code_of (result_and r s) ≡ first_of (code_of r) (code_of s)
+code_and (Ok x) s = refl
+code_and (Err e) s =
+    sym (ap (λ (b : Bool). cond b (code_of s) (number e)) (ne_eqb (number e) 0 (number_not_0 e)))
 
 -- ---- 12, 1 and 2, and 13
 

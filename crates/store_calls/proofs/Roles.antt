@@ -5,7 +5,8 @@ use mathlib.Core.Bool.{Bool, true, false, cond, false≢true}
 use mathlib.Core.List.{List}
 use lib.ListN.{length}
 use lib.Dec.{leb, eqb}
-use borrow.Author.Tests.{leb-false}
+use native.Mathlib.Decide.{ℕ_discrete}
+use borrow.Author.Tests.{leb-false, eq-eqb, ne_eqb}
 use Rattle.limits.specs.Limits.{slot_count}
 use Rattle.answers.specs.Refusals.{invalid_store, empty_slot}
 use Rattle.operations.specs.declared.Call.{Call}
@@ -80,12 +81,13 @@ past k = leb slot_count k
 abbrev pub empty : List ℕ → ℕ → Bool
 empty s k = is_vacant (slot_of (model_of s) k)
 
--- as the code sees it in the words x of the slot: none, or some
-pub found_empty : (s x : List ℕ) (k : ℕ) → x ≡ slot_at s k → length x ≡ 0 → empty s k ≡ true
-found_empty s x k e h = vacant_model s k (ap length (sym e) ∙ h)
-
-pub found_held : (s x : List ℕ) (k : ℕ) → x ≡ slot_at s k → (length x ≡ 0 → ⊥) → empty s k ≡ false
-found_held s x k e h = ap is_vacant (holding_model s k (λ z. h (ap length e ∙ z)))
+-- as the code sees it in the words x of the slot: whether there are none
+pub found : (s x : List ℕ) (k : ℕ) (b : Bool) → x ≡ slot_at s k → b ≡ eqb (length x) 0 → empty s k ≡ b
+found s x k b e f = go (ℕ_discrete (length x) 0)
+  where
+    go : Dec (length x ≡ 0) → empty s k ≡ b
+    go (yes z) = vacant_model s k (ap length (sym e) ∙ z) ∙ sym (f ∙ eq-eqb (length x) 0 z)
+    go (no n) = ap is_vacant (holding_model s k (λ z. n (ap length e ∙ z))) ∙ sym (f ∙ ne_eqb (length x) 0 n)
 
 -- where 12 does not apply, each role names a slot
 pub in_store : (r : Roles) → first_applying (role_cases no_slot r) ≡ 0 → InStore r

@@ -1,8 +1,10 @@
 -- The parts of an operation on a store: what each function requires and leaves.
-use Rattle.std.specs.Prelude.{ℕ, ◌≤◌, ◌<◌, ◌≡◌, cond, List, ◌++◌, length, take, leb}
+use Rattle.std.specs.Prelude.{ℕ, ◌≤◌, ◌<◌, ◌≡◌, cond, List, ◌++◌, length, take, leb, Result, Ok, Err}
 use Rattle.limits.specs.Limits.{slot_count, max_entries}
-use Rattle.answers.specs.declared.Answer.{Answer}
+use Rattle.answers.specs.Answers.{Answer}
 use Rattle.answers.specs.Refusals.{accepted, refused, unless_refused, insufficient_space}
+use Rattle.answers.specs.declared.Refusal.{Refusal}
+use Rattle.answers.specs.Results.{number}
 use Rattle.grid.specs.Entries.{entry_count}
 use Rattle.grid.specs.Revision.{updating, revision_after}
 use Rattle.matrix.specs.Layout.{rows, size_of}
@@ -27,8 +29,6 @@ use Rattle.model.specs.Calls.{
   operation_effect,
 }
 use Rattle.store_encoding.specs.Stores.{Effected}
-use Rattle.store_calls.specs.declared.Evaluated.{Evaluated}
-use Rattle.store_calls.specs.declared.Evaluated.TheVariants as evaluated
 
 -- an operation, its numbers and slots decoded
 abbrev pub asked : Call → Roles → List ℕ → List ℕ → ℕ → Operate
@@ -80,9 +80,9 @@ pub record DoneBy (n : ℕ) (m : Model) (o : Operate) (w : List ℕ) : Type 0 wh
   pub few : n ≤ max_entries
   pub written : take (grid_size (operated m o)) w ≡ encode_revised (output_next m o) (operated m o)
 
-abbrev pub Evaluation : Evaluated → Model → Operate → List ℕ → Type 0
-Evaluation (evaluated.Refused code) m o w = RefusedBy code m o
-Evaluation (evaluated.Done n) m o w = DoneBy n m o w
+abbrev pub Evaluation : Result ℕ Refusal → Model → Operate → List ℕ → Type 0
+Evaluation (Ok n) m o w = DoneBy n m o w
+Evaluation (Err r) m o w = RefusedBy (number r) m o
 
 -- slot k holds a matrix, and one of n entries with as many rows is at the front of w
 pub record ToCommit (s : List ℕ) (k end : ℕ) (w : List ℕ) (n : ℕ) : Type 0 where

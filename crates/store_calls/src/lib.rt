@@ -5,17 +5,16 @@
 #![tactic(auto)]
 
 ghost use Rattle.std.specs.Prelude.{◌≡◌, cond, length, replicate};
-ghost use Rattle.answers.specs.Refusals as answers;
-ghost use Rattle.refusals.specs.Cases.{first_applying, first_of};
+ghost use Rattle.answers.specs.Results.{code_of, answer};
+ghost use Rattle.refusals.specs.Cases.{first_applying};
 ghost use Rattle.slots.specs.Facts.{Store};
 ghost use Rattle.model.specs.Effects.{wrote};
 ghost use Rattle.model.specs.Calls.{roles_of, operate, no_slot, no_grid, role_cases};
 ghost use Rattle.store_encoding.specs.Stores.{model_of, Performed};
 ghost use Rattle.store_calls.specs.Attempts.{asked, Operated, roles_refusal, InStore, Holding, Evaluation, ToCommit, Committed};
 
-use answers::{Answer, EMPTY_SLOT, INSUFFICIENT_SPACE, INVALID_STORE, TOO_MANY_ENTRIES};
+use answers::Refusal;
 use call_codes::{Options, Verb};
-use compute::Outcome;
 use limits::SLOTS;
 use matrix::layout::FIXED_WORDS;
 use model::Roles;
@@ -33,9 +32,9 @@ pub fn operate(
     is: &[u32],
     js: &[u32],
     work: &mut [u32],
-) -> Answer
+) -> Result<u32, Refusal>
     ensures { (Performed store.old (operate options verb named is.now js.now
-        (length work.old)) (wrote result) store.new) × (work.new ≡ replicate (length work.old) 0) }
+        (length work.old)) (wrote (answer result)) store.new) × (work.new ≡ replicate (length work.old) 0) }
 {
     operate_with(store, options, verb, named, is, js, work, Engine::ByEntries)
 }
@@ -50,10 +49,10 @@ pub fn operate_with(
     js: &[u32],
     work: &mut [u32],
     engine: Engine,
-) -> Answer
-    ensures fact_1 { Performed store.old (operate options verb named is.now js.now
-        (length work.old)) (wrote result) store.new }
-    ensures fact_2 { work.new ≡ replicate (length work.old) 0 }
+) -> Result<u32, Refusal>
+    ensures performed { Performed store.old (operate options verb named is.now js.now
+        (length work.old)) (wrote (answer result)) store.new }
+    ensures cleared { work.new ≡ replicate (length work.old) 0 }
 {
     let call = call_codes::decode(options, verb);
     let roles = roles_of(call, named);
@@ -65,12 +64,14 @@ pub fn operate_with(
 fn roles_of(call: Call, named: Roles) -> Roles
     ensures { result ≡ roles_of call named }
 {
-    let operation = call.operation;
-    let has_mask = call.has_mask;
     Roles {
         first: named.first,
-        second: choose(requests::has_second(operation), named.second, named.first),
-        mask: choose(has_mask, named.mask, named.output),
+        second: choose(
+            requests::has_second(call.operation),
+            named.second,
+            named.first,
+        ),
+        mask: choose(call.has_mask, named.mask, named.output),
         output: named.output,
     }
 }
@@ -90,101 +91,67 @@ fn attempt(
     js: &[u32],
     work: &mut [u32],
     engine: Engine,
-) -> Answer
+) -> Result<u32, Refusal>
     ensures { Operated store.old (asked call roles is.now js.now
-        (length work.old)) result store.new }
+        (length work.old)) (answer result) store.new }
 {
-    let end = slots::check(&store[..]);
-    if end == 0 {
-        return refused(INVALID_STORE);
-    }
-    let code = roles_refusal(&store[..], call, roles);
-    if code != 0 {
-        return refused(code);
-    }
-    let outcome = evaluate(&store[..], call, roles, is, js, work, engine);
-    match outcome {
-        Evaluated::Refused(x) => refused(x),
-        Evaluated::Done(n) => commit(store, roles.output, end, &work[..], n),
-    }
-}
-
-// The number of entries of the final C, which is at the front of the workspace; or a refusal.
-#[derive(Clone, Copy)]
-pub enum Evaluated {
-    Done(usize),
-    Refused(u32),
+    let end = slots::check(&store[..])?;
+    roles_refusal(&store[..], call, roles)?;
+    let n = evaluate(&store[..], call, roles, is, js, work, engine)?;
+    commit(store, roles.output, end, &work[..], n)
 }
 
 // 12 for slots past the last, 1 and 2, and 13 for empty slots.
-fn roles_refusal(store: &[u32], call: Call, roles: Roles) -> u32
+fn roles_refusal(store: &[u32], call: Call, roles: Roles) -> Result<(), Refusal>
     requires { Store store.now }
-    ensures { result ≡ roles_refusal (model_of store.now) call roles }
+    ensures { code_of result ≡ roles_refusal (model_of store.now) call roles }
 {
-    let past = slots_refusal(roles);
-    if past != 0 {
-        return past;
-    }
-    let number = requests::numbers_refusal(call);
-    let vacancy = vacancy_refusal(store, roles);
-    first_of(number, vacancy)
-}
-
-// The first refusal that is one.
-fn first_of(first: u32, later: u32) -> u32
-    ensures { result ≡ first_of first later }
-{
-    if first != 0 {
-        return first;
-    }
-    later
+    slots_refusal(roles)?;
+    requests::numbers_refusal(call).and(vacancy_refusal(store, roles))
 }
 
 // 12: a slot past the last.
-fn slots_refusal(roles: Roles) -> u32
-    ensures { result ≡ first_applying (role_cases no_slot roles) }
+fn slots_refusal(roles: Roles) -> Result<(), Refusal>
+    ensures { code_of result ≡ first_applying (role_cases no_slot roles) }
 {
-    let first = roles.first;
-    if SLOTS <= first {
-        return INVALID_STORE;
+    if SLOTS <= roles.first {
+        return Err(Refusal::InvalidStore);
     }
-    let second = roles.second;
-    if SLOTS <= second {
-        return INVALID_STORE;
+    if SLOTS <= roles.second {
+        return Err(Refusal::InvalidStore);
     }
-    let mask = roles.mask;
-    if SLOTS <= mask {
-        return INVALID_STORE;
+    if SLOTS <= roles.mask {
+        return Err(Refusal::InvalidStore);
     }
-    let output = roles.output;
-    if SLOTS <= output {
-        return INVALID_STORE;
+    if SLOTS <= roles.output {
+        return Err(Refusal::InvalidStore);
     }
-    0
+    Ok(())
 }
 
 // 13: an empty slot.
-fn vacancy_refusal(store: &[u32], roles: Roles) -> u32
-    requires fact_1 { Store store.now }
-    requires fact_2 { InStore roles }
-    ensures { result ≡ first_applying (role_cases (no_grid (model_of store.now)) roles) }
+fn vacancy_refusal(store: &[u32], roles: Roles) -> Result<(), Refusal>
+    requires store { Store store.now }
+    requires roles { InStore roles }
+    ensures { code_of result ≡ first_applying (role_cases (no_grid (model_of store.now)) roles) }
 {
-    if slots::contents(store, roles.first).len() == 0 {
-        return EMPTY_SLOT;
+    if slots::contents(store, roles.first).is_empty() {
+        return Err(Refusal::EmptySlot);
     }
-    if slots::contents(store, roles.second).len() == 0 {
-        return EMPTY_SLOT;
+    if slots::contents(store, roles.second).is_empty() {
+        return Err(Refusal::EmptySlot);
     }
-    if slots::contents(store, roles.mask).len() == 0 {
-        return EMPTY_SLOT;
+    if slots::contents(store, roles.mask).is_empty() {
+        return Err(Refusal::EmptySlot);
     }
-    if slots::contents(store, roles.output).len() == 0 {
-        return EMPTY_SLOT;
+    if slots::contents(store, roles.output).is_empty() {
+        return Err(Refusal::EmptySlot);
     }
-    0
+    Ok(())
 }
 
-// The final C from the slots, which are only read, with the revision after that of C.
+// The final C from the slots, which are only read, at the front of the workspace, with the revision after that of C: the
+// number of its entries, or a refusal.
 fn evaluate(
     store: &[u32],
     call: Call,
@@ -193,9 +160,9 @@ fn evaluate(
     js: &[u32],
     work: &mut [u32],
     engine: Engine,
-) -> Evaluated
-    requires fact_1 { Store store.now }
-    requires fact_2 { Holding store.now roles }
+) -> Result<usize, Refusal>
+    requires store { Store store.now }
+    requires holding { Holding store.now roles }
     ensures { Evaluation result (model_of store.now)
         (asked call roles is.now js.now (length work.old)) work.new }
 {
@@ -203,40 +170,27 @@ fn evaluate(
     let b = slots::contents(store, roles.second);
     let mask = slots::contents(store, roles.mask);
     let c = slots::contents(store, roles.output);
-    let code = requests::agreement_refusal(call, a, b, mask, c, is, js, work.len());
-    if code != 0 {
-        return Evaluated::Refused(code);
-    }
-    match compute::compute(call, a, b, mask, c, is, js, work, engine) {
-        Outcome::Full => Evaluated::Refused(TOO_MANY_ENTRIES),
-        Outcome::Done(n) => {
-            matrix::set_revision(work, matrix::next_revision(matrix::revision(c)));
-            Evaluated::Done(n)
-        }
-    }
+    requests::agreement_refusal(call, a, b, mask, c, is, js, work.len())?;
+    let n = compute::compute(call, a, b, mask, c, is, js, work, engine)?;
+    matrix::set_revision(work, matrix::next_revision(matrix::revision(c)));
+    Ok(n)
 }
 
 // The matrix of n entries at the front of the workspace takes the place of a slot's, if there is room.
-fn commit(store: &mut [u32], slot: usize, end: usize, work: &[u32], n: usize) -> Answer
+fn commit(
+    store: &mut [u32],
+    slot: usize,
+    end: usize,
+    work: &[u32],
+    n: usize,
+) -> Result<u32, Refusal>
     requires { ToCommit store.old slot end work.now n }
-    ensures { Committed store.old slot work.now n result store.new }
+    ensures { Committed store.old slot work.now n (answer result) store.new }
 {
     let rows = matrix::row_count(slots::contents(&store[..], slot)) as usize;
     let size = rows + n + n + FIXED_WORDS;
     if !slots::put(store, slot, end, &work[..size]) {
-        return refused(INSUFFICIENT_SPACE);
+        return Err(Refusal::InsufficientSpace);
     }
-    Answer {
-        code: 0,
-        entries: n as u32,
-    }
-}
-
-fn refused(code: u32) -> Answer
-    ensures { result ≡ answers.refused code }
-{
-    Answer {
-        code: code,
-        entries: 0,
-    }
+    Ok(n as u32)
 }

@@ -1,4 +1,5 @@
 -- How many entries the grid of a matrix has when one cell is changed, and the size of its writing.
+use Rattle.std.proofs.Common.{None, Some}
 use Prim.Native.Nat.{ℕ, ◌+◌, ◌<◌}
 use native.Mathlib.Omega.{arith}
 use native.Mathlib.Decide.{ℕ_discrete}
@@ -6,8 +7,7 @@ use mathlib.Core.Path.{◌≡◌, refl, sym, ap, ◌∙◌}
 use mathlib.Core.List.{List, ◌++◌, append-nil}
 use lib.ListN.{length, drop}
 use lib.Seq.{drop-length}
-use Rattle.grid.specs.declared.Cell.{Cell}
-use Rattle.grid.specs.declared.Cell.TheVariants.{Absent, Present}
+use Rattle.grid.specs.Cell.{Cell}
 use Rattle.grid.specs.Grid.{Grid}
 use Rattle.grid.specs.Entries.{column, entry_count}
 use Rattle.grid.specs.Position.{AbsentAt, PresentAt}
@@ -39,35 +39,35 @@ module _ {x : List ℕ} {i j : ℕ} (m : InMatrix x i j) (p : ℕ) where
       omega (arith, with_count (grid_of x) i j c m.row m.col, valid_entries x (in_valid m))
 
   pub replaced_count : PresentAt (grid_of x) i j p → (v : ℕ)
-      → entry_count (with_cell (grid_of x) i j (Present v)) ≡ entries x
-  replaced_count e v = omega (arith, change (Present v), ap cell_count e.cell)
+      → entry_count (with_cell (grid_of x) i j (Some v)) ≡ entries x
+  replaced_count e v = omega (arith, change (Some v), ap cell_count e.cell)
 
   pub added_count : AbsentAt (grid_of x) i j p → (v : ℕ)
-      → entry_count (with_cell (grid_of x) i j (Present v)) ≡ entries x + 1
-  added_count e v = omega (arith, change (Present v), ap cell_count e.cell)
+      → entry_count (with_cell (grid_of x) i j (Some v)) ≡ entries x + 1
+  added_count e v = omega (arith, change (Some v), ap cell_count e.cell)
 
   pub taken_count : PresentAt (grid_of x) i j p
-      → entry_count (with_cell (grid_of x) i j Absent) + 1 ≡ entries x
-  taken_count e = omega (arith, change Absent, ap cell_count e.cell)
+      → entry_count (with_cell (grid_of x) i j None) + 1 ≡ entries x
+  taken_count e = omega (arith, change None, ap cell_count e.cell)
 
   pub cleared_count : AbsentAt (grid_of x) i j p
-      → entry_count (with_cell (grid_of x) i j Absent) ≡ entries x
-  cleared_count e = omega (arith, change Absent, ap cell_count e.cell)
+      → entry_count (with_cell (grid_of x) i j None) ≡ entries x
+  cleared_count e = omega (arith, change None, ap cell_count e.cell)
 
 -- a cell that is cleared and was empty: the writing is the same
 pub cleared_same : (v : ℕ) (g : Grid) (i j p : ℕ) → AbsentAt g i j p
-    → encode_revised v (with_cell g i j Absent) ≡ encode_revised v g
+    → encode_revised v (with_cell g i j None) ≡ encode_revised v g
 cleared_same v g i j p e =
-    encode_ext v (with_cell g i j Absent) g (record { rows = refl; cols = refl; cell = λ r c l m. cell_same r c })
+    encode_ext v (with_cell g i j None) g (record { rows = refl; cols = refl; cell = λ r c l m. cell_same r c })
   where
-    cell_same : (r c : ℕ) → (with_cell g i j Absent).cell r c ≡ g.cell r c
+    cell_same : (r c : ℕ) → (with_cell g i j None).cell r c ≡ g.cell r c
     cell_same r c = go (ℕ_discrete r i) (ℕ_discrete c j)
       where
-        go : Dec (r ≡ i) → Dec (c ≡ j) → (with_cell g i j Absent).cell r c ≡ g.cell r c
+        go : Dec (r ≡ i) → Dec (c ≡ j) → (with_cell g i j None).cell r c ≡ g.cell r c
         go (yes d) (yes f) =
-            rw (d, f) (changed_here g i j Absent ∙ sym e.cell)
-        go (yes d) (no f) = changed_other g i j Absent r c (λ a b. f b)
-        go (no d) f = changed_other g i j Absent r c (λ a b. d a)
+            rw (d, f) (changed_here g i j None ∙ sym e.cell)
+        go (yes d) (no f) = changed_other g i j None r c (λ a b. f b)
+        go (no d) f = changed_other g i j None r c (λ a b. d a)
 
 -- a writing that fills its words leaves none of the old ones
 pub whole : (v : ℕ) (g : Grid) (y : List ℕ) → grid_size g ≡ length y → written_revised v g y ≡ encode_revised v g

@@ -1,14 +1,16 @@
 -- A cell of a slot changed in place: the words that are lent, and the store when they are back.
+use Rattle.std.proofs.Common.{Some}
 use Prim.Native.Nat.{ℕ, ◌+◌, ◌-◌, ◌≤◌, ◌<◌}
 use native.Mathlib.Omega.{arith}
 use mathlib.Core.Path.{◌≡◌, refl, sym, ap, ◌∙◌}
 use mathlib.Core.List.{List, ◌++◌}
+use mathlib.Core.Bool.{Bool, true}
+use lib.Dec.{leb}
 use lib.ListN.{length, length-append}
 use borrow.Rule.Slice.PartMut.{put_mid}
 use Rattle.limits.specs.Limits.{slot_count, max_entries}
 use Rattle.answers.specs.Refusals.{accepted, refused, too_many_entries, insufficient_space}
 use Rattle.words.specs.Words.{part}
-use Rattle.grid.specs.declared.Cell.TheVariants.{Present}
 use Rattle.grid.specs.declared.EntryAt.{EntryAt}
 use Rattle.grid.specs.declared.EntryAt.TheVariants as entry
 use Rattle.grid.specs.Grid.{Grid}
@@ -30,6 +32,7 @@ use Rattle.store_cells.specs.Slots.{CellOf, slot_grid, slot_with, slot_next}
 use Rattle.store_cells.proofs.Counts.{replaced_count, added_count, whole}
 use Rattle.store_cells.proofs.Rewritten.{put_same, part_lent, part_back}
 use Rattle.store_cells.proofs.Grown.{held_in, grown_in, grown_absent, grown_space, grown_written}
+use Rattle.store_cells.proofs.Checks.{fit}
 use Rattle.store_cells.proofs.Outcomes.{placed_many, placed_no_room, placed_written}
 
 -- ---- what is known of a slot
@@ -91,11 +94,11 @@ module _ {s : List ℕ} {k i j : ℕ} (h : CellOf s k i j) where
 module _ {s : List ℕ} {k i j : ℕ} (h : CellOf s k i j) (p v : ℕ)
     (e : PresentAt (slot_grid s k) i j p) where
   abbrev g₁ : Grid
-  g₁ = slot_with s k i j (Present v)
+  g₁ = slot_with s k i j (Some v)
 
   pub replaced_placed : (a n m : ℕ) (x : List ℕ) → a ≡ end_from k s + 1 → n ≡ length (slot_at s k)
       → m ≡ entries (slot_at s k)
-      → x ≡ updated (part a (a + n) s) i j (Present v)
+      → x ≡ updated (part a (a + n) s) i j (Some v)
       → Placed s k (slot_next s k) g₁ (accepted m) (put_mid a (a + n - a) s x)
   replaced_placed a n m x b d q w =
       let y = slot_at s k in
@@ -106,7 +109,7 @@ module _ {s : List ℕ} {k i j : ℕ} (h : CellOf s k i j) (p v : ℕ)
       let r : grid_size g₁ ≡ length y = omega arith in
       let u = slot_next s k in
       let t : x ≡ encode_revised u g₁ =
-      w ∙ ap (λ (z : List ℕ). updated z i j (Present v)) (slot_lent h a n b d) ∙ whole u g₁ y r in
+      w ∙ ap (λ (z : List ℕ). updated z i j (Some v)) (slot_lent h a n b d) ∙ whole u g₁ y r in
       let z = ap length t ∙ encode_length u g₁ in
       placed_written h.store h.slot u g₁ (omega arith) m _ (omega arith) (q ∙ sym c)
       (slot_back h a n x b d (z ∙ r) ∙ ap (slot_put s k) t)
@@ -115,7 +118,7 @@ module _ {s : List ℕ} {k i j : ℕ} (h : CellOf s k i j) (p v : ℕ)
 module _ {s : List ℕ} {k i j : ℕ} (h : CellOf s k i j) (p v : ℕ)
     (e : AbsentAt (slot_grid s k) i j p) where
   abbrev g₂ : Grid
-  g₂ = slot_with s k i j (Present v)
+  g₂ = slot_with s k i j (Some v)
 
   -- the size of the grid with the cell
   added_size : grid_size g₂ ≡ length (slot_at s k) + 2
@@ -144,6 +147,27 @@ pub record Adding (s : List ℕ) (k i j p end n a : ℕ) (u : List ℕ) : Type 0
   pub fits : Fits s k end (n + 2)
   pub from : a ≡ end_from k s + 1
   pub words : u ≡ resized s k (n + 2)
+
+pub adding : {s : List ℕ} {k i j p end n b : ℕ} {u : List ℕ} → CellOf s k i j → AbsentAt (slot_grid s k) i j p
+    → entries (slot_at s k) < max_entries → n ≡ length (slot_at s k) → Fits s k end (n + 2) → b ≡ end_from k s
+    → u ≡ resized s k (n + 2) → Adding s k i j p end n (b + 1) u
+adding h e m l f q w =
+    record { cell = h; absent = e; few = m; long = l; fits = f; from = ap (λ (a : ℕ). a + 1) q; words = w }
+
+-- by what the code has found: m entries, which are not the most, and that the words fit
+pub adding_fits : {s : List ℕ} {k i j end size : ℕ} {b : Bool} → CellOf s k i j → end ≡ end_from slot_count s
+    → b ≡ leb (end - count_at s k + size) (length s) → b ≡ true → Fits s k end size
+adding_fits {s} {k} {i} {j} {end} {size} h e f t = record {
+  sections = h.store.sections;
+  most = h.store.most;
+  slot = h.slot;
+  ends = e;
+  room = fit s k end size f t;
+}
+
+pub few_yet : {s : List ℕ} {k i j m : ℕ} → CellOf s k i j → m ≡ entries (slot_at s k) → (m ≡ max_entries → ⊥)
+    → entries (slot_at s k) < max_entries
+few_yet h e f = let m = h.held.matrix.header.few in omega arith
 
 module _ {s : List ℕ} {k i j p end n a : ℕ} {u : List ℕ} (r : Adding s k i j p end n a u) where
   abbrev new : List ℕ
@@ -185,15 +209,15 @@ module _ {s : List ℕ} {k i j p end n a : ℕ} {u : List ℕ} (r : Adding s k i
 
   -- the store when they are back
   pub added_placed : (v m : ℕ) (x : List ℕ) → m ≡ entries (slot_at s k) + 1
-      → x ≡ updated (part a (a + (n + 2)) u) i j (Present v)
-      → Placed s k (slot_next s k) (slot_with s k i j (Present v)) (accepted m) (put_mid a (a + (n + 2) - a) u x)
+      → x ≡ updated (part a (a + (n + 2)) u) i j (Some v)
+      → Placed s k (slot_next s k) (slot_with s k i j (Some v)) (accepted m) (put_mid a (a + (n + 2) - a) u x)
   added_placed v m x d w =
       let h = r.cell in
       let e = r.absent in
-      let g = slot_with s k i j (Present v) in
+      let g = slot_with s k i j (Some v) in
       let f = slot_next s k in
       let t : x ≡ encode_revised f g =
-      w ∙ ap (λ (z : List ℕ). updated z i j (Present v)) lent_is
+      w ∙ ap (λ (z : List ℕ). updated z i j (Some v)) lent_is
       ∙ grown_written h.held h.row h.col behind two p v e in
       let l = r.long in
       let y = added_size h p v e in

@@ -1,5 +1,6 @@
 -- A matrix with words behind it: the same grid. It is what a slot holds when it was resized for one entry more.
-use Prim.Native.Nat.{ℕ, ◌+◌, ◌<◌}
+use Rattle.std.proofs.Common.{Some}
+use Prim.Native.Nat.{ℕ, ◌<◌}
 use native.Mathlib.Omega.{arith}
 use mathlib.Core.Path.{◌≡◌, sym, ap, ◌∙◌, subst}
 use mathlib.Core.Bool.{true, cond}
@@ -7,8 +8,7 @@ use mathlib.Core.List.{List, ◌++◌}
 use lib.ListN.{length, length-append}
 use lib.Dec.{eqb}
 use Rattle.limits.specs.Limits.{max_entries}
-use Rattle.grid.specs.declared.Cell.{Cell}
-use Rattle.grid.specs.declared.Cell.TheVariants.{Present}
+use Rattle.grid.specs.Cell.{Cell}
 use Rattle.grid.specs.Grid.{Grid, Same}
 use Rattle.grid.specs.Position.{AbsentAt}
 use Rattle.grid.specs.Update.{with_cell}
@@ -94,13 +94,13 @@ module _ {x : List ℕ} {i j : ℕ} (h : Held x) (l : i < rows x) (m : j < cols 
 
       -- and when it is put in, the writing fills the words
       pub grown_written : (p v : ℕ) → AbsentAt (grid_of x) i j p
-          → updated y i j (Present v)
-          ≡ encode_revised (revision_after updating (revision x)) (with_cell (grid_of x) i j (Present v))
+          → updated y i j (Some v)
+          ≡ encode_revised (revision_after updating (revision x)) (with_cell (grid_of x) i j (Some v))
       grown_written p v e =
-          let g : Grid = with_cell (grid_of y) i j (Present v) in
-          let g' : Grid = with_cell (grid_of x) i j (Present v) in
+          let g : Grid = with_cell (grid_of y) i j (Some v) in
+          let g' : Grid = with_cell (grid_of x) i j (Some v) in
           let u = revision_after updating (revision x) in
-          let f = same_with (grid_of y) (grid_of x) i j (Present v) grown_same in
+          let f = same_with (grid_of y) (grid_of x) i j (Some v) grown_same in
           let q : encode_revised u g ≡ encode_revised u g' = encode_ext u g g' f in
           let c = added_count held_in p e v in
           let a = encode_length u g in

@@ -9,7 +9,7 @@ use mathlib.Core.List.{List, []}
 use lib.ListN.{length}
 use borrow.Author.Tests.{le-leb, lt-leb, lt-ltb, le-ltb, eq-eqb, ne_eqb, eqb-false}
 use Rattle.limits.specs.Limits.{slot_count, max_entries}
-use Rattle.answers.specs.declared.Answer.{Answer}
+use Rattle.answers.specs.Answers.{Answer}
 use Rattle.answers.specs.Refusals.{accepted, refused, unless_refused, too_many_entries, insufficient_space, invalid_store}
 use Rattle.words.specs.Words.{part}
 use Rattle.words.proofs.Parts.{part_empty}

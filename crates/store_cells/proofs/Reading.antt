@@ -7,7 +7,7 @@ use native.Mathlib.Omega.{arith}
 use native.Mathlib.Decide.{ℕ_discrete}
 use borrow.Author.Tests.{eq-eqb, ne_eqb}
 use Rattle.limits.specs.Limits.{slot_count, max_entries}
-use Rattle.answers.specs.declared.CellAnswer.{CellAnswer}
+use Rattle.answers.specs.Answers.{CellAnswer}
 use Rattle.answers.specs.Refusals.{invalid_store}
 use Rattle.answers.specs.Reads.{found_answer, refused_read}
 use Rattle.grid.specs.Position.{entry_at}

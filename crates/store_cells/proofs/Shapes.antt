@@ -1,10 +1,9 @@
 -- An empty matrix in a slot: 12, 8 and 11 as the code reaches them, and the call.
-use Prim.Native.Nat.{ℕ, ◌+◌, ◌≤◌, ◌<◌}
-use native.Mathlib.Omega.{arith}
+use Prim.Native.Nat.{ℕ, ◌≤◌, ◌<◌}
 use mathlib.Core.Path.{◌≡◌, refl, sym, ap, subst, ◌∙◌}
-use mathlib.Core.Bool.{Bool, true, false, cond}
+use mathlib.Core.Bool.{Bool, true, false}
 use mathlib.Core.List.{List, [], ◌∷◌, ◌++◌}
-use lib.ListN.{length, take, drop}
+use lib.ListN.{length, take}
 use lib.Seq.{take_at}
 use borrow.Author.Tests.{le-leb, lt-leb, lt-ltb, le-ltb, leb-true, leb-false, not-false, eqb-false}
 use Rattle.conditions.specs.Tests.{◌and◌}
@@ -20,10 +19,8 @@ use Rattle.grid.proofs.Counts.{empty_count}
 use Rattle.encoding.specs.Encode.{encode}
 use Rattle.encoding.proofs.Canonical.{encode_length}
 use Rattle.refusals.proofs.Cases.{later, applying_first, applying_rest}
-use Rattle.slots.specs.Sections.{end_from}
 use Rattle.slots.specs.Valid.{store_valid}
 use Rattle.slots.specs.Room.{words_with, Filled}
-use Rattle.slots.proofs.Facts.{store_facts}
 use Rattle.model.specs.Model.{holding, needed_with}
 use Rattle.model.specs.Effects.{wrote}
 use Rattle.model.specs.Calls.{new_empty, shape_cases, no_room, effect}

@@ -1,4 +1,5 @@
 -- A cell of a slot cleared: its words are changed in place, and then the slot gives two of them up.
+use Rattle.std.proofs.Common.{None}
 use Prim.Native.Nat.{ℕ, ◌+◌, ◌-◌, ◌≤◌}
 use native.Mathlib.Omega.{arith}
 use mathlib.Core.Path.{◌≡◌, sym, ap, ◌∙◌}
@@ -7,10 +8,9 @@ use lib.ListN.{length, take, drop, length-append, length-drop, length-set}
 use lib.Seq.{take_at, drop-length}
 use borrow.Rule.Slice.PartMut.{put_mid}
 use Rattle.limits.specs.Limits.{slot_count}
-use Rattle.answers.specs.declared.Answer.{Answer}
+use Rattle.answers.specs.Answers.{Answer}
 use Rattle.answers.specs.Refusals.{accepted}
 use Rattle.words.specs.Words.{part}
-use Rattle.grid.specs.declared.Cell.TheVariants.{Absent}
 use Rattle.grid.specs.Grid.{Grid}
 use Rattle.grid.specs.Position.{AbsentAt, PresentAt}
 use Rattle.matrix.specs.Layout.{entries}
@@ -34,11 +34,17 @@ pub record Removed (s : List ℕ) (k i j p end n a : ℕ) (x : List ℕ) : Type 
   pub ends : end ≡ end_from slot_count s
   pub long : n ≡ length (slot_at s k)
   pub from : a ≡ end_from k s + 1
-  pub words : x ≡ updated (part a (a + n) s) i j Absent
+  pub words : x ≡ updated (part a (a + n) s) i j None
+
+pub removed : {s : List ℕ} {k i j p end n b : ℕ} {x : List ℕ} → CellOf s k i j → PresentAt (slot_grid s k) i j p
+    → end ≡ end_from slot_count s → n ≡ length (slot_at s k) → b ≡ end_from k s
+    → x ≡ updated (part (b + 1) (b + 1 + n) s) i j None → Removed s k i j p end n (b + 1) x
+removed h p e l f w =
+    record { cell = h; present = p; ends = e; long = l; from = ap (λ (a : ℕ). a + 1) f; words = w }
 
 module _ {s : List ℕ} {k i j p end n a : ℕ} {x : List ℕ} (r : Removed s k i j p end n a x) where
   abbrev g : Grid
-  g = slot_with s k i j Absent
+  g = slot_with s k i j None
 
   taken_size : grid_size g + 2 ≡ length (slot_at s k)
   taken_size = let l = r.cell.held.whole in omega (arith, taken_count (slot_in r.cell) p r.present)
@@ -48,7 +54,7 @@ module _ {s : List ℕ} {k i j p end n a : ℕ} {x : List ℕ} (r : Removed s k 
 
   taken_is : x ≡ written_revised v g (slot_at s k)
   taken_is =
-      r.words ∙ ap (λ (z : List ℕ). updated z i j Absent) (slot_lent r.cell a n r.from r.long)
+      r.words ∙ ap (λ (z : List ℕ). updated z i j None) (slot_lent r.cell a n r.from r.long)
 
   taken_long : length x ≡ length (slot_at s k)
   taken_long =

@@ -1,10 +1,9 @@
 -- What the functions on one slot require, and what they leave.
-use Rattle.std.specs.Prelude.{ℕ, ◌≤◌, ◌<◌, ◌≡◌, List}
+use Rattle.std.specs.Prelude.{ℕ, ◌≤◌, ◌<◌, ◌≡◌, List, None, Some}
 use Rattle.limits.specs.Limits.{slot_count, max_rows}
-use Rattle.answers.specs.declared.Answer.{Answer}
+use Rattle.answers.specs.Answers.{Answer}
 use Rattle.answers.specs.Refusals.{accepted}
-use Rattle.grid.specs.declared.Cell.{Cell}
-use Rattle.grid.specs.declared.Cell.TheVariants.{Absent, Present}
+use Rattle.grid.specs.Cell.{Cell}
 use Rattle.grid.specs.Grid.{Grid}
 use Rattle.grid.specs.Entries.{entry_count}
 use Rattle.grid.specs.Update.{with_cell}
@@ -63,7 +62,7 @@ pub record Put (s : List ℕ) (k v : ℕ) (g : Grid) (answer : Answer) (s' : Lis
 
 -- a cell of slot k set, unless by 10 or 11; and cleared, which nothing refuses
 abbrev pub CellSet : List ℕ → ℕ → ℕ → ℕ → ℕ → Answer → List ℕ → Type 0
-CellSet s k i j v answer s' = Placed s k (slot_next s k) (slot_with s k i j (Present v)) answer s'
+CellSet s k i j v answer s' = Placed s k (slot_next s k) (slot_with s k i j (Some v)) answer s'
 
 abbrev pub CellCleared : List ℕ → ℕ → ℕ → ℕ → Answer → List ℕ → Type 0
-CellCleared s k i j answer s' = Put s k (slot_next s k) (slot_with s k i j Absent) answer s'
+CellCleared s k i j answer s' = Put s k (slot_next s k) (slot_with s k i j None) answer s'

@@ -1,6 +1,6 @@
 -- What inner functions of the store's calls leave: a grid put into a slot, with revision v. No public contract cites these.
 use Rattle.std.specs.Prelude.{ℕ, ◌≡◌, List, length, set}
-use Rattle.answers.specs.declared.Answer.{Answer}
+use Rattle.answers.specs.Answers.{Answer}
 use Rattle.answers.specs.Refusals.{unless_refused}
 use Rattle.grid.specs.Grid.{Grid}
 use Rattle.encoding.specs.Encode.{encode_revised}

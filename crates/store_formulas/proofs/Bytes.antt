@@ -1,19 +1,20 @@
 -- 13: the slots that the digits of a text name.
-use Prim.Native.Nat.{ℕ, zero, suc, ◌+◌, ◌-◌, ◌≤◌, ◌<◌}
+use Prim.Native.Nat.{ℕ, zero, suc, ◌-◌, ◌≤◌, ◌<◌}
 use native.Mathlib.Omega.{arith}
+use native.Mathlib.Decide.{dec_le}
 use mathlib.Core.Path.{◌≡◌, refl, sym, ap, ◌∙◌}
-use mathlib.Core.Bool.{Bool, true, false, cond, false≢true}
+use mathlib.Core.Bool.{Bool, true, false, cond, not, false≢true}
 use mathlib.Core.List.{List, [], ◌∷◌}
-use lib.ListN.{length, get_or, drop}
-use lib.Seq.{drop-length}
+use lib.ListN.{length, get_or}
 use lib.Dec.{eqb}
-use borrow.Author.Tests.{le-leb, lt-leb, eq-eqb, ne_eqb, eqb-false}
+use borrow.Author.Tests.{not-true, not-false, le-leb, lt-leb, eqb-false}
+use Rattle.std.specs.Bool.{MatchBool}
+use Rattle.std.specs.List.{AllWithin, HoldsAt}
 use Rattle.conditions.specs.Tests.{◌and◌}
 use Rattle.matrix.specs.Layout.{revision, grid_of}
 use Rattle.slots.specs.Sections.{slot_at}
 use Rattle.slots.specs.Facts.{Held, Store}
 use Rattle.slots.proofs.Facts.{held_facts}
-use Rattle.formula_texts.proofs.Joined.{at_byte}
 use Rattle.formula_values.specs.Values.{worth, fails, disagree}
 use Rattle.formula_evaluation.specs.Evaluating.{slot_worth}
 use Rattle.model.specs.Model.{vacant, holding, Model, slot_of, is_vacant}
@@ -42,27 +43,31 @@ slot_worth_is s n = ap slot_value (slot_model s n) ∙ worth_by (eqb (length (sl
 -- ---- one byte: the answers of `byte_held`
 module _ (s : List ℕ) (c : ℕ) where
   -- below the digits
-  pub byte_low : c < 48 → vacant_byte (model_of s) c ≡ false
+  byte_low : c < 48 → vacant_byte (model_of s) c ≡ false
   unfolding ◌and◌
   byte_low l = rw (lt-leb 48 c l) refl
 
   -- above 7
-  pub byte_high : 48 ≤ c → 55 < c → vacant_byte (model_of s) c ≡ false
+  byte_high : 48 ≤ c → 55 < c → vacant_byte (model_of s) c ≡ false
   unfolding ◌and◌
   byte_high l h = rw (le-leb 48 c l, lt-leb c 55 h) refl
+
+  -- no digit 0 to 7
+  pub byte_other : (48 ≤ c → c ≤ 55 → ⊥) → vacant_byte (model_of s) c ≡ false
+  byte_other n = go (dec_le 48 c)
+    where
+      go : Dec (48 ≤ c) → vacant_byte (model_of s) c ≡ false
+      go (yes l) = byte_high l (omega (arith, n l))
+      go (no l) = byte_low (omega arith)
 
   -- a digit: its slot tells
   digit_is : 48 ≤ c → c ≤ 55 → vacant_byte (model_of s) c ≡ is_vacant (slot_of (model_of s) (c - 48))
   unfolding ◌and◌
   digit_is l h = rw (le-leb 48 c l, le-leb c 55 h) refl
 
-  -- which is empty
-  pub byte_empty : 48 ≤ c → c ≤ 55 → length (slot_at s (c - 48)) ≡ 0 → vacant_byte (model_of s) c ≡ true
-  byte_empty l h z = digit_is l h ∙ vacant_is s (c - 48) ∙ eq-eqb (length (slot_at s (c - 48))) 0 z
-
-  -- which holds a matrix
-  pub byte_held : 48 ≤ c → c ≤ 55 → (length (slot_at s (c - 48)) ≡ 0 → ⊥) → vacant_byte (model_of s) c ≡ false
-  byte_held l h z = digit_is l h ∙ vacant_is s (c - 48) ∙ ne_eqb (length (slot_at s (c - 48))) 0 z
+  -- it is vacant where the slot has no words
+  pub byte_digit : 48 ≤ c → c ≤ 55 → vacant_byte (model_of s) c ≡ eqb (length (slot_at s (c - 48))) 0
+  byte_digit l h = digit_is l h ∙ vacant_is s (c - 48)
 
   -- a digit that names no empty slot names a matrix: for `evaluable_lent`
   pub names_held : Store s → 48 ≤ c → c ≤ 55 → vacant_byte (model_of s) c ≡ false → Held (slot_at s (c - 48))
@@ -70,31 +75,35 @@ module _ (s : List ℕ) (c : ℕ) where
       held_facts (slot_at s (c - 48)) (h.contents (c - 48) (omega arith))
       (eqb-false (length (slot_at s (c - 48))) 0 (sym (digit_is l m ∙ vacant_is s (c - 48)) ∙ e))
 
--- ---- all bytes: the loop of `all_held`
+-- ---- all bytes: `all_held`
 module _ (m : Model) where
-  -- a first byte, and the others
-  names_cons : (c : ℕ) (x : List ℕ) → names_vacant m (c ∷ x) ≡ cond (vacant_byte m c) true (names_vacant m x)
+  -- no byte names an empty slot
+  names_none : (text : List ℕ) → ((k : ℕ) → k < length text → vacant_byte m (get_or text k 0) ≡ false)
+      → names_vacant m text ≡ false
   unfolding names_vacant
-  names_cons c x = refl
+  names_none [] h = refl
+  names_none (c ∷ x) h =
+      let e : vacant_byte m c ≡ false = h 0 (omega arith) in
+      rw e (names_none x (λ k l. h (suc k) (omega arith)))
 
-  -- byte k names no empty slot: the others tell
-  pub names_next : (text : List ℕ) (k : ℕ) → k < length text → vacant_byte m (get_or text k 0) ≡ false
-      → names_vacant m (drop k text) ≡ names_vacant m (drop (k + 1) text)
-  names_next text k l e =
-      ap (names_vacant m) (at_byte text k (get_or text k 0) l refl) ∙ names_cons (get_or text k 0) (drop (k + 1) text)
-      ∙ ap (λ (b : Bool). cond b true (names_vacant m (drop (k + 1) text))) e
-
-  -- it names one
-  pub names_found : (text : List ℕ) (k : ℕ) → k < length text → vacant_byte m (get_or text k 0) ≡ true
-      → names_vacant m (drop k text) ≡ true
-  names_found text k l e =
-      ap (names_vacant m) (at_byte text k (get_or text k 0) l refl) ∙ names_cons (get_or text k 0) (drop (k + 1) text)
-      ∙ ap (λ (b : Bool). cond b true (names_vacant m (drop (k + 1) text))) e
-
-  -- no bytes are left
-  pub names_none : (text : List ℕ) (k : ℕ) → k ≡ length text → names_vacant m (drop k text) ≡ false
+  -- byte k does
+  names_some : (text : List ℕ) (k : ℕ) → k < length text → vacant_byte m (get_or text k 0) ≡ true
+      → names_vacant m text ≡ true
   unfolding names_vacant
-  names_none text k e = ap (λ (i : ℕ). names_vacant m (drop i text)) e ∙ ap (names_vacant m) (drop-length text)
+  names_some [] k l e = absurd (omega arith)
+  names_some (c ∷ x) zero l e = rw e refl
+  names_some (c ∷ x) (suc k) l e = by (vacant_byte m c) (names_some x k (omega arith) e)
+    where
+      by : (b : Bool) → names_vacant m x ≡ true → cond b true (names_vacant m x) ≡ true
+      by true h = refl
+      by false h = h
+
+  pub all_tell : (text : List ℕ) (r : Bool)
+      → MatchBool r (AllWithin (λ x. true ≡ not (vacant_byte m x)) text 0 (length text))
+      ((k : ℕ) × (k < length text) × HoldsAt (λ x. false ≡ not (vacant_byte m x)) text k)
+      → r ≡ not (names_vacant m text)
+  all_tell text true h = sym (ap not (names_none text (λ k l. not-true _ (sym (h k 0 (omega arith) l)))))
+  all_tell text false h = sym (ap not (names_some text h.0 h.1 (not-false _ (sym (h.2 0)))))
 
   -- where the text names no empty slot, none of its bytes does
   pub all_named : (text : List ℕ) → names_vacant m text ≡ false → (p : ℕ) → p < length text

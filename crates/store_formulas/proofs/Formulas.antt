@@ -1,5 +1,5 @@
 -- A formula on any words, from what its code has found: no store, a refusal, or the result in its slot.
-use Prim.Native.Nat.{ℕ, ◌+◌, ◌≤◌, ◌<◌}
+use Prim.Native.Nat.{ℕ, ◌≤◌, ◌<◌}
 use native.Mathlib.Omega.{arith}
 use native.Mathlib.Decide.{dec_le}
 use mathlib.Core.Path.{◌≡◌, refl, sym, ap, ◌∙◌}
@@ -11,16 +11,14 @@ use borrow.Author.Tests.{eqb-false, le-leb, lt-leb, lt-ltb, le-ltb, ltb-false, l
 use Rattle.conditions.specs.Tests.{◌and◌}
 use Rattle.conditions.proofs.Tests.{and_left, and_right}
 use Rattle.limits.specs.Limits.{slot_count, min_stack_words}
-use Rattle.answers.specs.declared.Answer.{Answer}
+use Rattle.std.specs.Prelude.{Result, Ok, Err, None, Option, Some, is_some}
+use Rattle.answers.specs.declared.Refusal.{Refusal}
+use Rattle.answers.specs.Answers.{Answer}
 use Rattle.answers.specs.Refusals.{accepted, refused, insufficient_space}
 use Rattle.operators.specs.declared.BinaryOp.{BinaryOp}
 use Rattle.operators.specs.declared.Monoid.{Monoid}
-use Rattle.operator_codes.specs.declared.MonoidCode.{MonoidCode}
-use Rattle.operator_codes.specs.declared.MonoidCode.TheVariants as monoid_code
-use Rattle.operator_codes.specs.declared.BinaryCode.{BinaryCode}
-use Rattle.operator_codes.specs.declared.BinaryCode.TheVariants as binary_code
 use Rattle.operator_codes.specs.Codes.{monoid_numbered, binary_numbered}
-use Rattle.call_codes.specs.Decoding.{monoid_known, monoid_of, binary_known, binary_of}
+use Rattle.call_codes.specs.Decoding.{monoid_of, binary_of}
 use Rattle.grid.specs.Grid.{Grid}
 use Rattle.grid.specs.Entries.{entry_count}
 use Rattle.encoding.specs.Encode.{encode, grid_size}
@@ -50,8 +48,6 @@ use Rattle.formula_values.specs.Values.{
   product_of,
   formula_value,
 }
-use Rattle.formula_evaluation.specs.declared.Evaluated.{Evaluated}
-use Rattle.formula_evaluation.specs.declared.Evaluated.TheVariants.{Ends, Missing, Refused}
 use Rattle.formula_evaluation.specs.Evaluating.{slot_worth, formula_worth, Standing, Lent, Evaluates}
 use Rattle.model.specs.Model.{Model, slot_of, holding, put, needed_with}
 use Rattle.model.specs.Effects.{wrote}
@@ -94,26 +90,26 @@ worth_model add mul s f =
 
 module _ {s : List ℕ} {monoid op : ℕ} {text w : List ℕ} (h : Evaluable s monoid op text w) where
   -- the numbers are known
-  pub monoid_known_lem : monoid_numbered monoid ≡ monoid_code.Unknown → ⊥
-  monoid_known_lem e = false≢true (sym (ap monoid_known e) ∙ and_left _ _ h.known)
+  pub monoid_known_lem : monoid_numbered monoid ≡ None → ⊥
+  monoid_known_lem e = false≢true (sym (ap is_some e) ∙ and_left _ _ h.known)
 
-  pub binary_known_lem : binary_numbered op ≡ binary_code.Unknown → ⊥
-  binary_known_lem e = false≢true (sym (ap binary_known e) ∙ and_right _ _ h.known)
+  pub binary_known_lem : binary_numbered op ≡ None → ⊥
+  binary_known_lem e = false≢true (sym (ap is_some e) ∙ and_right _ _ h.known)
 
-  module _ {add : Monoid} {mul : BinaryOp} (p : monoid_numbered monoid ≡ monoid_code.Known add)
-      (q : binary_numbered op ≡ binary_code.Known mul) where
+  module _ {add : Monoid} {mul : BinaryOp} (p : monoid_numbered monoid ≡ Some add)
+      (q : binary_numbered op ≡ Some mul) where
     -- the value of the text is that of its tree
     value_is : (f : Formula) → reading text ≡ read_as f → value_on s monoid op text ≡ formula_worth add mul s f
     value_is f e =
         ap (read_value (monoid_of (monoid_numbered monoid)) (binary_of (binary_numbered op))
         (λ n. slot_value (slot_of (model_of s) n))) e
-        ∙ ap (λ (x : MonoidCode). formula_value (monoid_of x) (binary_of (binary_numbered op))
+        ∙ ap (λ (x : Option Monoid). formula_value (monoid_of x) (binary_of (binary_numbered op))
         (λ n. slot_value (slot_of (model_of s) n)) f) p
-        ∙ ap (λ (x : BinaryCode). formula_value add (binary_of x) (λ n. slot_value (slot_of (model_of s) n)) f) q
+        ∙ ap (λ (x : Option BinaryOp). formula_value add (binary_of x) (λ n. slot_value (slot_of (model_of s) n)) f) q
         ∙ worth_model add mul s f
 
     -- what `formula_evaluation::formula` leaves is that value
-    pub evaluated : (w' : List ℕ) (o : Evaluated)
+    pub evaluated : (w' : List ℕ) (o : Result ℕ Refusal)
         → Evaluates Within FormulaStops before (formula_worth add mul s) text 0 3 w' o
         → Valued (value_on s monoid op text) w' o
     evaluated w' o e = by o e
@@ -130,13 +126,11 @@ module _ {s : List ℕ} {monoid op : ℕ} {text w : List ℕ} (h : Evaluable s m
         v : value_on s monoid op text ≡ formula_worth add mul s r.0
         v = value_is r.0 r.1
 
-        by : (o : Evaluated) → Evaluates Within FormulaStops before (formula_worth add mul s) text 0 3 w' o
+        by : (o : Result ℕ Refusal) → Evaluates Within FormulaStops before (formula_worth add mul s) text 0 3 w' o
             → Valued (value_on s monoid op text) w' o
-        by (Ends k) e =
+        by (Ok k) e =
             let x = e.result r.0 [] R.within ((tt, tt), tt) bytes in (x.grid, v ∙ x.value_is, x.standing)
-        by Missing e = e.result r.0 [] R.within ((tt, tt), tt) bytes
-        by (Refused k) e =
-            let x = e.result r.0 [] R.within ((tt, tt), tt) bytes in (x.0 ∙ ap value_code (sym v), x.1)
+        by (Err why) e = e.result r.0 [] R.within ((tt, tt), tt) bytes ∙ ap value_code (sym v)
 
 -- ---- the early refusals
 -- of five tests the first that is true
@@ -173,7 +167,7 @@ module _ (m : Model) (x : FormulaCall) where
   past = leb slot_count x.target
 
   abbrev unknown : Bool
-  unknown = not (monoid_known (monoid_numbered x.monoid) and binary_known (binary_numbered x.op))
+  unknown = not (is_some (monoid_numbered x.monoid) and is_some (binary_numbered x.op))
 
   abbrev other : Bool
   other = not (reader.accepted x.text)
@@ -193,11 +187,11 @@ module _ (m : Model) (x : FormulaCall) where
     here = lt-leb slot_count x.target l
 
     -- 2
-    pub early_numbers : (monoid_known (monoid_numbered x.monoid) and binary_known (binary_numbered x.op)) ≡ false
+    pub early_numbers : (is_some (monoid_numbered x.monoid) and is_some (binary_numbered x.op)) ≡ false
         → 2 ≡ first_applying (early_cases m x)
     early_numbers e = second_of_five past unknown other empty short here (ap not e)
 
-    module _ (k : (monoid_known (monoid_numbered x.monoid) and binary_known (binary_numbered x.op)) ≡ true) where
+    module _ (k : (is_some (monoid_numbered x.monoid) and is_some (binary_numbered x.op)) ≡ true) where
       -- 14
       pub early_text : reader.accepted x.text ≡ false → 14 ≡ first_applying (early_cases m x)
       early_text e = third_of_five past unknown other empty short here (ap not k) (ap not e)
@@ -244,11 +238,6 @@ module _ (s : List ℕ) (x : FormulaCall) where
   abbrev late : List Case
   late = step_cases v ++ (no_room (length s) m k (value_grid v) ∷ [])
 
-  -- the same answer by another name
-  pub formula_by : (answer a : Answer) (s' : List ℕ) → answer ≡ a → Performed s (formula x) (wrote a) s'
-      → Performed s (formula x) (wrote answer) s'
-  formula_by answer a s' e r = record { answer_is = ap wrote e ∙ r.answer_is; words_are = r.words_are }
-
   -- 12 of the words
   pub formula_no_store : store_valid s ≡ false → Performed s (formula x) (wrote (refused 12)) s
   unfolding effect
@@ -268,18 +257,18 @@ module _ (s : List ℕ) (x : FormulaCall) where
       rest_is = applying_rest (early_cases m x) late (refl, (refl, (refl, (refl, (refl, tt))))) z
 
       -- what is known where none applies
-      pub record None : Type 0 where
+      pub record NoneApplies : Type 0 where
         pub slot : k < slot_count
-        pub known : (monoid_known (monoid_numbered x.monoid) and binary_known (binary_numbered x.op)) ≡ true
+        pub known : (is_some (monoid_numbered x.monoid) and is_some (binary_numbered x.op)) ≡ true
         pub language : reader.accepted x.text ≡ true
         pub held : names_vacant m x.text ≡ false
         pub space : min_stack_words ≤ x.stack
 
-      pub none : None
+      pub none : NoneApplies
       none =
           let h₁ = later (leb slot_count k) 12 _ refl z in
           let h₂ =
-          later (not (monoid_known (monoid_numbered x.monoid) and binary_known (binary_numbered x.op))) 2 _ refl
+          later (not (is_some (monoid_numbered x.monoid) and is_some (binary_numbered x.op))) 2 _ refl
           h₁.rest in
           let h₃ = later (not (reader.accepted x.text)) 14 _ refl h₂.rest in
           let h₄ = later (names_vacant m x.text) 13 _ refl h₃.rest in

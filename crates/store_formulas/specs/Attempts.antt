@@ -1,8 +1,29 @@
 -- The parts of a formula over a store: what each function requires and leaves.
-use Rattle.std.specs.Prelude.{ℕ, ◌≤◌, ◌<◌, ◌≡◌, true, false, cond, not, List, [], ◌∷◌, length, leb, ltb}
+use Rattle.std.specs.Prelude.{
+  ℕ,
+  ◌≤◌,
+  ◌<◌,
+  ◌≡◌,
+  true,
+  false,
+  cond,
+  not,
+  List,
+  [],
+  ◌∷◌,
+  length,
+  leb,
+  ltb,
+  Result,
+  Ok,
+  Err,
+  is_some,
+}
 use Rattle.conditions.specs.Tests.{◌and◌}
 use Rattle.limits.specs.Limits.{slot_count, min_stack_words}
-use Rattle.answers.specs.declared.Answer.{Answer}
+use Rattle.answers.specs.Answers.{Answer}
+use Rattle.answers.specs.declared.Refusal.{Refusal}
+use Rattle.answers.specs.Results.{number}
 use Rattle.answers.specs.Refusals.{
   accepted,
   refused,
@@ -16,15 +37,13 @@ use Rattle.grid.specs.Grid.{Grid}
 use Rattle.grid.specs.Entries.{entry_count}
 use Rattle.encoding.specs.Encode.{encode, grid_size}
 use Rattle.operator_codes.specs.Codes.{monoid_numbered, binary_numbered}
-use Rattle.call_codes.specs.Decoding.{monoid_known, monoid_of, binary_known, binary_of}
+use Rattle.call_codes.specs.Decoding.{monoid_of, binary_of}
 use Rattle.refusals.specs.Cases.{Case, given}
 use Rattle.slots.specs.Sections.{end_from}
 use Rattle.slots.specs.Facts.{Store}
 use Rattle.slots.specs.Room.{slot_put, words_with}
 use Rattle.formula_texts.specs.Reader.{accepted as inLanguage}
 use Rattle.formula_values.specs.Values.{Value, worth, value_code}
-use Rattle.formula_evaluation.specs.declared.Evaluated.{Evaluated}
-use Rattle.formula_evaluation.specs.declared.Evaluated.TheVariants.{Ends, Missing, Refused}
 use Rattle.formula_evaluation.specs.Evaluating.{Standing}
 use Rattle.model.specs.Model.{Model}
 use Rattle.model.specs.Formulas.{text_value, names_vacant}
@@ -53,16 +72,15 @@ value_on s monoid op text =
 -- none of the early refusals applies
 pub record Evaluable (s : List ℕ) (monoid op : ℕ) (text w : List ℕ) : Type 0 where
   pub store : Store s
-  pub known : (monoid_known (monoid_numbered monoid) and binary_known (binary_numbered op)) ≡ true
+  pub known : (is_some (monoid_numbered monoid) and is_some (binary_numbered op)) ≡ true
   pub language : inLanguage text ≡ true
   pub held : names_vacant (model_of s) text ≡ false
   pub space : min_stack_words ≤ length w
 
 -- the value is a grid, at the front; or a failing step's refusal
-abbrev pub Valued : Value → List ℕ → Evaluated → Type 0
-Valued v w (Ends q) = (g : Grid) × (v ≡ worth g) × Standing g w
-Valued v w Missing = ⊥
-Valued v w (Refused k) = (k ≡ value_code v) × (k ≡ 0 → ⊥)
+abbrev pub Valued : Value → List ℕ → Result ℕ Refusal → Type 0
+Valued v w (Ok q) = (g : Grid) × (v ≡ worth g) × Standing g w
+Valued v w (Err e) = number e ≡ value_code v
 
 -- a grid stands at the front of w, for slot k
 pub record ToCommit (s : List ℕ) (k end : ℕ) (w : List ℕ) : Type 0 where

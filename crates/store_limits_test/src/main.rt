@@ -78,7 +78,7 @@ fn shortest(rt: &impl Print) -> io::Result<()> {
 fn drop_in(rt: &impl Print, words: &mut [u32], n: usize) -> io::Result<()> {
     if n <= words.len() {
         let r = store_cells::drop_slot(&mut words[..n], 7);
-        test_support::print_pair(rt, b"drop: ", r.code, r.entries)?;
+        test_support::print_pair(rt, b"drop: ", test_support::code(r), test_support::value(r))?;
     }
     Ok(())
 }
@@ -126,10 +126,10 @@ fn fill(rt: &impl Print, store: &mut [u32], slot: usize, n: u32) -> io::Result<(
 }
 
 fn put_entry(rt: &impl Print, store: &mut [u32], slot: usize, k: u32) -> io::Result<()> {
-    let i = std::num::wrapping_add_u32(488, k / 4);
+    let i = 488u32.wrapping_add(k / 4);
     let r = store_cells::set_cell(store, slot, i, k % 4, k);
-    if r.code != 0 {
-        test_support::print_pair(rt, b"set: ", r.code, r.entries)?;
+    if r.is_err() {
+        test_support::print_pair(rt, b"set: ", test_support::code(r), test_support::value(r))?;
     }
     Ok(())
 }

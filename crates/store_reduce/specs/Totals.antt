@@ -1,6 +1,6 @@
 -- What is answered of a slot of a store, once the slot and the monoid are known.
 use Rattle.std.specs.Prelude.{ℕ, List, cond, length, eqb}
-use Rattle.answers.specs.declared.NumberAnswer.{NumberAnswer}
+use Rattle.answers.specs.Answers.{NumberAnswer}
 use Rattle.answers.specs.Refusals.{empty_slot}
 use Rattle.answers.specs.Numbers.{number_answer, refused_number}
 use Rattle.operators.specs.declared.Monoid.{Monoid}

@@ -37,28 +37,58 @@ fn stored_cells(rt: &impl Print) -> io::Result<()> {
     clear(rt, &mut store, 1)?;
     test_support::heading(rt, b"read, total, refused lay, lay, drop")?;
     let read = store_cells::read_cell(&store, 0, 0, 0);
-    report_slot(rt, read.code, read.value, &store)?;
+    report_slot(
+        rt,
+        test_support::code(read),
+        test_support::cell_value(read).unwrap_or(0),
+        &store,
+    )?;
     let total = store_reduce::reduce(&store, 0, 3);
-    report_slot(rt, total.code, total.value, &store)?;
+    report_slot(
+        rt,
+        test_support::code(total),
+        test_support::value(total),
+        &store,
+    )?;
     lay_slot(rt, &mut store, 0)?;
     lay_slot(rt, &mut store, 1)?;
     let dropped = store_cells::drop_slot(&mut store, 0);
-    report_slot(rt, dropped.code, dropped.entries, &store)
+    report_slot(
+        rt,
+        test_support::code(dropped),
+        test_support::value(dropped),
+        &store,
+    )
 }
 
 fn lay_slot(rt: &impl Print, store: &mut [u32], rows: u32) -> io::Result<()> {
     let r = store_cells::new_empty(store, 0, rows, 1);
-    report_slot(rt, r.code, r.entries, &store[..])
+    report_slot(
+        rt,
+        test_support::code(r),
+        test_support::value(r),
+        &store[..],
+    )
 }
 
 fn set(rt: &impl Print, store: &mut [u32], j: u32) -> io::Result<()> {
     let r = store_cells::set_cell(store, 0, 0, j, 5);
-    report_slot(rt, r.code, r.entries, &store[..])
+    report_slot(
+        rt,
+        test_support::code(r),
+        test_support::value(r),
+        &store[..],
+    )
 }
 
 fn clear(rt: &impl Print, store: &mut [u32], j: u32) -> io::Result<()> {
     let r = store_cells::clear_cell(store, 0, 0, j);
-    report_slot(rt, r.code, r.entries, &store[..])
+    report_slot(
+        rt,
+        test_support::code(r),
+        test_support::value(r),
+        &store[..],
+    )
 }
 
 // Each operation with slot 0 in every role: one is added, once.
@@ -95,8 +125,7 @@ fn perform_in(rt: &impl Print, verb: Verb, store: &mut [u32], work: &mut [u32]) 
     let options = Options {
         flags: 0,
         has_mask: true,
-        has_accumulator: false,
-        accumulator: 9,
+        accumulator: None,
     };
     let roles = Roles {
         first: 0,
@@ -105,7 +134,12 @@ fn perform_in(rt: &impl Print, verb: Verb, store: &mut [u32], work: &mut [u32]) 
         output: 0,
     };
     let r = store_calls::operate(store, options, verb, roles, &[0], &[0], work);
-    report_slot(rt, r.code, r.entries, &store[..])
+    report_slot(
+        rt,
+        test_support::code(r),
+        test_support::value(r),
+        &store[..],
+    )
 }
 
 // A formula over its own slot: refused, it stays; the copy starts at 0.
@@ -121,5 +155,10 @@ fn formulas(rt: &impl Print) -> io::Result<()> {
 
 fn formula(rt: &impl Print, text: &[u8], store: &mut [u32], stack: &mut [u32]) -> io::Result<()> {
     let r = store_formulas::formula(store, 0, 3, 5, text, stack);
-    report_slot(rt, r.code, r.entries, &store[..])
+    report_slot(
+        rt,
+        test_support::code(r),
+        test_support::value(r),
+        &store[..],
+    )
 }

@@ -18,13 +18,12 @@ fn main(rt: HostRuntime) -> io::Result<()> {
     refusals_in_order(&rt, &mut work)
 }
 
-// No mask and no accumulator: the number 9 is not looked at.
+// No mask and no accumulator.
 fn plain(flags: u32) -> Options {
     Options {
         flags: flags,
         has_mask: false,
-        has_accumulator: false,
-        accumulator: 9,
+        accumulator: None,
     }
 }
 
@@ -32,8 +31,7 @@ fn masked(flags: u32) -> Options {
     Options {
         flags: flags,
         has_mask: true,
-        has_accumulator: false,
-        accumulator: 9,
+        accumulator: None,
     }
 }
 
@@ -59,7 +57,14 @@ fn product(
 ) -> io::Result<()> {
     let named = roles(a, b, mask, c);
     let r = store_calls::operate(store, options, Verb::Mxm(3, 5), named, &[], &[], work);
-    done(rt, b"mxm", r.code, r.entries, &store[..], &work[..])
+    done(
+        rt,
+        b"mxm",
+        test_support::code(r),
+        test_support::value(r),
+        &store[..],
+        &work[..],
+    )
 }
 
 fn union(
@@ -74,7 +79,14 @@ fn union(
 ) -> io::Result<()> {
     let named = roles(a, b, 9, c);
     let r = store_calls::operate(store, options, Verb::EwiseAdd(op), named, &[], &[], work);
-    done(rt, b"ewise_add", r.code, r.entries, &store[..], &work[..])
+    done(
+        rt,
+        b"ewise_add",
+        test_support::code(r),
+        test_support::value(r),
+        &store[..],
+        &work[..],
+    )
 }
 
 fn intersection(
@@ -89,7 +101,14 @@ fn intersection(
 ) -> io::Result<()> {
     let named = roles(a, b, 9, c);
     let r = store_calls::operate(store, options, Verb::EwiseMult(op), named, &[], &[], work);
-    done(rt, b"ewise_mult", r.code, r.entries, &store[..], &work[..])
+    done(
+        rt,
+        b"ewise_mult",
+        test_support::code(r),
+        test_support::value(r),
+        &store[..],
+        &work[..],
+    )
 }
 
 fn vector_product(
@@ -103,7 +122,14 @@ fn vector_product(
 ) -> io::Result<()> {
     let named = roles(u, a, 9, c);
     let r = store_calls::operate(store, options, Verb::Vxm(3, 5), named, &[], &[], work);
-    done(rt, b"vxm", r.code, r.entries, &store[..], &work[..])
+    done(
+        rt,
+        b"vxm",
+        test_support::code(r),
+        test_support::value(r),
+        &store[..],
+        &work[..],
+    )
 }
 
 fn apply(
@@ -127,7 +153,14 @@ fn apply(
         &[],
         work,
     );
-    done(rt, b"apply", r.code, r.entries, &store[..], &work[..])
+    done(
+        rt,
+        b"apply",
+        test_support::code(r),
+        test_support::value(r),
+        &store[..],
+        &work[..],
+    )
 }
 
 fn extract(
@@ -141,7 +174,14 @@ fn extract(
 ) -> io::Result<()> {
     let named = roles(a, 9, 9, c);
     let r = store_calls::operate(store, plain(0), Verb::Extract, named, is, js, work);
-    done(rt, b"extract", r.code, r.entries, &store[..], &work[..])
+    done(
+        rt,
+        b"extract",
+        test_support::code(r),
+        test_support::value(r),
+        &store[..],
+        &work[..],
+    )
 }
 
 // The same with the first n words of the workspace.

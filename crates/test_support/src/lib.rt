@@ -2,6 +2,8 @@
 
 #![tactic(auto)]
 
+use answers::Refusal;
+use grid::EntryAt;
 use std::io;
 
 // The word at k, or 0 past the end.
@@ -28,16 +30,10 @@ fn build_columns(words: &mut [u32], at: usize, entries: usize, last_row: usize) 
 
 fn build_shape(words: &mut [u32], r: u32, c: u32) {
     put_words(words, 0, &[1, 0, 2, r, c]);
-    put(words, 5, std::num::wrapping_add_u32(r, 1));
+    put(words, 5, r.wrapping_add(1));
     let rows = r as usize;
     put_run(words, 6, rows, 0, 4294967295);
-    put_run(
-        words,
-        std::num::wrapping_sub_usize(rows, 506),
-        512,
-        4,
-        4294967295,
-    );
+    put_run(words, rows.wrapping_sub(506), 512, 4, 4294967295);
 }
 
 // The words of a matrix of revision 0, from its shape and its three lists.
@@ -72,7 +68,7 @@ fn put_words(words: &mut [u32], at: usize, list: &[u32]) {
 }
 
 pub fn past(a: usize, b: usize) -> usize {
-    std::num::wrapping_add_usize(a, b)
+    a.wrapping_add(b)
 }
 
 // n words from `at` on: 0, step, 2 * step and so on, starting again after `last`.
@@ -83,7 +79,7 @@ pub fn put_run(words: &mut [u32], at: usize, n: usize, step: u32, last: u32) {
         if word == last {
             word = 0;
         } else {
-            word = std::num::wrapping_add_u32(word, step);
+            word = word.wrapping_add(step);
         }
     }
 }
@@ -156,4 +152,33 @@ pub fn all_zero(words: &[u32]) -> bool {
         }
     }
     true
+}
+
+// The code of what a call gives: 0, or the number of the refusal.
+pub fn code<T: Copy>(outcome: Result<T, Refusal>) -> u32 {
+    match outcome {
+        Ok(_) => 0,
+        Err(refusal) => refusal.number(),
+    }
+}
+
+// The number that a call gives, or 0.
+pub fn value(outcome: Result<u32, Refusal>) -> u32 {
+    outcome.unwrap_or(0)
+}
+
+// The value of a cell that is read, if there is one.
+pub fn cell_value(outcome: Result<EntryAt, Refusal>) -> Option<u32> {
+    match outcome {
+        Ok(EntryAt::Present { value, position: _ }) => Some(value),
+        _ => None,
+    }
+}
+
+// The position of a cell that is read, or 0.
+pub fn cell_position(outcome: Result<EntryAt, Refusal>) -> u32 {
+    match outcome {
+        Ok(entry) => grid::position_of(entry),
+        Err(_) => 0,
+    }
 }

@@ -1,12 +1,12 @@
 -- How long a text is: no longer than `max_text_bytes`.
+use Rattle.std.proofs.Common.{None, Some}
 use Prim.Native.Nat.{ℕ, zero, suc, ◌+◌, ◌*◌, ◌^◌, ◌≤◌, ◌<◌}
 use native.Mathlib.Omega.{arith}
 use mathlib.Core.Path.{◌≡◌, refl}
 use mathlib.Core.List.{List, append-nil}
 use lib.ListN.{length, length-append}
 use Rattle.limits.specs.Limits.{max_rows, max_cols}
-use Rattle.grid.specs.declared.Cell.{Cell}
-use Rattle.grid.specs.declared.Cell.TheVariants.{Absent, Present}
+use Rattle.grid.specs.Cell.{Cell}
 use Rattle.grid.specs.Entries.{column, one, gather, flatten, entry_count}
 use Rattle.matrix.specs.Layout.{rows, cols, cell_of, grid_of}
 use Rattle.matrix.specs.Facts.{Matrix}
@@ -47,13 +47,13 @@ entry_most i j v h k l =
 
 -- 20 bytes for each entry: of a cell, of a row, of several rows
 module _ (i : ℕ) (h : i < max_rows) where
-  cell_most : (j : ℕ) (x : Cell) → j < max_cols → ((v : ℕ) → x ≡ Present v → v < 2 ^ 32)
+  cell_most : (j : ℕ) (x : Cell) → j < max_cols → ((v : ℕ) → x ≡ Some v → v < 2 ^ 32)
       → length (joined (one (entry_line i) j x)) ≤ length (one column j x) * 20
   unfolding joined one
-  cell_most j Absent k w = omega arith
-  cell_most j (Present v) k w = rw (append-nil (entry_line i j v)) (entry_most i j v h k (w v refl))
+  cell_most j None k w = omega arith
+  cell_most j (Some v) k w = rw (append-nil (entry_line i j v)) (entry_most i j v h k (w v refl))
 
-  row_most : (n : ℕ) (row : ℕ → Cell) → n ≤ max_cols → ((j v : ℕ) → j < n → row j ≡ Present v → v < 2 ^ 32)
+  row_most : (n : ℕ) (row : ℕ → Cell) → n ≤ max_cols → ((j v : ℕ) → j < n → row j ≡ Some v → v < 2 ^ 32)
       → length (row_text n i row) ≤ length (gather column n row) * 20
   unfolding gather joined
   row_most zero row k w = omega arith
@@ -65,7 +65,7 @@ module _ (i : ℕ) (h : i < max_rows) where
       rw (joined_append (gather (entry_line i) n row) (one (entry_line i) n (row n))) (omega arith)
 
 rows_most : (n : ℕ) (cell : ℕ → ℕ → Cell) (r : ℕ) → r ≤ max_rows → n ≤ max_cols
-    → ((i j v : ℕ) → i < r → j < n → cell i j ≡ Present v → v < 2 ^ 32)
+    → ((i j v : ℕ) → i < r → j < n → cell i j ≡ Some v → v < 2 ^ 32)
     → length (rows_text n cell r) ≤ length (flatten column n cell r) * 20
 unfolding flatten rows_text
 rows_most n cell zero h k w = omega arith

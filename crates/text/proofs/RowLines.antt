@@ -1,4 +1,5 @@
 -- The lines of a row in words are those of its cells.
+use Rattle.std.proofs.Common.{None, Some}
 use Prim.Native.Nat.{ℕ, zero, suc, ◌+◌, ◌≤◌, ◌<◌}
 use native.Mathlib.Omega.{arith}
 use native.Mathlib.Numerals.{add-one}
@@ -7,8 +8,7 @@ use mathlib.Core.List.{List, [], ◌∷◌, ◌++◌, append-nil, append_assoc}
 use lib.ListN.{length, length-append, get_or-append}
 use lib.Seq.{get_or_at}
 use Rattle.words.specs.Words.{at}
-use Rattle.grid.specs.declared.Cell.{Cell}
-use Rattle.grid.specs.declared.Cell.TheVariants.{Absent, Present}
+use Rattle.grid.specs.Cell.{Cell}
 use Rattle.grid.specs.Entries.{column, value, one, gather}
 use Rattle.rows.specs.Row.{lookup}
 use Rattle.rows.proofs.Lookup.{rising_row, gather_row, gather_lookup_columns, gather_lookup_values}
@@ -48,9 +48,9 @@ lines_more : (i n : ℕ) (cols vals : List ℕ) (x : Cell) → length vals ≡ l
     → lines_to i (cols ++ one column n x) (vals ++ one value n x) (length (cols ++ one column n x))
     ≡ lines_to i cols vals (length cols) ++ joined (one (entry_line i) n x)
 unfolding one joined
-lines_more i n cols vals Absent e =
+lines_more i n cols vals None e =
     rw (append-nil cols, append-nil vals, append-nil (lines_to i cols vals (length cols)))
-lines_more i n cols vals (Present v) e =
+lines_more i n cols vals (Some v) e =
     let k : length (cols ++ (n ∷ [])) ≡ length cols + 1 = length-append cols (n ∷ []) in
     ap (lines_to i (cols ++ (n ∷ [])) (vals ++ (v ∷ []))) k
     ∙ lines_next i (cols ++ (n ∷ [])) (vals ++ (v ∷ [])) (length cols)

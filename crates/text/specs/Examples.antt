@@ -1,7 +1,6 @@
 -- Texts, computed: document 01's strip, two rows with values at both ends of the range, a grid without entries.
-use Rattle.std.specs.Prelude.{◌≡◌, refl, [], ◌∷◌, ◌++◌, length}
+use Rattle.std.specs.Prelude.{◌≡◌, refl, [], ◌∷◌, ◌++◌, length, Some}
 use Rattle.twos_complement.specs.TwosComplement.{signed}
-use Rattle.grid.specs.declared.Cell.TheVariants.{Present}
 use Rattle.grid.specs.Grid.{Grid, empty_grid}
 use Rattle.grid.specs.Entries.{one, gather, flatten}
 use Rattle.grid.specs.Update.{with_cell}
@@ -10,7 +9,7 @@ use Rattle.text.specs.Text.{entry_line, joined, rows_text, text_of}
 
 -- 1 by 4 with 10, 20 and 40 at columns 0, 1 and 3
 abbrev strip : Grid
-strip = with_cell (with_cell (with_cell (empty_grid 1 4) 0 0 (Present 10)) 0 1 (Present 20)) 0 3 (Present 40)
+strip = with_cell (with_cell (with_cell (empty_grid 1 4) 0 0 (Some 10)) 0 1 (Some 20)) 0 3 (Some 40)
 
 -- "1 4 3", "0 0 10", "0 1 20", "0 3 40"
 strip_text : text_of strip
@@ -21,7 +20,7 @@ strip_text = refl
 
 -- -1 at (0, 1) and 0 at (1, 0): the first row's line comes first, though its column is the later one.
 -- "2 2 2", "0 1 -1", "1 0 0"
-rows_first : text_of (with_cell (with_cell (empty_grid 2 2) 1 0 (Present 0)) 0 1 (Present 4294967295))
+rows_first : text_of (with_cell (with_cell (empty_grid 2 2) 1 0 (Some 0)) 0 1 (Some 4294967295))
     ≡ (50 ∷ 32 ∷ 50 ∷ 32 ∷ 50 ∷ 10 ∷ []) ++ ((48 ∷ 32 ∷ 49 ∷ 32 ∷ 45 ∷ 49 ∷ 10 ∷ [])
     ++ (49 ∷ 32 ∷ 48 ∷ 32 ∷ 48 ∷ 10 ∷ []))
 unfolding joined rows_text flatten gather one digits signed

@@ -1,15 +1,17 @@
 -- A matrix as text (document 02, A1): "a line "R C N", then a line "row column value" for each entry in order, signed
 -- decimals, each line ended by a newline byte".
 use Rattle.std.specs.Prelude.{ℕ, zero, suc, ◌+◌, ◌*◌, ◌≡◌, refl, List, [], ◌∷◌, ◌++◌, cond, length, drop, leb, eqb}
+use Rattle.std.specs.Prelude.{Result, Ok, Err}
 use Rattle.limits.specs.Limits.{max_entries}
+use Rattle.answers.specs.declared.Refusal.{Refusal}
 use Rattle.answers.specs.Refusals.{invalid_first, insufficient_space}
-use Rattle.grid.specs.declared.Cell.{Cell}
+use Rattle.answers.specs.Results.{number}
+use Rattle.grid.specs.Cell.{Cell}
 use Rattle.grid.specs.Grid.{Grid}
 use Rattle.grid.specs.Entries.{gather, entry_count}
 use Rattle.matrix.specs.Layout.{grid_of}
 use Rattle.matrix.specs.Valid.{valid}
 use Rattle.decimals.specs.Decimal.{decimal, signed_decimal}
-use Rattle.text.specs.declared.TextAnswer.{TextAnswer}
 
 abbrev pub newline : ℕ
 newline = 10
@@ -53,6 +55,16 @@ max_text_bytes = 15 + max_entries * 20
 
 largest_text : max_text_bytes ≡ 40975
 largest_text = refl
+
+-- 0 and how many bytes were written, or a refusal code and 0
+pub record TextAnswer : Type 0 where
+  pub code : ℕ
+  pub length : ℕ
+
+-- that, from what the writer of a text gives
+abbrev pub text_result : Result ℕ Refusal → TextAnswer
+text_result (Ok n) = record { code = 0; length = n }
+text_result (Err r) = record { code = number r; length = 0 }
 
 -- What the writer of a text answers: 3 where the words are no valid matrix; 11 where the buffer is shorter than the
 -- largest text; else 0 and how many bytes were written.

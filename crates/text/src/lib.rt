@@ -7,56 +7,39 @@ ghost use Rattle.std.specs.Prelude.{◌≡◌, ◌+◌, ◌≤◌, length};
 ghost use Rattle.matrix.specs.Layout.{rows, cols, cell_of, grid_of};
 ghost use Rattle.matrix.specs.Facts.{Matrix};
 ghost use Rattle.append.specs.Appended.{Appended};
-ghost use Rattle.text.specs.Text.{entry_line, rows_text, text_of, max_text_bytes, TextWritten};
+ghost use Rattle.text.specs.Text.{entry_line, rows_text, text_of, max_text_bytes, text_result, TextWritten};
 ghost use Rattle.text.specs.Lines.{lines_to};
 
-use answers::{INSUFFICIENT_SPACE, INVALID_FIRST};
+use answers::Refusal;
 use limits::MAX_ENTRIES;
 
 // The bytes of the largest text: "1000 1000 2048" and 2,048 lines such as "100 100 -2147483648".
 pub const MAX_TEXT_BYTES: usize = 15 + MAX_ENTRIES as usize * 20;
 
-const NEWLINE: u8 = 10;
+const NEWLINE: u8 = b'\n';
 
-const SPACE: u8 = 32;
+const SPACE: u8 = b' ';
 
-// 0 and how many bytes were written, or a refusal code and 0.
-#[derive(Clone, Copy)]
-pub struct TextAnswer {
-    pub code: u32,
-    pub length: u32,
-}
-
-// The text of a matrix at the front of the buffer; what lies behind it stays. INVALID_FIRST where the words are no
-// valid matrix, INSUFFICIENT_SPACE where the buffer is shorter than MAX_TEXT_BYTES.
-pub fn write_text(words: &[u32], out: &mut [u8]) -> TextAnswer
-    ensures { TextWritten words.now out.old result out.new }
+// The text of a matrix at the front of the buffer: how many bytes were written; what lies behind them stays.
+// InvalidFirst where the words are no valid matrix, InsufficientSpace where the buffer is shorter than MAX_TEXT_BYTES.
+pub fn write_text(words: &[u32], out: &mut [u8]) -> Result<u32, Refusal>
+    ensures { TextWritten words.now out.old (text_result result) out.new }
 {
     if !matrix::is_valid(words) {
-        return TextAnswer {
-            code: INVALID_FIRST,
-            length: 0,
-        };
+        return Err(Refusal::InvalidFirst);
     }
     if out.len() < MAX_TEXT_BYTES {
-        return TextAnswer {
-            code: INSUFFICIENT_SPACE,
-            length: 0,
-        };
+        return Err(Refusal::InsufficientSpace);
     }
-    let length = put_matrix(words, out);
-    TextAnswer {
-        code: 0,
-        length: length as u32,
-    }
+    Ok(put_matrix(words, out) as u32)
 }
 
 // The text of a valid matrix.
 fn put_matrix(words: &[u32], out: &mut [u8]) -> usize
-    requires fact_1 { Matrix words.now }
-    requires fact_2 { max_text_bytes ≤ length out.old }
-    ensures fact_1 { Appended (text_of (grid_of words.now)) out.old out.new 0 result }
-    ensures fact_2 { result ≤ max_text_bytes }
+    requires matrix { Matrix words.now }
+    requires room { max_text_bytes ≤ length out.old }
+    ensures text { Appended (text_of (grid_of words.now)) out.old out.new 0 result }
+    ensures short { result ≤ max_text_bytes }
 {
     let at = put_line(
         out,
@@ -70,15 +53,13 @@ fn put_matrix(words: &[u32], out: &mut [u8]) -> usize
 
 // The lines of all rows.
 fn put_rows(words: &[u32], out: &mut [u8], from: usize) -> usize
-    requires fact_1 { Matrix words.now }
-    requires fact_2 { from + length (rows_text (cols words.now) (cell_of words.now) (rows words.now)) ≤ length out.old }
+    requires matrix { Matrix words.now }
+    requires room { from + length (rows_text (cols words.now) (cell_of words.now) (rows words.now)) ≤ length out.old }
     ensures { Appended (rows_text (cols words.now) (cell_of words.now)
         (rows words.now)) out.old out.new from result }
 {
-    let count = matrix::row_count(words);
     let mut at = from;
-    let mut i = 0;
-    while i < count {
+    for i in 0..matrix::row_count(words) {
         let row = i as usize;
         at = put_row(
             out,
@@ -87,23 +68,20 @@ fn put_rows(words: &[u32], out: &mut [u8], from: usize) -> usize
             matrix::row_columns(words, row),
             matrix::row_values(words, row),
         );
-        i += 1;
     }
     at
 }
 
 // The lines of row i, whose entries are given by their columns and their values.
 fn put_row(out: &mut [u8], from: usize, i: u32, columns: &[u32], values: &[u32]) -> usize
-    requires fact_1 { length values.now ≡ length columns.now }
-    requires fact_2 { from + length (lines_to i columns.now values.now (length columns.now)) ≤ length out.old }
+    requires even { length values.now ≡ length columns.now }
+    requires room { from + length (lines_to i columns.now values.now (length columns.now)) ≤ length out.old }
     ensures { Appended (lines_to i columns.now values.now (length columns.now))
         out.old out.new from result }
 {
     let mut at = from;
-    let mut k = 0;
-    while k < columns.len() {
-        at = put_line(out, at, i, columns[k], values[k]);
-        k += 1;
+    for (column, value) in columns.iter().zip(values) {
+        at = put_line(out, at, i, *column, *value);
     }
     at
 }

@@ -1,5 +1,6 @@
 -- Counting words: the turns of a loop that counts, and that the column numbers of a grid count the entries of each row
 -- of its transpose.
+use Rattle.std.proofs.Common.{None, Some}
 use Prim.Native.Nat.{ℕ, zero, suc, ◌+◌, ◌≤◌, ◌<◌}
 use native.Mathlib.Omega.{arith}
 use native.Mathlib.Decide.{ℕ_discrete}
@@ -10,8 +11,7 @@ use lib.ListN.{length, take, set, length-set, length-append}
 use lib.Seq.{take-suc, take_all, length-take-le, get_or-set_same, get_or-set_other}
 use borrow.Author.Tests.{eq-eqb, ne_eqb}
 use Rattle.words.specs.Words.{at}
-use Rattle.grid.specs.declared.Cell.{Cell}
-use Rattle.grid.specs.declared.Cell.TheVariants.{Absent, Present}
+use Rattle.grid.specs.Cell.{Cell}
 use Rattle.grid.specs.Grid.{Grid}
 use Rattle.grid.specs.Entries.{column, one, gather, flatten, grid_columns}
 use Rattle.operations.specs.GridOperations.{transposed}
@@ -100,14 +100,14 @@ module _ {columns counts₀ counts : List ℕ} {k : ℕ} (h : Counting columns c
 -- a cell at column n adds nothing to the count of another column
 one_other : (j n : ℕ) (c : Cell) → (n ≡ j → ⊥) → occurrences j (one column n c) ≡ 0
 unfolding one occurrences
-one_other j n Absent d = refl
-one_other j n (Present v) d = occurs_not j n d
+one_other j n None d = refl
+one_other j n (Some v) d = occurs_not j n d
 
 -- and to that of its own column the number of its entries
 one_same : (j : ℕ) (c : Cell) → occurrences j (one column j c) ≡ length (one column j c)
 unfolding one occurrences
-one_same j Absent = refl
-one_same j (Present v) = occurs j j refl
+one_same j None = refl
+one_same j (Some v) = occurs j j refl
 
 -- how often a column occurs among the entries of a row's first n columns
 module _ (row : ℕ → Cell) where

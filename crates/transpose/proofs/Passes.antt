@@ -10,7 +10,7 @@ use lib.ListN.{length, replicate, length-append, get_or-append}
 use lib.Seq.{get_or-append-add}
 use Rattle.limits.specs.Limits.{max_cols}
 use Rattle.words.specs.Words.{at, part}
-use Rattle.grid.specs.declared.Cell.{Cell}
+use Rattle.grid.specs.Cell.{Cell}
 use Rattle.grid.specs.Entries.{column, gather, flatten, grid_columns}
 use Rattle.rows.proofs.Lookup.{gather_row}
 use Rattle.matrix.specs.Layout.{columns_at, count_again_at, rows, cols, entries, grid_of}

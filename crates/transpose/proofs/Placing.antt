@@ -1,5 +1,6 @@
 -- The loop over row i of a matrix that puts each entry into the next slot of its column, a row of the transposed grid:
 -- the stores of a turn, and the turns.
+use Rattle.std.proofs.Common.{None, Some}
 use Prim.Native.Nat.{ℕ, ◌+◌, ◌≤◌, ◌<◌}
 use native.Mathlib.Omega.{arith}
 use mathlib.Core.Path.{◌≡◌, refl, ◌∙◌}
@@ -7,7 +8,6 @@ use mathlib.Core.List.{List}
 use lib.ListN.{length, set, length-set}
 use lib.Seq.{get_or-set_same, get_or-set_other}
 use Rattle.words.specs.Words.{at}
-use Rattle.grid.specs.declared.Cell.TheVariants.{Absent, Present}
 use Rattle.grid.specs.Grid.{Grid}
 use Rattle.grid.specs.Entries.{column, value, entry_count}
 use Rattle.rows.specs.Row.{Row, lookup}
@@ -40,7 +40,7 @@ room_kept r e f = record {
 }
 
 -- no entry in column i: row j has as much as with one column more
-row_same : {g : Grid} {i j : ℕ} {next s : List ℕ} → g.cell j i ≡ Absent → RowPlaced g i next s j
+row_same : {g : Grid} {i j : ℕ} {next s : List ℕ} → g.cell j i ≡ None → RowPlaced g i next s j
     → RowPlaced g (i + 1) next s j
 row_same {g} {i} {j} {next} {s} e h = record {
   next_place = h.next_place ∙ omega (arith, filled_same g i j e);
@@ -57,7 +57,7 @@ stored s x n i v = set (set s (x + 1) i) (x + n + 2) v
 
 -- a turn that meets the entry v in column i of row c
 module _ {g : Grid} {n i c v : ℕ} {next s : List ℕ} (room : Room g n next s) (c_row : c < g.rows) (i-col : i < g.cols)
-    (there : g.cell c i ≡ Present v) (h : RowPlaced g i next s c) where
+    (there : g.cell c i ≡ Some v) (h : RowPlaced g i next s c) where
   -- the slot is one of row c
   slot_free : filled g i c < filled g g.cols c
   slot_free = omega (arith, filled_more g i c there, filled_grows g (i + 1) c (omega arith))
@@ -149,7 +149,7 @@ pub record Turn (g : Grid) (columns values next : List ℕ) (k : ℕ) : Type 0 w
 module _ {g : Grid} {n i k : ℕ} {columns values next₀ s₀ next s : List ℕ} (src : Source g i columns values)
     (room : Room g n next₀ s₀) (h : Placing g i columns next₀ s₀ next s k) (l : k < length columns) where
   -- the cell of entry k
-  there : g.cell (at columns k) i ≡ Present (at values k)
+  there : g.cell (at columns k) i ≡ Some (at values k)
   there =
       src.cells (at columns k)
       ∙ lookup_at columns values k src.row.even l (λ m u. src.row.rises.up m k u l)

@@ -1,5 +1,6 @@
 -- Where the entries of each row of a grid go: the slots of two rows lie apart, and a store into the next slot of a row
 -- adds an entry there and keeps the others.
+use Rattle.std.proofs.Common.{None, Some}
 use Prim.Native.Nat.{ℕ, zero, suc, ◌+◌, ◌≤◌, ◌<◌}
 use native.Mathlib.Omega.{arith}
 use native.Mathlib.Decide.{dec_lt, ℕ_discrete}
@@ -9,8 +10,7 @@ use mathlib.Core.List.{List, [], ◌∷◌, ◌++◌, append-nil}
 use lib.ListN.{length, set, length-append, get_or-append}
 use lib.Seq.{get_or_at, get_or-set_same, get_or-set_other}
 use Rattle.words.specs.Words.{at}
-use Rattle.grid.specs.declared.Cell.{Cell}
-use Rattle.grid.specs.declared.Cell.TheVariants.{Absent, Present}
+use Rattle.grid.specs.Cell.{Cell}
 use Rattle.grid.specs.Grid.{Grid}
 use Rattle.grid.specs.Entries.{column, one, gather, entry_count}
 use Rattle.grid.proofs.Gather.{gather_length, flatten_next, flatten_grows}
@@ -20,12 +20,12 @@ use Rattle.transpose.specs.Placed.{filled, Slots}
 -- a row with one column more
 module _ (emit : ℕ → ℕ → ℕ) (row : ℕ → Cell) (i : ℕ) where
   -- an entry more
-  pub gather_present : {v : ℕ} → row i ≡ Present v → gather emit (i + 1) row ≡ gather emit i row ++ (emit i v ∷ [])
+  pub gather_present : {v : ℕ} → row i ≡ Some v → gather emit (i + 1) row ≡ gather emit i row ++ (emit i v ∷ [])
   unfolding gather one
   gather_present e = rw (add-one i, e)
 
   -- none
-  pub gather_absent : row i ≡ Absent → gather emit (i + 1) row ≡ gather emit i row
+  pub gather_absent : row i ≡ None → gather emit (i + 1) row ≡ gather emit i row
   unfolding gather one
   gather_absent e = rw (add-one i, e, append-nil)
 
@@ -55,11 +55,11 @@ module _ (g : Grid) where
   filled_grows i j l = gather_grows column (g.cell j) i g.cols l
 
   -- with one column more a row has an entry more
-  pub filled_more : (i j : ℕ) {v : ℕ} → g.cell j i ≡ Present v → filled g (i + 1) j ≡ filled g i j + 1
+  pub filled_more : (i j : ℕ) {v : ℕ} → g.cell j i ≡ Some v → filled g (i + 1) j ≡ filled g i j + 1
   filled_more i j e = ap length (gather_present column (g.cell j) i e) ∙ simp length-append
 
   -- or as many
-  pub filled_same : (i j : ℕ) → g.cell j i ≡ Absent → filled g (i + 1) j ≡ filled g i j
+  pub filled_same : (i j : ℕ) → g.cell j i ≡ None → filled g (i + 1) j ≡ filled g i j
   filled_same i j e = ap length (gather_absent column (g.cell j) i e)
 
   -- a slot of row j is among all of them
@@ -83,11 +83,11 @@ module _ (emit : ℕ → ℕ → ℕ) (b : ℕ) (g : Grid) (i : ℕ) (s : List �
   slots_keep p y d h k u = get_or-set_other s p (b + (entries_before g j + k)) y 0 (d k u) ∙ h k u
 
   -- no entry in column i: the slots are those of one column more
-  pub slots_same : g.cell j i ≡ Absent → Slots emit b g i s j → Slots emit b g (i + 1) s j
+  pub slots_same : g.cell j i ≡ None → Slots emit b g i s j → Slots emit b g (i + 1) s j
   slots_same e h k u = rw (gather_absent emit (g.cell j) i e) (h k (omega (arith, filled_same g i j e)))
 
   -- an entry in column i goes into the next slot
-  pub slots_more : (v p : ℕ) → g.cell j i ≡ Present v → p ≡ b + (entries_before g j + filled g i j) → p < length s
+  pub slots_more : (v p : ℕ) → g.cell j i ≡ Some v → p ≡ b + (entries_before g j + filled g i j) → p < length s
       → Slots emit b g i s j → Slots emit b g (i + 1) (set s p (emit i v)) j
   slots_more v p e q l h k u =
       rw (gather_present emit (g.cell j) i e) (go (dec_lt k (filled g i j)))

@@ -1,12 +1,12 @@
 -- A transposed grid has as many entries and is within the limits, so its writing fits where the largest matrix does.
+use Rattle.std.proofs.Common.{None, Some}
 use Prim.Native.Nat.{ℕ, zero, suc, ◌+◌, ◌≤◌}
 use native.Mathlib.Omega.{arith}
 use mathlib.Core.Path.{◌≡◌, refl, sym, ◌∙◌}
 use mathlib.Core.List.{List}
 use lib.ListN.{length, length-append}
 use Rattle.limits.specs.Limits.{max_rows, max_cols}
-use Rattle.grid.specs.declared.Cell.{Cell}
-use Rattle.grid.specs.declared.Cell.TheVariants.{Absent, Present}
+use Rattle.grid.specs.Cell.{Cell}
 use Rattle.grid.specs.Grid.{Grid}
 use Rattle.grid.specs.Entries.{column, one, gather, flatten, entry_count}
 use Rattle.matrix.specs.Layout.{max_matrix_words, entries, grid_of}
@@ -19,8 +19,8 @@ use Rattle.operations.specs.GridOperations.{transposed}
 -- at which column a cell stands does not change how many entries it has
 pub one_anywhere : (i j : ℕ) (c : Cell) → length (one column i c) ≡ length (one column j c)
 unfolding one
-one_anywhere i j Absent = refl
-one_anywhere i j (Present v) = refl
+one_anywhere i j None = refl
+one_anywhere i j (Some v) = refl
 
 -- rows without columns have no entries
 flatten_none : (cell : ℕ → ℕ → Cell) (r : ℕ) → length (flatten column 0 cell r) ≡ 0

@@ -127,7 +127,8 @@ module _ (g : Grid) (w starts sections : List ℕ) (fits : grid_size g ≤ lengt
     fits = omega (arith, overwrite_length (count_at r) sections u sections_fit, started_long);
     starts = start_there;
     columns =
-        overwrite_within (count_at r) sections u sections_fit (columns_at r) (count_again_at r n) 1 (1 + n) (omega arith)
+        overwrite_within (count_at r) sections u sections_fit (columns_at r) (count_again_at r n) 1 (1 + n)
+        (omega arith)
         (omega arith) (omega arith)
         ∙ f.columns;
     values =

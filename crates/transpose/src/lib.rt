@@ -19,8 +19,8 @@ use matrix::layout::{
 
 // The transposed matrix at the front of `out`; what lies behind it stays.
 pub fn transpose(a: &[u32], out: &mut [u32])
-    requires fact_1 { Matrix a.now }
-    requires fact_2 { max_matrix_words ≤ length out.old }
+    requires matrix { Matrix a.now }
+    requires output_room { max_matrix_words ≤ length out.old }
     ensures { out.new ≡ written_over (transposed (grid_of a.now)) out.old }
 {
     let rows = a[ROWS_AT];
@@ -45,11 +45,8 @@ fn count_columns(columns: &[u32], counts: &mut [u32])
     requires { Countable columns.now counts.old }
     ensures { CountsOf columns.now counts.new }
 {
-    let mut k = 0;
-    while k < columns.len() {
-        let j = columns[k] as usize;
-        counts[j] = counts[j] + 1;
-        k += 1;
+    for &column in columns {
+        counts[column as usize] += 1;
     }
 }
 
@@ -59,30 +56,27 @@ fn write_starts(c: usize, counts: &mut [u32], starts: &mut [u32])
     ensures { Sums c counts.old counts.new starts.new }
 {
     let mut sum: u32 = 0;
-    let mut j = 0;
-    while j < c {
+    // Kept: one index over two slices, as a zip tests two lengths in each turn.
+    for j in 0..c {
         let count = counts[j];
         starts[j] = sum;
         counts[j] = sum;
-        sum = sum + count;
-        j += 1;
+        sum += count;
     }
-    starts[j] = sum;
+    starts[c] = sum;
 }
 
 // The column numbers and the values of the transposed matrix, each after the word for their count. `next` has the start
 // of each column of `a`.
 fn write_entries(a: &[u32], next: &mut [u32], sections: &mut [u32])
-    requires fact_1 { Matrix a.now }
-    requires fact_2 { Ready (transposed (grid_of a.now)) next.old sections.old }
+    requires matrix { Matrix a.now }
+    requires ready { Ready (transposed (grid_of a.now)) next.old sections.old }
     ensures { EntrySections (transposed (grid_of a.now)) sections.new }
 {
     let r = a[ROWS_AT] as usize;
     let n = matrix::entry_count(a) as usize;
-    let mut i = 0;
-    while i < r {
+    for i in 0..r {
         place_row(a, i, n, next, sections);
-        i += 1;
     }
 }
 
@@ -98,16 +92,13 @@ fn place_row(a: &[u32], i: usize, n: usize, next: &mut [u32], sections: &mut [u3
 {
     let columns = matrix::row_columns(a, i);
     let values = matrix::row_values(a, i);
-    let mut k = 0;
-    while k < columns.len() {
-        let column = columns[k];
-        let value = values[k];
+    // Kept: `values[k]`, as a zip tests two lengths for each entry and is slower.
+    for (k, &column) in columns.iter().enumerate() {
         let j = column as usize;
         let place = next[j];
         let p = place as usize;
         sections[p + 1] = i as u32;
-        sections[p + n + 2] = value;
+        sections[p + n + 2] = values[k];
         next[j] = place + 1;
-        k += 1;
     }
 }

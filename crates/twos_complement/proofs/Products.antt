@@ -1,5 +1,5 @@
 -- `word` takes a product of numbers to that of words modulo 2 ^ 32: what `multiply` cites.
-use Rattle.std.proofs.Common.{◌≡◌, ℕ, suc, ◌+◌, ◌-◌, ◌*◌, ◌/◌, ◌%◌, ◌^◌, ◌<◌, ◌≤◌, ℤ, pos, negsuc, ◌*ℤ◌, sym, ap, ◌∙◌, mul_assoc, mul_comm, mul-le-mul, div-add-mod', mul-add, arith}
+use Rattle.std.proofs.Common.{◌≡◌, ℕ, suc, ◌+◌, ◌-◌, ◌*◌, ◌/◌, ◌%◌, ◌^◌, ◌<◌, ◌≤◌, ℤ, pos, negsuc, ◌*ℤ◌, sym, ap, ◌∙◌, mul_assoc, mul_comm, div-add-mod', mul-add, arith}
 use native.Mathlib.Nat.{mul-add-mod_self_right}
 use lib.IntN.{*ℤ_comm, *ℤ-negsuc}
 use Rattle.twos_complement.specs.TwosComplement.{signed, word}
@@ -59,9 +59,5 @@ word_mul (negsuc a) (negsuc b) = exact_negsuc (negsuc a) b (exact_mixed a (suc b
 
 -- the product of two words, as `multiply` works it out: it fits 64 bits, and is right modulo 2 ^ 32
 module _ {x y : ℕ} (hx : x < 2 ^ 32) (hy : y < 2 ^ 32) where
-  pub product_fits : x * y < 2 ^ 64
-  product_fits =
-      omega (arith, mul-le-mul {n₁ = x} {m₁ = y} {n₂ = 4294967295} {m₂ = 4294967295} (omega arith) (omega arith))
-
   pub product_is : (x * y) % 2 ^ 32 ≡ word (signed x *ℤ signed y)
   product_is = sym (word_mul (signed x) (signed y) ∙ simp (word_signed x hx, word_signed y hy))

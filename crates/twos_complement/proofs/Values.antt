@@ -1,92 +1,52 @@
--- What `minimum`, `maximum`, `negate`, `absolute` and `logical_not` work out on words is what they mean on numbers. A
--- local that holds `to_signed(x)` is a number z with z ≡ signed x, which the machine keeps as the bits `of_z w32 z`.
-use Rattle.std.proofs.Common.{◌≡◌, ℕ, zero, suc, ◌^◌, ◌<◌, Bool, true, false, cond, ℤ, pos, negsuc, ◌-ℤ◌, neg_ℤ, sym, refl, ap, ◌∙◌, arith, w32, SFits, to_z, of_z}
-use lib.IntN.{+ℤ_idl}
-use lib.Dec.{leb-zero}
-use lib.Signed.{le_z}
-use mir.ValLaws.{to_z-of_z, of_z-to_z}
-use Rattle.twos_complement.specs.TwosComplement.{signed, word, min_ℤ, max_ℤ, abs_ℤ, not_ℤ}
-use Rattle.twos_complement.specs.TwosComplement.{negative_of_smallest, absolute_of_smallest}
-use Rattle.twos_complement.proofs.Words.{signed_cases, word_signed}
-use Rattle.twos_complement.proofs.Casts.{false_true, signed_fits, read_word, read_back}
+-- What `minimum`, `maximum` and `logical_not` work out on words is what they mean on numbers.
+use Rattle.std.proofs.Common.{◌≡◌, ℕ, zero, suc, ◌+◌, ◌%◌, ◌^◌, ◌<◌, ◌≤◌, Bool, true, false, not, cond, ltb, leb, ℤ, pos, negsuc, neg_ℤ, refl, arith, w32, to_z, of_z, le-ltb, lt-ltb, le-leb}
+use native.Mathlib.Decide.{dec_lt}
+use lib.Dec.{eqb}
+use lib.Signed.{le_z, lt_z}
+use mir.Val.{bool_byte}
+use borrow.Author.Tests.{lt-leb, ne_eqb}
+use Rattle.std.specs.Int.{int_min, int_max}
+use Rattle.twos_complement.specs.TwosComplement.{signed, word, min_ℤ, max_ℤ, not_ℤ}
+use Rattle.twos_complement.proofs.Words.{signed_cases}
+use Rattle.twos_complement.proofs.Casts.{read_back}
 
--- a choice between two words, by the order of the numbers that two locals hold
-module _ {x y : ℕ} (hx : x < 2 ^ 32) (hy : y < 2 ^ 32) {a b : ℤ} (ea : a ≡ signed x) (eb : b ≡ signed y)
-    (v : Bool) (t : le_z (to_z w32 (of_z w32 a)) (to_z w32 (of_z w32 b)) ≡ v) where
-  -- the machine's test is the test of the numbers
-  ordered : le_z (signed x) (signed y) ≡ v
-  ordered = rw (← read_back hx ea, ← read_back hy eb) t
+-- a test of less is a test of at most that fails
+pub less_not : (a b : ℕ) → ltb a b ≡ not (leb b a)
+less_not a b = go (dec_lt a b)
+  where
+    go : Dec (a < b) → ltb a b ≡ not (leb b a)
+    go (yes l) = rw (lt-ltb a b l, lt-leb b a l)
+    go (no n) = let l : b ≤ a = omega arith in rw (le-ltb a b l, le-leb b a l)
 
-  -- the word chosen holds the number chosen
-  chosen : (p q : ℕ) → p < 2 ^ 32 → q < 2 ^ 32
-      → cond v p q ≡ word (cond (le_z (signed x) (signed y)) (signed p) (signed q))
-  chosen p q hp hq = rw ordered (by v)
-    where
-      by : (w : Bool) → cond w p q ≡ word (cond w (signed p) (signed q))
-      by true = sym (word_signed p hp)
-      by false = sym (word_signed q hq)
+pub less_not_ℤ : (a b : ℤ) → lt_z a b ≡ not (le_z b a)
+less_not_ℤ (pos a) (pos b) = less_not a b
+less_not_ℤ (pos a) (negsuc b) = refl
+less_not_ℤ (negsuc a) (pos b) = refl
+less_not_ℤ (negsuc a) (negsuc b) = less_not b a
 
-  -- MIN, and MAX with the two words swapped
-  pub minimum_is : cond v x y ≡ word (min_ℤ (signed x) (signed y))
-  minimum_is = chosen x y hx hy
+-- MIN and MAX as std has them
+swapped : (v : Bool) (a b : ℤ) → cond (not v) a b ≡ cond v b a
+swapped true a b = refl
+swapped false a b = refl
 
-  pub maximum_is : cond v y x ≡ word (max_ℤ (signed x) (signed y))
-  maximum_is = chosen y x hy hx
+smaller : (a b : ℤ) → int_min a b ≡ min_ℤ a b
+smaller a b = rw (less_not_ℤ b a) (swapped (le_z a b) b a)
+
+larger : (a b : ℤ) → int_max a b ≡ max_ℤ a b
+larger a b = rw (less_not_ℤ b a) (swapped (le_z a b) a b)
+
+-- of two words, whose numbers two locals hold
+module _ {x y : ℕ} (hx : x < 2 ^ 32) (hy : y < 2 ^ 32) {a b : ℤ} (ea : a ≡ signed x) (eb : b ≡ signed y) where
+  pub minimum_is : int_min (to_z w32 (of_z w32 a)) (to_z w32 (of_z w32 b)) ≡ min_ℤ (signed x) (signed y)
+  minimum_is = rw (read_back hx ea, read_back hy eb) (smaller (signed x) (signed y))
+
+  pub maximum_is : int_max (to_z w32 (of_z w32 a)) (to_z w32 (of_z w32 b)) ≡ max_ℤ (signed x) (signed y)
+  maximum_is = rw (read_back hx ea, read_back hy eb) (larger (signed x) (signed y))
 
 -- LNOT of the word 0, and of any other
-pub not_zero : {x : ℕ} → x ≡ 0 → 1 ≡ word (not_ℤ (signed x))
+pub not_is : (x : ℕ) → x < 2 ^ 32 → bool_byte (eqb x 0) ≡ word (not_ℤ (signed x))
 unfolding not_ℤ word signed
-not_zero e = rw e
-
-pub not_other : {x : ℕ} → x < 2 ^ 32 → (x ≡ 0 → ⊥) → 0 ≡ word (not_ℤ (signed x))
-unfolding not_ℤ word
-not_other {x} h f = signed_cases (λ z. 0 ≡ word (not_ℤ z)) x h (λ l. by x f) (λ g. refl)
-  where
-    by : (n : ℕ) → (n ≡ 0 → ⊥) → 0 ≡ word (not_ℤ (pos n))
-    by zero f = absurd (f refl)
-    by (suc n) f = refl
-
--- AINV and ABS of a word x, whose number a local holds
-module _ {x : ℕ} (hx : x < 2 ^ 32) {z : ℤ} (e : z ≡ signed x) where
-  -- the exceptional value is the word 2147483648
-  smallest : of_z w32 z ≡ 2147483648 → x ≡ 2147483648
-  smallest t = sym (of_z-to_z w32 x (record { fits = hx })) ∙ ap (of_z w32) (read_word x hx ∙ sym e) ∙ t
-
-  pub negate_smallest : of_z w32 z ≡ 2147483648 → x ≡ word (neg_ℤ (signed x))
-  negate_smallest t = rw (smallest t) (sym negative_of_smallest)
-
-  pub absolute_smallest : of_z w32 z ≡ 2147483648 → x ≡ word (abs_ℤ (signed x))
-  absolute_smallest t = rw (smallest t) (sym absolute_of_smallest)
-
-  -- the minus sign, for any other value
-  minus : pos 0 -ℤ to_z w32 (of_z w32 z) ≡ neg_ℤ (signed x)
-  minus = +ℤ_idl (neg_ℤ (to_z w32 (of_z w32 z))) ∙ ap neg_ℤ (read_back hx e)
-
-  -- its result fits
-  pub minus_fits : (of_z w32 z ≡ 2147483648 → ⊥) → SFits w32 (pos 0 -ℤ to_z w32 (of_z w32 z))
-  minus_fits f = rw (minus, ← e) (by z (rw e (signed_fits hx)) f)
-    where
-      by : (k : ℤ) → SFits w32 k → (of_z w32 k ≡ 2147483648 → ⊥) → SFits w32 (neg_ℤ k)
-      by (pos zero) h f = record { sfits = omega arith }
-      by (pos (suc n)) h f = let l : suc n < 2 ^ 31 = h.sfits in record { sfits = omega arith }
-      by (negsuc n) h f = let l : n < 2 ^ 31 = h.sfits in record { sfits = omega arith }
-
-  -- and is the negative
-  pub negate_is : (of_z w32 z ≡ 2147483648 → ⊥) → to_z w32 (of_z w32 (pos 0 -ℤ to_z w32 (of_z w32 z))) ≡ neg_ℤ (signed x)
-  negate_is f = to_z-of_z w32 _ (minus_fits f) ∙ minus
-
-  -- ABS keeps a number that is not negative, and is the negative of one that is
-  pub absolute_nonneg : le_z (pos 0) (to_z w32 (of_z w32 z)) ≡ true → x ≡ word (abs_ℤ (signed x))
-  absolute_nonneg t = sym (word_signed x hx) ∙ ap word (sym (by (signed x) (rw (read_back hx e) at t)))
-    where
-      by : (k : ℤ) → le_z (pos 0) k ≡ true → abs_ℤ k ≡ k
-      by (pos n) t = refl
-      by (negsuc n) t = absurd (false_true t)
-
-  pub absolute_is : le_z (pos 0) (to_z w32 (of_z w32 z)) ≡ false → (of_z w32 z ≡ 2147483648 → ⊥)
-      → to_z w32 (of_z w32 (pos 0 -ℤ to_z w32 (of_z w32 z))) ≡ abs_ℤ (signed x)
-  absolute_is t f = negate_is f ∙ by (signed x) (rw (read_back hx e) at t)
-    where
-      by : (k : ℤ) → le_z (pos 0) k ≡ false → neg_ℤ k ≡ abs_ℤ k
-      by (pos n) t = absurd (false_true (sym t ∙ leb-zero n))
-      by (negsuc n) t = refl
+not_is zero h = refl
+not_is (suc n) h =
+    rw (ne_eqb (suc n) 0 (λ e. absurd (omega arith)))
+    (signed_cases (λ z. 0 ≡ word (not_ℤ z)) (suc n) h (λ l. refl) (λ g. refl))

@@ -60,10 +60,9 @@ word_add (pos a) (negsuc b) = omega (arith, word_sub a (suc b))
 word_add (negsuc a) (pos b) = omega (arith, word_sub b (suc a))
 word_add (negsuc a) (negsuc b) = omega arith
 
--- What std::num's wrapping sum and difference give on the words of two numbers: the crate `operators` cites them.
+-- What the wrapping sum and the wrapping difference give on the words of two numbers: the crate `operators` cites them.
 pub wrapping_sum : (a b : ℤ) {x y : ℕ} → word a ≡ x → word b ≡ y → (x + y) % 2 ^ 32 ≡ word (a +ℤ b)
 wrapping_sum a b ea eb = omega (arith, word_add a b)
 
-pub wrapping_difference : (a b : ℤ) {x y r : ℕ} → word a ≡ x → word b ≡ y
-    → r < 2 ^ 32 → (r + y) % 2 ^ 32 ≡ x → r ≡ word (a -ℤ b)
-wrapping_difference a b ea eb h e = omega (arith, word_add a (neg_ℤ b), word_neg b, word_lt a, word_lt b)
+pub wrapping_difference : (a b : ℤ) {x y : ℕ} → word a ≡ x → word b ≡ y → (x + (2 ^ 32 - y)) % 2 ^ 32 ≡ word (a -ℤ b)
+wrapping_difference a b ea eb = omega (arith, word_add a (neg_ℤ b), word_neg b, word_lt a, word_lt b)

@@ -1,6 +1,6 @@
 // Signed 32-bit arithmetic on words, in two's complement. A word x holds the number `signed x`, and each
-// operation here gives the word of its exact result, modulo 2^32. Sums and differences are std::num's wrapping_add_u32 and
-// wrapping_sub_u32.
+// operation here gives the word of its exact result, modulo 2^32. Sums and differences are `wrapping_add` and
+// `wrapping_sub` of the words.
 
 #![tactic(auto)]
 
@@ -11,46 +11,39 @@ ghost use Rattle.twos_complement.specs.TwosComplement.{signed, word, min_ℤ, ma
 pub fn to_signed(x: u32) -> i32
     ensures { result ≡ signed x }
 {
-    if x < 2147483648 {
-        x as i32
-    } else {
-        ((x - 2147483648) as i32) + (-2147483648)
-    }
+    x.cast_signed()
 }
 
 // The word of a number.
 pub fn from_signed(z: i32) -> u32
     ensures { result ≡ word z }
 {
-    if z >= 0 {
-        z as u32
-    } else {
-        ((z - (-2147483648)) as u32) + 2147483648
-    }
+    z.cast_unsigned()
 }
 
 // The exact product modulo 2^32.
 pub fn multiply(x: u32, y: u32) -> u32
     ensures { result ≡ word (signed x *ℤ signed y) }
 {
-    (((x as u64) * (y as u64)) % 4294967296) as u32
+    x.wrapping_mul(y)
 }
 
 // The smaller of two, as signed numbers.
 pub fn minimum(x: u32, y: u32) -> u32
     ensures { result ≡ word (min_ℤ (signed x) (signed y)) }
 {
-    if to_signed(x) <= to_signed(y) { x } else { y }
+    from_signed(to_signed(x).min(to_signed(y)))
 }
 
 // The larger of two, as signed numbers.
 pub fn maximum(x: u32, y: u32) -> u32
     ensures { result ≡ word (max_ℤ (signed x) (signed y)) }
 {
-    if to_signed(x) <= to_signed(y) { y } else { x }
+    from_signed(to_signed(x).max(to_signed(y)))
 }
 
 // The negative. That of the smallest value is that value itself.
+// Kept: the exceptional value before the minus sign, the form that document 01 asks for, and no `wrapping_neg`.
 pub fn negate(x: u32) -> u32
     ensures { result ≡ word (neg_ℤ (signed x)) }
 {
@@ -62,6 +55,7 @@ pub fn negate(x: u32) -> u32
 }
 
 // The absolute value. That of the smallest value is that value itself.
+// Kept: the exceptional value before the minus sign, the form that document 01 asks for, and no `unsigned_abs`.
 pub fn absolute(x: u32) -> u32
     ensures { result ≡ word (abs_ℤ (signed x)) }
 {
@@ -79,5 +73,5 @@ pub fn absolute(x: u32) -> u32
 pub fn logical_not(x: u32) -> u32
     ensures { result ≡ word (not_ℤ (signed x)) }
 {
-    if x == 0 { 1 } else { 0 }
+    u32::from(x == 0)
 }

@@ -2,20 +2,11 @@
 use Prim.Native.Nat.{ℕ, ◌+◌, ◌-◌, ◌≤◌, ◌<◌}
 use native.Mathlib.Omega.{arith}
 use native.Mathlib.Numerals.{add-one}
-use mathlib.Core.Path.{◌≡◌, refl, sym, ap, ◌∙◌}
+use mathlib.Core.Path.{◌≡◌, sym, ap, ◌∙◌}
 use mathlib.Core.List.{List, ◌++◌}
-use lib.ListN.{length, take, drop, set, length-append, length-drop, length-take, get_or-append}
-use lib.Seq.{
-  length-take-le,
-  get_or-take,
-  get_or-drop,
-  get_or-append-add,
-  ext_get_or,
-  take-length,
-  paste,
-  paste-suc,
-  length_paste_head,
-}
+use lib.ListN.{length, take, drop, set, length-append, length-drop, get_or-append}
+use lib.Seq.{length-take-le, get_or-take, get_or-drop, get_or-append-add, ext_get_or, take-length, paste, paste-suc}
+use Rattle.std.specs.List.{copy_within}
 use Rattle.words.specs.Words.{at, part, overwrite}
 use Rattle.words.proofs.Parts.{part_at, length_part}
 
@@ -81,34 +72,11 @@ module _ (a : ℕ) (x s : List ℕ) (h : a + length x ≤ length s) where
   unfolding overwrite
   overwrite_done n e = rw (e, take-length x)
 
--- words moved down: what is read in a turn is not yet overwritten
-module _ (s : List ℕ) (from to k : ℕ) (h : to ≤ from) (l : from + k < length s) where
-  move_read : at (paste s to (drop from s) k) (from + k) ≡ at s (from + k)
-  move_read =
-      let p : List ℕ = take to s ++ take k (drop from s) in
-      let n : length p ≡ to + k =
-      length_paste_head s to (drop from s) k (omega arith) (simp length-drop (omega arith)) in
-      let e : from + k ≡ length p + (from - to) = omega arith in
-      let g : to + k + (from - to) ≡ from + k = omega arith in
-      ap (at (p ++ drop (to + k) s)) e ∙ get_or-append-add p (drop (to + k) s) (from - to) 0
-      ∙ get_or-drop (to + k) s (from - to) 0 ∙ ap (at s) g
-
-  -- a turn of the loop
-  pub move_turn : set (paste s to (drop from s) k) (to + k) (at (paste s to (drop from s) k) (from + k))
-      ≡ paste s to (drop from s) (k + 1)
-  move_turn =
-      ap (set (paste s to (drop from s) k) (to + k)) (move_read ∙ sym (get_or-drop from s k 0))
-      ∙ paste-suc s to (drop from s) k 0 (omega arith) (simp length-drop (omega arith))
-      ∙ ap (paste s to (drop from s)) (sym (add-one k))
-
 -- the words that were moved
 pub move_done : (s : List ℕ) (from to n : ℕ) → from + n ≤ length s
-    → paste s to (drop from s) n ≡ overwrite to (part from (from + n) s) s
+    → copy_within s from (from + n) to ≡ overwrite to (part from (from + n) s) s
 unfolding overwrite
-move_done s from to n h =
-    let e : from + n - from ≡ n = omega arith in
-    let k : length (part from (from + n) s) ≡ n = length_part from (from + n) s h ∙ e in
-    rw (k, e)
+move_done s from to n h = let k = length_part from (from + n) s h in rw k
 
 -- a turn of a loop that copies
 pub copy_turn : (d : List ℕ) (a : ℕ) (x : List ℕ) (k : ℕ) → a + k < length d → k < length x

@@ -9,11 +9,7 @@ ghost use Rattle.words.specs.Words.{part, overwrite};
 pub fn clear(words: &mut [u32])
     ensures { words.new ≡ replicate (length words.old) 0 }
 {
-    let mut i = 0;
-    while i < words.len() {
-        words[i] = 0;
-        i += 1;
-    }
+    words.fill(0);
 }
 
 // The words of `src` are written into `dst` from `at` on.
@@ -21,11 +17,7 @@ pub fn copy_into(dst: &mut [u32], at: usize, src: &[u32])
     requires { at + length src.now ≤ length dst.old }
     ensures { dst.new ≡ overwrite at src.now dst.old }
 {
-    let mut k = 0;
-    while k < src.len() {
-        dst[at + k] = src[k];
-        k += 1;
-    }
+    dst[at..at + src.len()].copy_from_slice(src);
 }
 
 // n words are moved down, from `from` on to `to` on.
@@ -33,11 +25,7 @@ pub fn move_down(words: &mut [u32], from: usize, to: usize, n: usize)
     requires { (to ≤ from) × (from + n ≤ length words.old) }
     ensures { words.new ≡ overwrite to (part from (from + n) words.old) words.old }
 {
-    let mut k = 0;
-    while k < n {
-        words[to + k] = words[from + k];
-        k += 1;
-    }
+    words.copy_within(from..from + n, to);
 }
 
 // n words are moved up, from `from` on to `to` on.
@@ -45,9 +33,5 @@ pub fn move_up(words: &mut [u32], from: usize, to: usize, n: usize)
     requires { (from ≤ to) × (to + n ≤ length words.old) }
     ensures { words.new ≡ overwrite to (part from (from + n) words.old) words.old }
 {
-    let mut k = n;
-    while 0 < k {
-        k -= 1;
-        words[to + k] = words[from + k];
-    }
+    words.copy_within(from..from + n, to);
 }

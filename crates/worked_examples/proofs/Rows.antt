@@ -1,22 +1,22 @@
 -- The test of a row says what the row claims. Cited by the theorem on the table.
+use Rattle.std.proofs.Common.{None, Some}
 use mathlib.Core.Path.{◌≡◌, refl, sym, ap}
 use mathlib.Core.List.{List, [], ◌∷◌, Memᴰ}
 use mathlib.Core.Bool.{true, false, false≢true}
 use borrow.Author.Tests.{eqb-true}
 use Rattle.conditions.specs.Tests.{all}
 use Rattle.conditions.proofs.Tests.{and_left, and_right, all_at}
-use Rattle.grid.specs.declared.Cell.{Cell}
-use Rattle.grid.specs.declared.Cell.TheVariants.{Absent, Present}
+use Rattle.grid.specs.Cell.{Cell}
 use Rattle.grid.specs.Grid.{Grid, Same}
 use Rattle.worked_examples.specs.Rows.{Row, Correct, same_cell, same_grid, row_holds, all_hold}
 
 -- two cells that the test takes for the same are the same
 same_cell_lem : (x y : Cell) → same_cell x y ≡ true → x ≡ y
 unfolding same_cell
-same_cell_lem Absent Absent h = refl
-same_cell_lem Absent (Present y) h = absurd (false≢true h)
-same_cell_lem (Present x) Absent h = absurd (false≢true h)
-same_cell_lem (Present x) (Present y) h = ap Present (eqb-true x y h)
+same_cell_lem None None h = refl
+same_cell_lem None (Some y) h = absurd (false≢true h)
+same_cell_lem (Some x) None h = absurd (false≢true h)
+same_cell_lem (Some x) (Some y) h = ap Some (eqb-true x y h)
 
 -- and so are two grids
 same_grid_lem : (g h : Grid) → same_grid g h ≡ true → Same g h

@@ -1,10 +1,9 @@
 -- Matrices and vectors as the tables of document 01 write them: a shape and a list of entries with signed values.
-use Rattle.std.specs.Prelude.{ℕ, List, [], ◌∷◌, Bool, true, cond, ℤ, pos, neg_ℤ, ltb, eqb}
+use Rattle.std.specs.Prelude.{ℕ, List, [], ◌∷◌, Bool, true, cond, ℤ, pos, neg_ℤ, ltb, eqb, None, Some}
 use Rattle.std.specs.Int.Signed.{le_z}
 use Rattle.twos_complement.specs.TwosComplement.{word}
 use Rattle.conditions.specs.Tests.{◌and◌}
-use Rattle.grid.specs.declared.Cell.{Cell}
-use Rattle.grid.specs.declared.Cell.TheVariants.{Absent, Present}
+use Rattle.grid.specs.Cell.{Cell}
 use Rattle.grid.specs.Grid.{Grid}
 
 -- an entry with its position: "(0,1)3" is `entry 0 1 (pos 3)`
@@ -29,9 +28,9 @@ vector c tuples = matrix 1 c tuples
 
 -- the cell at row i and column j
 unfoldable pub listed_cell : List Tuple → ℕ → ℕ → Cell
-listed_cell [] i j = Absent
+listed_cell [] i j = None
 listed_cell (entry row col v ∷ rest) i j =
-    cond (eqb row i and eqb col j) (Present (word v)) (listed_cell rest i j)
+    cond (eqb row i and eqb col j) (Some (word v)) (listed_cell rest i j)
 
 abbrev pub listed_grid : Listed → Grid
 listed_grid l = record { rows = l.rows; cols = l.cols; cell = listed_cell l.tuples }

@@ -1,8 +1,7 @@
 -- A row of the table of worked examples and what it claims: of a whole call, or of the write-back of a T that is given.
-use Rattle.std.specs.Prelude.{◌≡◌, List, [], ◌∷◌, Bool, true, false, eqb}
+use Rattle.std.specs.Prelude.{◌≡◌, List, [], ◌∷◌, Bool, true, false, eqb, None, Some}
 use Rattle.conditions.specs.Tests.{◌and◌, all}
-use Rattle.grid.specs.declared.Cell.{Cell}
-use Rattle.grid.specs.declared.Cell.TheVariants.{Absent, Present}
+use Rattle.grid.specs.Cell.{Cell}
 use Rattle.grid.specs.Grid.{Grid, empty_grid, Same}
 use Rattle.operations.specs.declared.Call.{Call}
 use Rattle.operations.specs.declared.WriteBack.{WriteBack}
@@ -55,10 +54,10 @@ pub record Correct (r : Row) : Type 0 where
 
 -- the same claim as a test
 unfoldable pub same_cell : Cell → Cell → Bool
-same_cell Absent Absent = true
-same_cell Absent (Present y) = false
-same_cell (Present x) Absent = false
-same_cell (Present x) (Present y) = eqb x y
+same_cell None None = true
+same_cell None (Some y) = false
+same_cell (Some x) None = false
+same_cell (Some x) (Some y) = eqb x y
 
 abbrev pub same_grid : Grid → Grid → Bool
 same_grid g h = same_shape g h and all h.rows (λ i. all h.cols (λ j. same_cell (g.cell i j) (h.cell i j)))

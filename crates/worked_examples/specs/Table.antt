@@ -1,5 +1,5 @@
 -- The table of document 01, "Worked sheets": P1 to P12. A comment at each row quotes its case and its result.
-use Rattle.std.specs.Prelude.{ℕ, ◌+◌, List, [], ◌∷◌, Bool, true, false, ℤ, pos, neg_ℤ}
+use Rattle.std.specs.Prelude.{ℕ, ◌+◌, List, [], ◌∷◌, Bool, true, false, ℤ, pos, neg_ℤ, None, Some}
 use Rattle.operators.specs.declared.BinaryOp.{BinaryOp}
 use Rattle.operators.specs.declared.BinaryOp.TheVariants.{Plus, Minus, Times}
 use Rattle.operators.specs.declared.Monoid.{Monoid}
@@ -7,8 +7,7 @@ use Rattle.operators.specs.declared.Monoid.TheVariants as monoid
 use Rattle.operators.specs.declared.IndexUnaryOp.TheVariants.{ColIndex}
 use Rattle.operators.specs.declared.ApplyOp.{ApplyOp}
 use Rattle.operators.specs.declared.ApplyOp.TheVariants.{BinaryScalarSecond, IndexUnary}
-use Rattle.operations.specs.declared.Accumulator.{Accumulator}
-use Rattle.operations.specs.declared.Accumulator.TheVariants.{Absent as NoAccumulator, Present as By}
+use Rattle.operations.specs.Accumulator.{Accumulator}
 use Rattle.operations.specs.declared.Call.{Call}
 use Rattle.operations.specs.declared.Operation.{Operation}
 use Rattle.operations.specs.declared.Operation.TheVariants.{Mxm, EwiseMult, EwiseAdd, Apply, Extract}
@@ -30,10 +29,10 @@ call_with flags hasMask accumulator vectorFirst operation = record {
 
 -- without flags, mask and accumulator: a vector times a matrix, any other operation, and apply
 abbrev vxm : Monoid → BinaryOp → Call
-vxm m op = call_with 0 false NoAccumulator true (Mxm m op)
+vxm m op = call_with 0 false None true (Mxm m op)
 
 abbrev plain : Operation → Call
-plain operation = call_with 0 false NoAccumulator false operation
+plain operation = call_with 0 false None false operation
 
 abbrev apply : ApplyOp → Call
 apply op = plain (Apply op)
@@ -110,15 +109,15 @@ table =
     -- P6: "TIMES of 65536 and 65536", "an entry 0"
     ∷ called (plain (EwiseMult Times)) (single (pos 65536)) (single (pos 65536)) (single (pos 0))
     -- P7: "mask", "1:2, 2:3, 3:9"
-    ∷ write_back 0 with_mask NoAccumulator (vector 4 (at 1 (pos 2) ∷ at 2 (pos 3) ∷ at 3 (pos 9) ∷ []))
+    ∷ write_back 0 with_mask None (vector 4 (at 1 (pos 2) ∷ at 2 (pos 3) ∷ at 3 (pos 9) ∷ []))
     -- P8: "mask, replace", "3:9"
-    ∷ write_back replace with_mask NoAccumulator (vector 4 (at 3 (pos 9) ∷ []))
+    ∷ write_back replace with_mask None (vector 4 (at 3 (pos 9) ∷ []))
     -- P9: "structural", "1:9, 2:3, 3:9"
-    ∷ write_back structural with_mask NoAccumulator (vector 4 (at 1 (pos 9) ∷ at 2 (pos 3) ∷ at 3 (pos 9) ∷ []))
+    ∷ write_back structural with_mask None (vector 4 (at 1 (pos 9) ∷ at 2 (pos 3) ∷ at 3 (pos 9) ∷ []))
     -- P10: "complement", "0:1, 1:9"
-    ∷ write_back complement with_mask NoAccumulator (vector 4 (at 0 (pos 1) ∷ at 1 (pos 9) ∷ []))
+    ∷ write_back complement with_mask None (vector 4 (at 0 (pos 1) ∷ at 1 (pos 9) ∷ []))
     -- P11: "mask, PLUS accumulator", "0:1, 1:2, 2:3, 3:9"
-    ∷ write_back 0 with_mask (By Plus) (vector 4 (at 0 (pos 1) ∷ at 1 (pos 2) ∷ at 2 (pos 3) ∷ at 3 (pos 9) ∷ []))
+    ∷ write_back 0 with_mask (Some Plus) (vector 4 (at 0 (pos 1) ∷ at 1 (pos 2) ∷ at 2 (pos 3) ∷ at 3 (pos 9) ∷ []))
     -- P12: "no mask, complement, replace", "empty"
-    ∷ write_back (complement + replace) no_mask NoAccumulator (vector 4 [])
+    ∷ write_back (complement + replace) no_mask None (vector 4 [])
     ∷ []

@@ -1,11 +1,6 @@
 -- `place_listed` puts the entries of A's row at their columns: those before p stand there.
-use Prim.Native.Nat.{◌-◌}
-use lib.ListN.{length}
 use Rattle.assign_rows.proofs.Placing.{Placing}
 use Rattle.assign_rows.proofs.place_listed.Given as goal
 
 abbrev pub invariant-loop-p : goal.invariant-loop-p
 invariant-loop-p l = Placing l.list l.columns l.values l.initial.ov l.top l.map l.ov l.p
-
-abbrev pub decreases-loop-p : goal.decreases-loop-p
-decreases-loop-p l = length l.columns - l.p

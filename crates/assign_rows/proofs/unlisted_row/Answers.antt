@@ -3,8 +3,8 @@ use mathlib.Core.Path.{refl}
 use Rattle.rows.proofs.Holds.{holds_absent}
 use Rattle.assign_rows.proofs.unlisted_row.Goals as goal
 
-pub returns-in-Absent : goal.returns-in-Absent
-returns-in-Absent c = rw c.in-Absent.is c.copy_row.ensures
+pub returns-in-None : goal.returns-in-None
+returns-in-None c = rw c.in-None.is c.copy_row.ensures
 
-pub returns-in-Present : goal.returns-in-Present
-returns-in-Present c = rw c.in-Present.is (holds_absent _ _ _ _ (λ j. refl))
+pub returns-in-Some : goal.returns-in-Some
+returns-in-Some c = rw c.in-Some.is (holds_absent _ _ _ _ (λ j. refl))

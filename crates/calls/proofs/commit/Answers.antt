@@ -22,7 +22,7 @@ copy_into-requires c = simp length-take (omega arith)
 
 pub set_revision-requires : goal.set_revision-requires
 set_revision-requires c =
-    let h = c.requires.fact_1.fits in
+    let h = c.requires.header.fits in
     omega (arith, c.copy_into.auto.dst)
 
 pub returns : goal.returns

@@ -1,27 +1,17 @@
--- `all_below` is the test `all_below`: the flag tells of the column numbers passed.
-use native.Mathlib.Omega.{arith}
-use Prim.Native.Nat.{◌-◌}
-use mathlib.Core.Path.{◌≡◌, sym, ◌∙◌}
-use lib.ListN.{length}
-use borrow.Author.Tests.{lt-ltb, le-ltb}
-use Rattle.words.specs.Words.{at}
-use Rattle.conditions.proofs.Tests.{all_none, all_kept, all_not}
-use Rattle.column_order.specs.Falls.{all_below}
+-- `all_below` folds the test over the column numbers.
+use mathlib.Core.Path.{◌∙◌}
+use mathlib.Core.Bool.{true, ◌&&◌}
+use lib.Dec.{ltb}
+use borrow.Author.Rules.{rules}
+use borrow.Author.Tests.{tests}
+use Rattle.std.proofs.lemmas.Iterator.{YieldsList-from_slice}
+use Rattle.std.proofs.lemmas.Iterator.Consumers.{fold_from_yields_List}
+use Rattle.column_order.proofs.Below.{below_kept}
 use Rattle.column_order.proofs.all_below.Goals as goal
-use Rattle.column_order.proofs.all_below.Goals.{else-bound-columns, then-bound-columns}
-
-pub loop-k-init : goal.loop-k-init
-loop-k-init c = (omega arith, sym (all_none _))
-
-pub loop-k-preserved : goal.loop-k-preserved
-loop-k-preserved c = (
-  omega arith,
-  elim c.if-bound-columns.branch [ then-bound-columns w ↦ w.below-is ∙ sym (all_not _ _ c.loop-k.k (omega arith) (le-ltb _ _ w.if-bound-columns.true)) | else-bound-columns w ↦ w.below-is ∙ all_kept _ _ _ c.loop-k.invariant.1 (lt-ltb _ _ w.if-bound-columns.false) ],
-)
 
 pub returns : goal.returns
-unfolding all_below
 returns c =
-    let columns = c.args.columns.now in
-    let e : c.loop-k.k ≡ length columns = omega arith in
-    rw e at c.loop-k.invariant.1
+    let a = c.args in
+    fold_from_yields_List _ (λ below column. ltb column a.bound && below) true c.fold.result c.fold.ensures.ran
+    (YieldsList-from_slice a.columns.now c.iter.ensures.rest) (λ b x r q k. search (rules, tests))
+    ∙ below_kept a.bound a.columns.now

@@ -6,8 +6,8 @@ use Rattle.compute.proofs.write_row.Goals as goal
 pub both_empty-requires : goal.both_empty-requires
 both_empty-requires c =
     record {
-      fact_1 = c.requires.old_row.matrix.header;
-      fact_2 = matrix_span _ c.requires.old_row.matrix _ c.requires.old_row.row;
+      header = c.requires.old_row.matrix.header;
+      span = matrix_span _ c.requires.old_row.matrix _ c.requires.old_row.row;
     }
 
 pub returns-then-both_empty : goal.returns-then-both_empty
@@ -19,11 +19,8 @@ returns-then-both_empty c =
 pub col_count-requires : goal.col_count-requires
 col_count-requires c = c.requires.old_row.matrix.header
 
-pub mask_columns-requires : goal.mask_columns-requires
-mask_columns-requires c = c.requires.old_row.mask
-
-pub mask_values-requires : goal.mask_values-requires
-mask_values-requires c = c.requires.old_row.mask
+pub mask_row-requires : goal.mask_row-requires
+mask_row-requires c = c.requires.old_row.mask
 
 pub row_columns-requires : goal.row_columns-requires
 row_columns-requires c =
@@ -36,7 +33,7 @@ row_values-requires c =
 pub merge_row-requires : goal.merge_row-requires
 merge_row-requires c =
     rw c.col_count.ensures record {
-      row = rw (c.mask_columns.ensures, c.mask_values.ensures)
+      row = rw (c.mask_row.ensures.columns, c.mask_row.ensures.values)
           (mask_row _ _ _ _ c.requires.old_row.mask c.requires.old_row.mask_cols);
       row_2 = rw (c.row_columns.ensures.words, c.row_values.ensures.words)
           (matrix_row _ c.requires.old_row.matrix _ c.requires.old_row.row);
@@ -48,8 +45,8 @@ pub returns : goal.returns
 returns c =
     written_row_lem _ _ _ _ _ _ _ _ _ _
     (rw (
-      c.mask_columns.ensures,
-      c.mask_values.ensures,
+      c.mask_row.ensures.columns,
+      c.mask_row.ensures.values,
       c.row_columns.ensures.words,
       c.row_values.ensures.words,
       c.col_count.ensures,

@@ -4,11 +4,7 @@ use Rattle.matrix.proofs.Facts.{row_span}
 use Rattle.day_calls.proofs.count_with.Goals as goal
 
 pub overflow_add-result-3 : goal.overflow_add-result-3
-overflow_add-result-3 c =
-    let x = row_span _ c.requires.fact_1.starts _ c.requires.fact_2 in
-    omega (arith, x.up, x.top, c.requires.fact_1.header.few, c.requires.fact_3, c.entry_count.ensures)
+overflow_add-result-3 c = let x = row_span _ c.requires.matrix.starts _ c.requires.row in omega arith
 
 pub overflow_sub-result : goal.overflow_sub-result
-overflow_sub-result c =
-    let x = row_span _ c.requires.fact_1.starts _ c.requires.fact_2 in
-    omega (arith, x.up, x.top, c.requires.fact_1.header.few, c.requires.fact_3, c.entry_count.ensures)
+overflow_sub-result c = let x = row_span _ c.requires.matrix.starts _ c.requires.row in omega arith

@@ -1,64 +1,47 @@
 -- `place_shown` gives the place of the part that `show_row` returns.
-use mathlib.Core.Path.{◌≡◌, sym, ◌∙◌}
-use mathlib.Core.Bool.{true}
+use mathlib.Core.Path.{◌∙◌}
 use Rattle.conditions.proofs.Tests.{said_no, said_yes}
-use Rattle.day_calls.specs.Show.{showable}
-use Rattle.day_calls.proofs.Shows.{shown_pair, shown_vector, base_span, day_span, placed_nothing, placed_day, placed_base}
+use Rattle.day_calls.proofs.Shows.{
+  shown_pair,
+  shown_vector,
+  base_span,
+  day_span,
+  placed_nothing,
+  placed_day,
+  placed_base,
+}
 use Rattle.day_calls.proofs.place_shown.Goals as goal
 
--- past that test the row can be shown
-told : (c : goal.Else-not-row_showable) → let a = c.args in
-    showable a.base.now a.day.now a.marks.now a.i ≡ true
-told c = said_yes c.row_showable.ensures c.if-not-row_showable.false
-
--- past that test the row can be shown
-told_2 : (c : goal.Then-is_marked) → let a = c.args in
-    showable a.base.now a.day.now a.marks.now a.i ≡ true
-told_2 c = said_yes c.row_showable.ensures c.if-not-row_showable.false
-
--- past that test the row can be shown
-told_3 : (c : goal.After-section_place) → let a = c.args in
-    showable a.base.now a.day.now a.marks.now a.i ≡ true
-told_3 c = said_yes c.row_showable.ensures c.if-not-row_showable.false
-
--- past that test the row can be shown
-told_4 : (c : goal.Else-is_marked) → let a = c.args in
-    showable a.base.now a.day.now a.marks.now a.i ≡ true
-told_4 c = said_yes c.row_showable.ensures c.if-not-row_showable.false
-
--- past that test the row can be shown
-told_5 : (c : goal.After-section_place-2) → let a = c.args in
-    showable a.base.now a.day.now a.marks.now a.i ≡ true
-told_5 c = said_yes c.row_showable.ensures c.if-not-row_showable.false
-
 pub returns-then-not-row_showable : goal.returns-then-not-row_showable
-returns-then-not-row_showable c = placed_nothing _ _ _ _ _ (said_no c.row_showable.ensures c.if-not-row_showable.true)
+returns-then-not-row_showable c =
+    placed_nothing _ _ _ _ _ (said_no c.row_showable.ensures c.if-not-row_showable.true)
 
 pub is_marked-requires : goal.is_marked-requires
-is_marked-requires c = shown_vector _ _ _ _ (told c)
+is_marked-requires c = shown_vector _ _ _ _ (said_yes c.row_showable.ensures c.if-not-row_showable.false)
 
-pub section_place-requires : goal.section_place-requires
-section_place-requires c =
-    let t = told_2 c in
-    record {
-      fact_1 = (shown_pair _ _ _ _ t).over.day_valid.header;
-      fact_2 = day_span _ _ _ _ t;
-    }
+pub section_place-requires-clause-fact_1 : goal.section_place-requires-clause-fact_1
+section_place-requires-clause-fact_1 c =
+    (shown_pair _ _ _ _ (said_yes c.row_showable.ensures c.if-not-row_showable.false)).over.day_valid.header
+
+pub section_place-requires-clause-fact_2 : goal.section_place-requires-clause-fact_2
+section_place-requires-clause-fact_2 c = day_span _ _ _ _ (said_yes c.row_showable.ensures c.if-not-row_showable.false)
+
+pub section_place-requires-else-is_marked-clause-fact_1 : goal.section_place-requires-else-is_marked-clause-fact_1
+section_place-requires-else-is_marked-clause-fact_1 c =
+    (shown_pair _ _ _ _ (said_yes c.row_showable.ensures c.if-not-row_showable.false)).base_valid.header
+
+pub section_place-requires-else-is_marked-clause-fact_2 : goal.section_place-requires-else-is_marked-clause-fact_2
+section_place-requires-else-is_marked-clause-fact_2 c =
+    base_span _ _ _ _ (said_yes c.row_showable.ensures c.if-not-row_showable.false)
 
 pub returns-then-is_marked : goal.returns-then-is_marked
 returns-then-is_marked c =
     c.section_place.ensures
-    ∙ placed_day _ _ _ _ _ (told_3 c) (sym c.is_marked.ensures ∙ c.if-is_marked.true)
+    ∙ placed_day _ _ _ _ _ (said_yes c.row_showable.ensures c.if-not-row_showable.false)
+    (said_yes c.is_marked.ensures c.if-is_marked.true)
 
-pub section_place-requires-2 : goal.section_place-requires-2
-section_place-requires-2 c =
-    let t = told_4 c in
-    record {
-      fact_1 = (shown_pair _ _ _ _ t).base_valid.header;
-      fact_2 = base_span _ _ _ _ t;
-    }
-
-pub returns : goal.returns
-returns c =
-    c.section_place-2.ensures
-    ∙ placed_base _ _ _ _ _ (told_5 c) (sym c.is_marked.ensures ∙ c.if-is_marked.false)
+pub returns-else-is_marked : goal.returns-else-is_marked
+returns-else-is_marked c =
+    c.section_place-else-is_marked.ensures
+    ∙ placed_base _ _ _ _ _ (said_yes c.row_showable.ensures c.if-not-row_showable.false)
+    (said_no c.is_marked.ensures c.if-is_marked.false)

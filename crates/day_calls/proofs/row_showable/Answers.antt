@@ -1,17 +1,19 @@
 -- `row_showable` is the test `showable`.
 use native.Mathlib.Omega.{arith}
-use mathlib.Core.Path.{sym, ◌∙◌}
-use Rattle.day_requests.proofs.Readiness.{pair_ready}
-use Rattle.day_calls.proofs.Shows.{not_showable, row_decides}
+use mathlib.Core.Path.{◌∙◌}
+use Rattle.conditions.proofs.Tests.{said_no, said_yes}
+use Rattle.day_calls.proofs.Shows.{ready_told, not_showable, row_decides}
 use Rattle.day_calls.proofs.row_showable.Goals as goal
-
-pub returns-then-code-ne0 : goal.returns-then-code-ne0
-returns-then-code-ne0 c = not_showable _ _ _ _ _ c.pair_refusal-code.ensures c.if-code-ne0.true
 
 pub bounds-base-3 : goal.bounds-base-3
 bounds-base-3 c =
-    let m = (pair_ready _ _ _ (sym c.pair_refusal-code.ensures ∙ c.if-code-ne0.false)).base_valid in
+    let m = (ready_told _ _ _ _ (said_yes c.is_ok.ensures.value c.if-is_ok.true) c.pair_refusal.ensures).base_valid in
     omega arith
 
-pub returns : goal.returns
-returns c = row_decides _ _ _ _ _ c.pair_refusal-code.ensures c.if-code-ne0.false
+pub returns-then-is_ok : goal.returns-then-is_ok
+returns-then-is_ok c =
+    row_decides _ _ _ _ _ (said_yes c.is_ok.ensures.value c.if-is_ok.true) c.pair_refusal.ensures
+
+pub returns-else-is_ok : goal.returns-else-is_ok
+returns-else-is_ok c =
+    c.if-is_ok.false ∙ not_showable _ _ _ _ _ (said_no c.is_ok.ensures.value c.if-is_ok.false) c.pair_refusal.ensures

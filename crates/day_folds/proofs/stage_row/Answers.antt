@@ -1,9 +1,4 @@
 -- `stage_row` stages the row of the matrix that it is shown from.
-use Prim.Native.Nat.{ℕ}
-use native.Mathlib.Omega.{arith}
-use mathlib.Core.Path.{ap, ◌∙◌}
-use mathlib.Core.List.{List}
-use Rattle.matrix.specs.Layout.{row_columns, row_values}
 use Rattle.day_folds.proofs.Shown.{shown_matrix, shown_span}
 use Rattle.day_folds.proofs.Counted.{row_bounds, row_staged}
 use Rattle.day_folds.proofs.stage_row.Goals as goal
@@ -11,33 +6,25 @@ use Rattle.day_folds.proofs.stage_row.Goals as goal
 pub row_columns-columns-requires : goal.row_columns-columns-requires
 row_columns-columns-requires c =
     rw c.shown-source.ensures
-    ((shown_matrix c.requires.fact_1 c.args.i).header, shown_span c.requires.fact_1 c.args.i c.requires.fact_2)
+    ((shown_matrix c.requires.pair c.args.i).header, shown_span c.requires.pair c.args.i c.requires.row)
 
 pub row_values-requires : goal.row_values-requires
 row_values-requires c =
     rw c.shown-source.ensures
-    ((shown_matrix c.requires.fact_1 c.args.i).header, shown_span c.requires.fact_1 c.args.i c.requires.fact_2)
+    ((shown_matrix c.requires.pair c.args.i).header, shown_span c.requires.pair c.args.i c.requires.row)
 
 pub stage_row-requires : goal.stage_row-requires
 stage_row-requires c =
-    let e = c.row_columns-columns.ensures.words
-    ∙ ap (λ (w : List ℕ). row_columns w c.args.i) c.shown-source.ensures in
-    let v = c.row_values.ensures.words ∙ ap (λ (w : List ℕ). row_values w c.args.i) c.shown-source.ensures in
+    let h = c.requires in
     rw c.row_count-r.ensures
-    (row_bounds c.requires.fact_1 _ c.requires.fact_2 _ _ _ _ c.requires.fact_3 c.requires.fact_4 c.requires.fact_5 e v)
-
-pub overflow_add-result : goal.overflow_add-result
-overflow_add-result c =
-    let e = c.row_columns-columns.ensures.words
-    ∙ ap (λ (w : List ℕ). row_columns w c.args.i) c.shown-source.ensures in
-    let v = c.row_values.ensures.words ∙ ap (λ (w : List ℕ). row_values w c.args.i) c.shown-source.ensures in
-    let b = row_bounds c.requires.fact_1 _ c.requires.fact_2 _ _ _ _ c.requires.fact_3 c.requires.fact_4 c.requires.fact_5 e v in
-    omega (arith, b.few)
+    (row_bounds h.pair _ h.row _ _ _ _ h.few h.space h.staged
+    (rw c.shown-source.ensures at c.row_columns-columns.ensures.words)
+    (rw c.shown-source.ensures at c.row_values.ensures.words))
 
 pub returns : goal.returns
 returns c =
-    let e = c.row_columns-columns.ensures.words
-    ∙ ap (λ (w : List ℕ). row_columns w c.args.i) c.shown-source.ensures in
-    let v = c.row_values.ensures.words ∙ ap (λ (w : List ℕ). row_values w c.args.i) c.shown-source.ensures in
+    let h = c.requires in
     rw (c.stage_row.ensures, c.row_count-r.ensures)
-    (row_staged c.requires.fact_1 _ c.requires.fact_2 _ _ _ _ c.requires.fact_3 c.requires.fact_4 c.requires.fact_5 e v)
+    (row_staged h.pair _ h.row _ _ _ _ h.few h.space h.staged
+    (rw c.shown-source.ensures at c.row_columns-columns.ensures.words)
+    (rw c.shown-source.ensures at c.row_values.ensures.words))

@@ -1,19 +1,14 @@
 -- `put_mark` inserts the entry, or replaces its value.
-use Rattle.day_marks.proofs.Marks.{in_vector, absent_placed, present_placed, has_space}
+use mathlib.Core.Path.{sym, ◌∙◌}
+use Rattle.grid.proofs.Position.{present_at}
+use Rattle.day_marks.proofs.Marks.{absent_placed, has_space}
 use Rattle.day_marks.proofs.put_mark.Goals as goal
 
-pub insert_entry-requires : goal.insert_entry-requires
-insert_entry-requires c =
-    let k = c.in_default.is in
-    record {
-      fact_1 = in_vector c.requires.fact_1;
-      fact_2 = absent_placed c.requires.fact_2 k c.position_of.ensures;
-      fact_3 = has_space c.requires.fact_1 k c.requires.fact_3;
-    }
+pub insert_entry-requires-clause-fact_2 : goal.insert_entry-requires-clause-fact_2
+insert_entry-requires-clause-fact_2 c = absent_placed c.requires.searched c.in_default.is c.position_of.ensures
 
-pub replace_value-requires : goal.replace_value-requires
-replace_value-requires c =
-    record {
-      fact_1 = in_vector c.requires.fact_1;
-      fact_2 = present_placed c.requires.fact_2 c.in-Present.is;
-    }
+pub insert_entry-requires-clause-fact_3 : goal.insert_entry-requires-clause-fact_3
+insert_entry-requires-clause-fact_3 c = has_space c.requires.vector c.in_default.is c.requires.space
+
+pub replace_value-requires-clause-fact_2 : goal.replace_value-requires-clause-fact_2
+replace_value-requires-clause-fact_2 c = present_at (sym c.requires.searched ∙ c.in-Present.is)

@@ -1,82 +1,18 @@
 -- `pair_refusal` asks for the refusals in their order.
 use native.Mathlib.Omega.{arith}
-use mathlib.Core.Path.{◌≡◌, sym, ◌∙◌}
-use mathlib.Core.Bool.{true}
-use Rattle.conditions.proofs.Tests.{said_no, said_yes}
-use Rattle.matrix.specs.Valid.{valid}
+use Rattle.conditions.proofs.Tests.{said_yes}
 use Rattle.matrix.proofs.Facts.{matrix_facts}
-use Rattle.day_requests.specs.Refusal.{day_refusal}
-use Rattle.day_requests.proofs.Refusals.{day_held, marks_held, pair_base, pair_day, pair_rest}
+use Rattle.day_requests.proofs.Readiness.{day_matrix, marks_matrix}
 use Rattle.day_requests.proofs.pair_refusal.Goals as goal
 
--- past its first test the base matrix is valid
-held : (c : goal.Then-code-ne0) → valid c.args.base.now ≡ true
-held c = said_yes c.is_valid.ensures c.if-not-is_valid.false
+pub same_shape-requires-clause-base_header : goal.same_shape-requires-clause-base_header
+same_shape-requires-clause-base_header c = (matrix_facts _ (said_yes c.is_valid.ensures c.if-not-is_valid.false)).header
 
--- past its first test the base matrix is valid
-held_2 : (c : goal.Else-code-ne0) → valid c.args.base.now ≡ true
-held_2 c = said_yes c.is_valid.ensures c.if-not-is_valid.false
-
-none : (c : goal.Else-code-ne0) → day_refusal c.args.day.now c.args.marks.now ≡ 0
-none c = sym c.day_refusal-code.ensures ∙ c.if-code-ne0.false
-
--- past its first test the base matrix is valid
-held_3 : (c : goal.Then-not-same_shape) → valid c.args.base.now ≡ true
-held_3 c = said_yes c.is_valid.ensures c.if-not-is_valid.false
-
-none_2 : (c : goal.Then-not-same_shape) → day_refusal c.args.day.now c.args.marks.now ≡ 0
-none_2 c = sym c.day_refusal-code.ensures ∙ c.if-code-ne0.false
-
--- past its first test the base matrix is valid
-held_4 : (c : goal.After-shared_slice_known-4-1-unread) → valid c.args.base.now ≡ true
-held_4 c = said_yes c.is_valid.ensures c.if-not-is_valid.false
-
-none_3 : (c : goal.After-shared_slice_known-4-1) → day_refusal c.args.day.now c.args.marks.now ≡ 0
-none_3 c = sym c.day_refusal-code.ensures ∙ c.if-code-ne0.false
-
--- past its first test the base matrix is valid
-held_5 : (c : goal.Then-not-is_vector) → valid c.args.base.now ≡ true
-held_5 c = said_yes c.is_valid.ensures c.if-not-is_valid.false
-
-none_4 : (c : goal.Then-not-is_vector) → day_refusal c.args.day.now c.args.marks.now ≡ 0
-none_4 c = sym c.day_refusal-code.ensures ∙ c.if-code-ne0.false
-
--- past its first test the base matrix is valid
-held_6 : (c : goal.Else-not-is_vector) → valid c.args.base.now ≡ true
-held_6 c = said_yes c.is_valid.ensures c.if-not-is_valid.false
-
-none_5 : (c : goal.Else-not-is_vector) → day_refusal c.args.day.now c.args.marks.now ≡ 0
-none_5 c = sym c.day_refusal-code.ensures ∙ c.if-code-ne0.false
-
-pub returns-then-not-is_valid : goal.returns-then-not-is_valid
-returns-then-not-is_valid c = pair_base _ _ _ (said_no c.is_valid.ensures c.if-not-is_valid.true)
-
-pub returns-then-code-ne0 : goal.returns-then-code-ne0
-returns-then-code-ne0 c = pair_day _ _ _ _ (held c) c.day_refusal-code.ensures c.if-code-ne0.true
-
-pub same_shape-requires : goal.same_shape-requires
-same_shape-requires c =
-    record {
-      fact_1 = (matrix_facts _ (held_2 c)).header;
-      fact_2 = (matrix_facts _ (day_held _ _ (none c))).header;
-    }
-
-pub returns-then-not-same_shape : goal.returns-then-not-same_shape
-returns-then-not-same_shape c =
-    pair_rest _ _ _ _ (held_3 c) (none_2 c) (rw (said_no c.same_shape.ensures c.if-not-same_shape.true))
+pub same_shape-requires-clause-day_header : goal.same_shape-requires-clause-day_header
+same_shape-requires-clause-day_header c = (day_matrix _ _ c.in_ok-day_refusal.ensures).header
 
 pub bounds-base-3 : goal.bounds-base-3
-bounds-base-3 c = let m = matrix_facts _ (held_4 c) in omega arith
+bounds-base-3 c = let m = matrix_facts _ (said_yes c.is_valid.ensures c.if-not-is_valid.false) in omega arith
 
 pub is_vector-requires : goal.is_vector-requires
-is_vector-requires c = (matrix_facts _ (marks_held _ _ (none_3 c))).header
-
-pub returns-then-not-is_vector : goal.returns-then-not-is_vector
-returns-then-not-is_vector c =
-    pair_rest _ _ _ _ (held_5 c) (none_4 c)
-    (rw (said_yes c.same_shape.ensures c.if-not-same_shape.false, said_no c.is_vector.ensures c.if-not-is_vector.true))
-
-pub returns : goal.returns
-returns c =
-    pair_rest _ _ _ _ (held_6 c) (none_5 c)
-    (rw (said_yes c.same_shape.ensures c.if-not-same_shape.false, said_yes c.is_vector.ensures c.if-not-is_vector.false))
+is_vector-requires c = (marks_matrix _ _ c.in_ok-day_refusal.ensures).header

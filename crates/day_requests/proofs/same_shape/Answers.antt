@@ -1,13 +1,13 @@
 -- `same_shape` compares the two counts one after the other.
-use borrow.Author.Tests.{eq-eqb, ne_eqb}
+use Rattle.std.proofs.Common.{arith}
 use Rattle.conditions.specs.Tests.{◌and◌}
 use Rattle.day_requests.specs.Refusal.{same_shape}
 use Rattle.day_requests.proofs.same_shape.Goals as goal
 
 pub returns-then-day-base : goal.returns-then-day-base
 unfolding same_shape ◌and◌
-returns-then-day-base c = rw (ne_eqb _ _ c.if-day-base.true)
+returns-then-day-base c = grind arith
 
-pub returns : goal.returns
+pub returns-else-day-base : goal.returns-else-day-base
 unfolding same_shape ◌and◌
-returns c = rw (eq-eqb _ _ c.if-day-base.false)
+returns-else-day-base c = grind arith

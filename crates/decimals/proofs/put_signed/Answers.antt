@@ -5,19 +5,22 @@ use Rattle.decimals.proofs.put_signed.Goals as goal
 
 pub put_decimal-requires : goal.put_decimal-requires
 put_decimal-requires c =
-    positive_room c.args.at c.args.word c.args.out.now c.if-word-lt2147483648.true c.requires
+    positive_room c.args.at c.args.word c.args.out.now c.if-word-lt-FIRST_NEGATIVE.true c.requires
 
-pub returns-then-word-lt2147483648 : goal.returns-then-word-lt2147483648
-returns-then-word-lt2147483648 c = positive_appended _ _ _ c.if-word-lt2147483648.true c.put_decimal.ensures
+pub returns-then-word-lt-FIRST_NEGATIVE : goal.returns-then-word-lt-FIRST_NEGATIVE
+returns-then-word-lt-FIRST_NEGATIVE c = positive_appended _ _ _ c.if-word-lt-FIRST_NEGATIVE.true c.put_decimal.ensures
 
 pub put_byte-next-requires : goal.put_byte-next-requires
 put_byte-next-requires c = minus_room c.args.at c.args.word c.args.out.now (omega arith) (omega arith) c.requires
 
-pub put_decimal-requires-2 : goal.put_decimal-requires-2
-put_decimal-requires-2 c =
-    negative_room c.args.at c.args.word c.args.out.now (omega arith) (omega arith) c.requires
-    c.put_byte-next.ensures
+pub put_decimal-requires-else-word-lt-FIRST_NEGATIVE : goal.put_decimal-requires-else-word-lt-FIRST_NEGATIVE
+put_decimal-requires-else-word-lt-FIRST_NEGATIVE c =
+    negative_room c.args.at c.args.word c.args.out.now (omega arith) (omega arith) _ c.wrapping_neg.ensures
+    (omega arith)
+    c.requires c.put_byte-next.ensures
 
-pub returns : goal.returns
-returns c =
-    negative_appended _ _ _ (omega arith) (omega arith) c.put_byte-next.ensures c.put_decimal-2.ensures
+pub returns-else-word-lt-FIRST_NEGATIVE : goal.returns-else-word-lt-FIRST_NEGATIVE
+returns-else-word-lt-FIRST_NEGATIVE c =
+    negative_appended c.args.at c.args.word c.args.out.now (omega arith) (omega arith) _ c.wrapping_neg.ensures
+    (omega arith)
+    c.put_byte-next.ensures c.put_decimal-else-word-lt-FIRST_NEGATIVE.ensures

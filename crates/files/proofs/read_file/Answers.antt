@@ -6,6 +6,6 @@ use Rattle.files.proofs.read_file.Goals as goal
 pub read_staged-requires : goal.read_staged-requires
 read_staged-requires c =
     record {
-      fact_1 = omega arith;
-      fact_2 = refl;
+      room = omega arith;
+      front = refl;
     }

@@ -7,7 +7,7 @@ use Rattle.files.proofs.Reading.{staged_old, staged_new, too_long, read_old, rea
 use Rattle.files.proofs.read_staged.Goals as goal
 
 pub returns-then-total-gt-MAX_FILE_BYTES : goal.returns-then-total-gt-MAX_FILE_BYTES
-returns-then-total-gt-MAX_FILE_BYTES c = rw c.refused.ensures (too_long _ _ c.if-total-gt-MAX_FILE_BYTES.true)
+returns-then-total-gt-MAX_FILE_BYTES c = too_long _ _ c.if-total-gt-MAX_FILE_BYTES.true
 
 pub slice_bounds-take-end-then-old_form : goal.slice_bounds-take-end-then-old_form
 slice_bounds-take-end-then-old_form c = simp length-take (omega arith)
@@ -18,12 +18,15 @@ take-requires c = simp length-take (omega arith)
 pub returns-then-old_form : goal.returns-then-old_form
 returns-then-old_form c =
     let b = c.args.bytes.now in
-    let form = ap old_form (sym (staged_new b _ _ _ _ c.requires.fact_2 c.read_words.ensures)) ∙ sym c.old_form.ensures in
-    read_old _ _ _ _ (form ∙ c.if-old_form.true) (rw (staged_old b _ _ _ _ c.requires.fact_2 c.read_words.ensures) at c.take.ensures)
+    let form = ap old_form (sym (staged_new b _ _ _ _ c.requires.front c.read_words.ensures)) ∙ sym c.old_form.ensures
+    in
+    read_old _ _ _ _ (form ∙ c.if-old_form.true) (rw (staged_old b _ _ _ _ c.requires.front c.read_words.ensures) at
+    c.take.ensures)
 
-pub returns : goal.returns
-returns c =
+pub returns-else-old_form : goal.returns-else-old_form
+returns-else-old_form c =
     let b = c.args.bytes.now in
-    let form = ap old_form (sym (staged_new b _ _ _ _ c.requires.fact_2 c.read_words.ensures)) ∙ sym c.old_form.ensures in
+    let form = ap old_form (sym (staged_new b _ _ _ _ c.requires.front c.read_words.ensures)) ∙ sym c.old_form.ensures
+    in
     read_new _ _ _ _ (form ∙ c.if-old_form.false)
-    (rw (staged_new b _ _ _ _ c.requires.fact_2 c.read_words.ensures) at c.take-2.ensures)
+    (rw (staged_new b _ _ _ _ c.requires.front c.read_words.ensures) at c.take-else-old_form.ensures)

@@ -7,12 +7,12 @@ use Rattle.formula_evaluation.proofs.load.Goals as goal
 
 pub copy_into-requires : goal.copy_into-requires
 copy_into-requires c =
-    omega (arith, ap length c.contents.ensures.words, held_long _ c.requires.fact_3, c.requires.fact_4)
+    omega (arith, ap length c.contents.ensures.words, held_long _ c.requires.held, c.requires.room)
 
 pub set_revision-requires : goal.set_revision-requires
-set_revision-requires c = omega (arith, c.copy_into.auto.dst, c.requires.fact_4)
+set_revision-requires c = omega (arith, c.copy_into.auto.dst, c.requires.room)
 
 pub returns : goal.returns
 returns c =
     rw (c.set_revision.ensures, c.copy_into.ensures, c.contents.ensures.words)
-    (held_standing _ c.requires.fact_3 c.args.stack.now c.requires.fact_4)
+    (held_standing _ c.requires.held c.args.stack.now c.requires.room)

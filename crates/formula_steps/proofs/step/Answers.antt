@@ -17,8 +17,8 @@ slice_bounds-shape_of-end c = omega (arith, c.requires.space)
 pub needs_of-needs-requires : goal.needs_of-needs-requires
 needs_of-needs-requires c =
     let p = c.requires.ready in record {
-      fact_1 = shape_small p.left _ c.shape_of-first.ensures;
-      fact_2 = shape_small p.right _ c.shape_of-second.ensures;
+      first_small = shape_small p.left _ c.shape_of-first.ensures;
+      second_small = shape_small p.right _ c.shape_of-second.ensures;
     }
 
 pub returns-then-not-inputs_agree : goal.returns-then-not-inputs_agree

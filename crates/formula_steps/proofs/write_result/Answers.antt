@@ -1,7 +1,16 @@
 -- `write_result` gathers the rows, makes the words whole and moves them to the front.
 use native.Mathlib.Omega.{arith}
 use mathlib.Core.Path.{refl, ◌∙◌}
-use Rattle.formula_steps.proofs.Result.{staging_start, stepped_full, result_bounds, tail_starts, size_fits, move_fits, area_kept, stepped_done}
+use Rattle.formula_steps.proofs.Result.{
+  staging_start,
+  stepped_full,
+  result_bounds,
+  tail_starts,
+  size_fits,
+  move_fits,
+  area_kept,
+  stepped_done,
+}
 use Rattle.formula_steps.proofs.write_result.Goals as goal
 
 pub all_rows-n-requires : goal.all_rows-n-requires
@@ -27,18 +36,18 @@ finish-requires c =
     let k = c.all_rows-n.auto.area in
     result_bounds c.requires c.all_rows-n.ensures k c.if-n.false
 
-pub overflow_add-rows : goal.overflow_add-rows
-overflow_add-rows c =
+pub overflow_add-res : goal.overflow_add-res
+overflow_add-res c =
     let k = c.all_rows-n.auto.area in
     omega (arith, size_fits c.requires c.all_rows-n.ensures k c.if-n.false)
 
-pub overflow_add-rows-2 : goal.overflow_add-rows-2
-overflow_add-rows-2 c =
+pub overflow_add-res-2 : goal.overflow_add-res-2
+overflow_add-res-2 c =
     let k = c.all_rows-n.auto.area in
     omega (arith, size_fits c.requires c.all_rows-n.ensures k c.if-n.false)
 
-pub overflow_add-rows-3 : goal.overflow_add-rows-3
-overflow_add-rows-3 c =
+pub overflow_add-res-3 : goal.overflow_add-res-3
+overflow_add-res-3 c =
     let k = c.all_rows-n.auto.area in
     omega (arith, size_fits c.requires c.all_rows-n.ensures k c.if-n.false)
 

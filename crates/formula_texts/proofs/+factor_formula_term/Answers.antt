@@ -1,87 +1,75 @@
-use Rattle.std.proofs.Common.{arith}
+-- The functions that read a text, together: each answer is where the phrase ends that stands there.
+use Rattle.std.proofs.Common.{rules, arith}
 use Rattle.formula_texts.proofs.Joined.{terms, factors, no_first, first_alone, first_joined}
 use Rattle.formula_texts.proofs.Factors.{factor_past, too_deep, no_inner, unclosed, closed, no_digit, one_digit}
 use Rattle.formula_texts.proofs.+factor_formula_term.Goals as goal
 
--- src/lib.rt:90:9
-pub factor-returns-then-text-at : goal.factor-returns-then-text-at
-factor-returns-then-text-at t c = factor_past c.args.text.now c.args.at c.args.allowance c.if-text-at.true
+pub factor-returns-in_err-x : goal.factor-returns-in_err-x
+factor-returns-in_err-x t c =
+    rw c.from_residual.ensures (factor_past c.args.text.now c.args.at c.args.allowance c.in_err-x.ensures.lookup.3)
 
--- src/lib.rt:95:13
 pub factor-returns-then-allowance-eq0 : goal.factor-returns-then-allowance-eq0
 factor-returns-then-allowance-eq0 t c =
-    too_deep c.args.text.now c.args.at c.args.allowance c.if-text-at.false c.if-x-eq-OPEN.true
-    c.if-allowance-eq0.true
+    let h = c.in_ok-x.ensures.lookup.3 in
+    too_deep c.args.text.now c.args.at c.args.allowance h.0 (omega (arith, h.1 0)) c.if-allowance-eq0.true
 
--- src/lib.rt:99:13
-pub factor-returns-in_default : goal.factor-returns-in_default
-factor-returns-in_default t c =
-    no_inner c.args.text.now c.args.at c.args.allowance c.if-text-at.false c.if-x-eq-OPEN.true _ c.in_default.is
-    c.formula-inner.ensures
+pub factor-returns-in_err-p : goal.factor-returns-in_err-p
+factor-returns-in_err-p t c =
+    let h = c.in_ok-x.ensures.lookup.3 in
+    rw c.from_residual-in_err-p.ensures
+    (no_inner c.args.text.now c.args.at c.args.allowance h.0 (omega (arith, h.1 0)) c.in_err-p.ensures)
 
--- src/lib.rt:102:13
 pub factor-returns-then-stands : goal.factor-returns-then-stands
 factor-returns-then-stands t c =
-    let g = rw c.if-stands.true at c.stands.ensures in
-    closed c.args.text.now c.args.at c.args.allowance c.if-text-at.false c.if-x-eq-OPEN.true _ _ c.in-Ends.is
-    c.formula-inner.ensures c.if-allowance-eq0.false g.0 g.1
+    let h = c.in_ok-x.ensures.lookup.3 in
+    closed c.args.text.now c.args.at c.args.allowance h.0 (omega (arith, h.1 0)) _ c.in_ok-p.ensures
+    c.if-allowance-eq0.false
+    c.if-stands.ensures
 
--- src/lib.rt:104:9
-pub factor-returns-then-x-eq-OPEN : goal.factor-returns-then-x-eq-OPEN
-factor-returns-then-x-eq-OPEN t c =
-    unclosed c.args.text.now c.args.at c.args.allowance c.if-text-at.false c.if-x-eq-OPEN.true _ _ c.in-Ends.is
-    c.formula-inner.ensures (rw c.if-stands.false at c.stands.ensures)
+pub factor-returns-else-stands : goal.factor-returns-else-stands
+factor-returns-else-stands t c =
+    let h = c.in_ok-x.ensures.lookup.3 in
+    unclosed c.args.text.now c.args.at c.args.allowance h.0 (omega (arith, h.1 0)) _ c.in_ok-p.ensures
+    c.if-stands.ensures
 
--- src/lib.rt:107:9
-pub factor-returns-then-x-lt-FIRST_DIGIT : goal.factor-returns-then-x-lt-FIRST_DIGIT
-factor-returns-then-x-lt-FIRST_DIGIT t c =
-    no_digit c.args.text.now c.args.at c.args.allowance c.if-text-at.false c.if-x-eq-OPEN.false
-    (λ l h. omega (arith, c.if-x-lt-FIRST_DIGIT.true))
+pub factor-returns-then-contains : goal.factor-returns-then-contains
+factor-returns-then-contains t c =
+    let h = c.in_ok-x.ensures.lookup.3 in
+    let e = h.1 0 in
+    one_digit c.args.text.now c.args.at c.args.allowance h.0 (λ k. c.if-x-eq-OPEN.false (omega arith)) (search rules)
+    (search rules)
 
--- src/lib.rt:110:9
-pub factor-returns-then-x-gt-LAST_DIGIT : goal.factor-returns-then-x-gt-LAST_DIGIT
-factor-returns-then-x-gt-LAST_DIGIT t c =
-    no_digit c.args.text.now c.args.at c.args.allowance c.if-text-at.false c.if-x-eq-OPEN.false
-    (λ l h. omega (arith, c.if-x-gt-LAST_DIGIT.true))
+pub factor-returns-else-contains : goal.factor-returns-else-contains
+factor-returns-else-contains t c =
+    let h = c.in_ok-x.ensures.lookup.3 in
+    let e = h.1 0 in
+    no_digit c.args.text.now c.args.at c.args.allowance h.0 (λ k. c.if-x-eq-OPEN.false (omega arith))
+    (λ l k. search rules)
 
--- src/lib.rt:84:1
-pub factor-returns : goal.factor-returns
-factor-returns t c =
-    one_digit c.args.text.now c.args.at c.args.allowance c.if-text-at.false c.if-x-eq-OPEN.false
-    c.if-x-lt-FIRST_DIGIT.false c.if-x-gt-LAST_DIGIT.false
+pub formula-returns-in_err-p : goal.formula-returns-in_err-p
+formula-returns-in_err-p t c =
+    rw c.from_residual.ensures (no_first terms c.args.text.now c.args.at c.args.allowance c.in_err-p.ensures)
 
--- src/lib.rt:59:9
-pub formula-returns-in_default : goal.formula-returns-in_default
-formula-returns-in_default t c =
-    no_first terms c.args.text.now c.args.at c.args.allowance _ c.in_default.is c.term-first.ensures
-
--- src/lib.rt:62:9
 pub formula-returns-then-stands : goal.formula-returns-then-stands
 formula-returns-then-stands t c =
-    let g = rw c.if-stands.true at c.stands.ensures in
-    first_joined terms c.args.text.now c.args.at c.args.allowance _ _ c.in-Ends.is c.term-first.ensures c.formula.result g.0 g.1
+    first_joined terms c.args.text.now c.args.at c.args.allowance _ c.in_ok-p.ensures c.formula.result
+    c.if-stands.ensures
     c.formula.ensures
 
--- src/lib.rt:52:1
-pub formula-returns : goal.formula-returns
-formula-returns t c =
-    first_alone terms c.args.text.now c.args.at c.args.allowance _ _ c.in-Ends.is c.term-first.ensures
-    (rw c.if-stands.false at c.stands.ensures)
+pub formula-returns-else-stands : goal.formula-returns-else-stands
+formula-returns-else-stands t c =
+    first_alone terms c.args.text.now c.args.at c.args.allowance _ c.in_ok-p.ensures c.if-stands.ensures
 
--- src/lib.rt:75:9
-pub term-returns-in_default : goal.term-returns-in_default
-term-returns-in_default t c =
-    no_first factors c.args.text.now c.args.at c.args.allowance _ c.in_default.is c.factor-first.ensures
+pub term-returns-in_err-p : goal.term-returns-in_err-p
+term-returns-in_err-p t c =
+    rw c.from_residual.ensures (no_first factors c.args.text.now c.args.at c.args.allowance c.in_err-p.ensures)
 
--- src/lib.rt:78:9
 pub term-returns-then-stands : goal.term-returns-then-stands
 term-returns-then-stands t c =
-    let g = rw c.if-stands.true at c.stands.ensures in
-    first_joined factors c.args.text.now c.args.at c.args.allowance _ _ c.in-Ends.is c.factor-first.ensures c.term.result g.0 g.1
+    first_joined factors c.args.text.now c.args.at c.args.allowance _ c.in_ok-p.ensures c.term.result
+    c.if-stands.ensures
     c.term.ensures
 
--- src/lib.rt:68:1
-pub term-returns : goal.term-returns
-term-returns t c =
-    first_alone factors c.args.text.now c.args.at c.args.allowance _ _ c.in-Ends.is c.factor-first.ensures
-    (rw c.if-stands.false at c.stands.ensures)
+pub term-returns-else-stands : goal.term-returns-else-stands
+term-returns-else-stands t c =
+    first_alone factors c.args.text.now c.args.at c.args.allowance _ c.in_ok-p.ensures c.if-stands.ensures

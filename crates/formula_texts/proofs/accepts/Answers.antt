@@ -1,15 +1,7 @@
-use Rattle.formula_texts.proofs.Whole.{no_formula, whole_text, bytes_left}
+-- `accepts` decides whether the text is in the language.
+use Rattle.formula_texts.proofs.Whole.{decided}
 use Rattle.formula_texts.proofs.accepts.Goals as goal
 
-pub returns-in_default : goal.returns-in_default
-returns-in_default c = no_formula _ _ c.in_default.is c.formula-whole.ensures
-
-pub returns-then-q-text : goal.returns-then-q-text
-returns-then-q-text c =
-    whole_text _ _ _ c.in-Ends.is c.formula-whole.ensures
-    c.if-q-text.true c.if-text-gt-MAX_BYTES.false
-
-pub returns : goal.returns
-returns c =
-    bytes_left _ _ _ c.in-Ends.is c.formula-whole.ensures
-    c.if-q-text.false
+pub returns-then-text-le-MAX_BYTES : goal.returns-then-text-le-MAX_BYTES
+returns-then-text-le-MAX_BYTES c =
+    rw c.eq.ensures (decided c.args.text.now c.formula.result c.formula.ensures c.if-text-le-MAX_BYTES.true)

@@ -1,50 +1,40 @@
--- `count_marks` counts the marks before i.
-use Prim.Native.Nat.{ℕ, ◌+◌}
+-- `count_marks` counts the words that are marked.
+use Rattle.std.proofs.Common.{rules}
+use Prim.Native.Nat.{ℕ, zero, suc, ◌≤◌}
 use native.Mathlib.Omega.{arith}
-use mathlib.Core.Path.{◌≡◌, ap, ◌∙◌}
-use lib.ListN.{length}
+use native.Mathlib.Numerals.{add-one}
+use mathlib.Core.Path.{◌≡◌, refl, ◌∙◌}
+use mathlib.Core.Bool.{cond}
+use mathlib.Core.List.{List}
+use lib.ListN.{length, take}
+use lib.Seq.{take_all}
+use borrow.Author.Tests.{tests}
+use Rattle.std.specs.List.{count_by}
+use Rattle.std.proofs.lemmas.List.Sums.{length-filter, sum_by_more}
+use Rattle.std.proofs.lemmas.Iterator.{YieldsList-from_slice}
+use Rattle.std.proofs.lemmas.Iterator.Consumers.{count_from_yields_List, YieldsList-from_filter}
 use Rattle.key_rounds.specs.Rounds.{count}
-use Rattle.key_rounds.proofs.Counting.{count_none, count_next, count_most}
-use Rattle.key_marks.specs.Marks.{held}
+use Rattle.key_marks.specs.Marks.{mark, held}
 use Rattle.key_marks.proofs.count_marks.Goals as goal
 
--- the word at i is counted
-counted : (c : goal.After-one_if_marked-n)
-    → c.loop-i.n + c.one_if_marked-n.result ≡ count (c.loop-i.i + 1) (held c.args.words.now)
-counted c =
-    omega (
-      arith,
-      c.loop-i.invariant.0,
-      c.one_if_marked-n.ensures,
-      count_next c.loop-i.i
-          (held c.args.words.now),
-    )
+-- the marks of the first n words
+marks_before : (words : List ℕ) (n : ℕ) → n ≤ length words → count_by mark (take n words) ≡ count n (held words)
+unfolding count
+marks_before words zero l = refl
+marks_before words (suc n) l =
+    let h = marks_before words n (omega arith) in
+    let s = sum_by_more (λ w. cond (mark w) 1 0) words n 0 (omega arith) in
+    rw (← (add-one n)) (s ∙ rw h)
 
-pub loop-i-init : goal.loop-i-init
-loop-i-init c = (count_none _, omega arith)
-
-pub offset_bounds-words-i : goal.offset_bounds-words-i
-offset_bounds-words-i c = omega arith
-
-pub bounds-words-i : goal.bounds-words-i
-bounds-words-i c = omega arith
-
-pub one_if_marked-n-requires : goal.one_if_marked-n-requires
-one_if_marked-n-requires c = tt
-
-pub overflow_add-n : goal.overflow_add-n
-overflow_add-n c = omega (arith, counted c, count_most (c.loop-i.i + 1) (held c.args.words.now))
-
-pub overflow_add-i : goal.overflow_add-i
-overflow_add-i c = omega arith
-
-pub loop-i-smaller : goal.loop-i-smaller
-loop-i-smaller c = omega arith
-
-pub loop-i-preserved : goal.loop-i-preserved
-loop-i-preserved c = (counted c, omega arith)
+marks_all : (words : List ℕ) → count_by mark words ≡ count (length words) (held words)
+marks_all words = rw (take_all (length words) words (omega arith)) at (marks_before words (length words) (omega arith))
 
 pub returns : goal.returns
+unfolding mark
 returns c =
-    let e : c.loop-i.i ≡ length c.args.words.now = omega arith in
-    c.loop-i.invariant.0 ∙ ap (λ (i : ℕ). count i (held c.args.words.now)) e
+    let w = c.args.words.now in
+    count_from_yields_List _ _ c.count.ensures.ran
+    (YieldsList-from_filter _ mark (YieldsList-from_slice w cc) c.filter.ensures.closure
+    (λ x r q k. search (rules, tests)))
+    ∙ length-filter mark w
+    ∙ marks_all w

@@ -3,10 +3,14 @@ use Rattle.key_marks.proofs.Hands.{asked_vector, marked_lent, marked_rounds}
 use Rattle.key_marks.proofs.doors_asked.Goals as goal
 
 pub mark_hand-requires : goal.mark_hand-requires
-mark_hand-requires c = asked_vector c.requires.fact_1
+mark_hand-requires c = asked_vector c.requires.asked
 
 pub doors_open-requires : goal.doors_open-requires
-doors_open-requires c = (marked_lent c.requires.fact_1 c.mark_hand.ensures, c.requires.fact_2)
+doors_open-requires c =
+    record {
+      lent = marked_lent c.requires.asked c.mark_hand.ensures;
+      allowed = c.requires.allowed;
+    }
 
 pub returns : goal.returns
-returns c = marked_rounds c.requires.fact_1 c.mark_hand.ensures c.doors_open.ensures
+returns c = marked_rounds c.requires.asked c.mark_hand.ensures c.doors_open.ensures

@@ -9,8 +9,8 @@ row_columns-requires c = (c.requires.valid.header, vector_span c.requires)
 pub mark_row-requires : goal.mark_row-requires
 mark_row-requires c =
     record {
-      fact_1 = vector_below c.requires c.clear.ensures c.row_columns.ensures.words;
-      fact_2 = omega arith;
+      places = vector_below c.requires c.clear.ensures c.row_columns.ensures.words;
+      marking = omega arith;
     }
 
 pub returns : goal.returns

@@ -2,20 +2,11 @@
 use Rattle.key_marks.proofs.Rows.{row_unnamed, row_named}
 use Rattle.key_marks.proofs.mark_named.Goals as goal
 
-pub returns-then-named-eq0 : goal.returns-then-named-eq0
-returns-then-named-eq0 c =
-    row_unnamed c.args.m.now c.args.i
-    c.args.named _ c.if-named-eq0.true
-
-pub mark_row-requires : goal.mark_row-requires
-mark_row-requires c =
-    record {
-      fact_1 = rw c.row_columns.ensures.words c.requires.header_3;
-      fact_2 = c.requires.le_stamp;
-    }
-
-pub returns : goal.returns
-returns c =
+pub returns-then-named-ne0 : goal.returns-then-named-ne0
+returns-then-named-ne0 c =
     let a = c.args in
-    row_named a.m.now a.i a.named c.requires.header_1 c.requires.header_2 c.if-named-eq0.false
+    row_named a.m.now a.i a.named c.requires.header c.requires.row c.if-named-ne0.true
     (rw c.row_columns.ensures.words at c.mark_row.ensures)
+
+pub returns-else-named-ne0 : goal.returns-else-named-ne0
+returns-else-named-ne0 c = row_unnamed c.args.m.now c.args.i c.args.named _ c.if-named-ne0.false

@@ -1,11 +1,6 @@
 -- `kronecker_row` leaves the row of the product: the blocks of the entries before p are written.
-use Prim.Native.Nat.{◌-◌}
-use lib.ListN.{length}
 use Rattle.kronecker_rows.proofs.Blocking.{Blocking}
 use Rattle.kronecker_rows.proofs.kronecker_row.Given as goal
 
 abbrev pub invariant-loop-p : goal.invariant-loop-p
 invariant-loop-p l = Blocking l.op l.blocks l.places l.ac l.av l.bc l.bv l.initial.oc l.initial.ov l.oc l.ov l.p l.e
-
-abbrev pub decreases-loop-p : goal.decreases-loop-p
-decreases-loop-p l = length l.ac - l.p

@@ -7,8 +7,8 @@ pub masked_product-requires : goal.masked_product-requires
 masked_product-requires c =
     let e = c.in-Mxm.is in
     record {
-      product_inputs_1 = product_inputs _ _ _ _ _ _ _ _ (rw e at c.requires.row_inputs);
-      product_inputs_2 = c.requires.under_mask;
+      product_inputs = product_inputs _ _ _ _ _ _ _ _ (rw e at c.requires.row_inputs);
+      under_mask = c.requires.under_mask;
       b_in_bounds = buffers (rw e at c.requires.buffers);
     }
 

@@ -2,8 +2,8 @@
 use Rattle.merge.proofs.Merging.{put_none, put_one}
 use Rattle.merge.proofs.put_cell.Goals as goal
 
-pub returns-in-Absent : goal.returns-in-Absent
-returns-in-Absent c = put_none _ _ _ _ _ c.in-Absent.is
+pub returns-in-None : goal.returns-in-None
+returns-in-None c = put_none _ _ _ _ _ c.in-None.is
 
-pub returns-in-Present : goal.returns-in-Present
-returns-in-Present c = put_one _ _ _ _ _ c.in-Present.is
+pub returns-in-Some : goal.returns-in-Some
+returns-in-Some c = put_one _ _ _ _ _ c.in-Some.is

@@ -10,7 +10,8 @@ pub returns-then-q-columns : goal.returns-then-q-columns
 returns-then-q-columns c = seek_stop _ c.requires.rises _ _ c.loop-k.invariant (omega arith)
 
 pub loop-k-preserved : goal.loop-k-preserved
-loop-k-preserved c = seek_more _ c.requires.rises _ _ c.loop-k-test.true (omega arith)
+loop-k-preserved c = seek_more _ c.requires.rises _ _ (omega arith) (omega arith)
 
 pub returns : goal.returns
-returns c = seek_end _ c.requires.rises _ _ c.loop-k.invariant c.loop-k-test.false
+returns c =
+    seek_end _ c.requires.rises _ _ (omega (arith, c.loop-k.invariant, c.loop-k-test.false)) (omega arith)

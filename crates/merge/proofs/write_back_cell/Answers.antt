@@ -10,6 +10,6 @@ pub returns-then-w : goal.returns-then-w
 unfolding write_back
 returns-then-w c = rw (← c.inside_mask.ensures, c.if-inside_mask.false, c.if-w.true)
 
-pub returns : goal.returns
+pub returns-else-w : goal.returns-else-w
 unfolding write_back
-returns c = rw (← c.inside_mask.ensures, c.if-inside_mask.false, c.if-w.false)
+returns-else-w c = rw (← c.inside_mask.ensures, c.if-inside_mask.false, c.if-w.false)

@@ -4,10 +4,10 @@ use Rattle.operations.proofs.Blocks.{blocks_most}
 use Rattle.operations.proofs.part_shape.Goals as goal
 
 pub overflow_mul-result : goal.overflow_mul-result
-overflow_mul-result c = omega (arith, blocks_most _ _ c.requires.fact_1.0 c.requires.fact_2.0)
+overflow_mul-result c = omega (arith, blocks_most _ _ c.requires.first_small.0 c.requires.second_small.0)
 
 pub overflow_mul-result-in-Blocks : goal.overflow_mul-result-in-Blocks
-overflow_mul-result-in-Blocks c = omega (arith, blocks_most _ _ c.requires.fact_1.1 c.requires.fact_2.1)
+overflow_mul-result-in-Blocks c = omega (arith, blocks_most _ _ c.requires.first_small.1 c.requires.second_small.1)
 
 pub returns-in-Inner : goal.returns-in-Inner
 returns-in-Inner c = rw c.in-Inner.is

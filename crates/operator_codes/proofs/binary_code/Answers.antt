@@ -1,5 +1,5 @@
 -- `binary_code` gives `binary_numbered`: each arm by the table, and the last by what is left of the number.
-use Rattle.operator_codes.specs.declared.BinaryCode.TheVariants.{Unknown}
+use Rattle.std.proofs.Common.{None}
 use Rattle.operator_codes.specs.Codes.{binary_table, binary_numbered}
 use Rattle.operator_codes.proofs.Tables.{unlisted}
 use Rattle.operator_codes.proofs.binary_code.Goals as goal
@@ -38,4 +38,4 @@ returns-in-7 c = rw c.in-7.is
 
 pub returns-in_default : goal.returns-in_default
 unfolding binary_numbered
-returns-in_default c = unlisted binary_table Unknown _ c.in_default.in_default-own.rest
+returns-in_default c = unlisted binary_table None _ c.in_default.in_default-own.rest

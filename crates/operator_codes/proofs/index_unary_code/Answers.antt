@@ -1,5 +1,5 @@
 -- `index_unary_code` gives `index_unary_numbered`: each arm by the table, and the last by what is left of the number.
-use Rattle.operator_codes.specs.declared.IndexUnaryCode.TheVariants.{Unknown}
+use Rattle.std.proofs.Common.{None}
 use Rattle.operator_codes.specs.Codes.{index_unary_table, index_unary_numbered}
 use Rattle.operator_codes.proofs.Tables.{unlisted}
 use Rattle.operator_codes.proofs.index_unary_code.Goals as goal
@@ -18,4 +18,4 @@ returns-in-2 c = rw c.in-2.is
 
 pub returns-in_default : goal.returns-in_default
 unfolding index_unary_numbered
-returns-in_default c = unlisted index_unary_table Unknown _ c.in_default.in_default-own.rest
+returns-in_default c = unlisted index_unary_table None _ c.in_default.in_default-own.rest

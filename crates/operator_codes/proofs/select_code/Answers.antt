@@ -1,5 +1,5 @@
 -- `select_code` gives `select_numbered`: each arm by the table, and the last by what is left of the number.
-use Rattle.operator_codes.specs.declared.SelectCode.TheVariants.{Unknown}
+use Rattle.std.proofs.Common.{None}
 use Rattle.operator_codes.specs.Codes.{select_table, select_numbered}
 use Rattle.operator_codes.proofs.Tables.{unlisted}
 use Rattle.operator_codes.proofs.select_code.Goals as goal
@@ -38,4 +38,4 @@ returns-in-7 c = rw c.in-7.is
 
 pub returns-in_default : goal.returns-in_default
 unfolding select_numbered
-returns-in_default c = unlisted (select_table c.args.scalar) Unknown _ c.in_default.in_default-own.rest
+returns-in_default c = unlisted (select_table c.args.scalar) None _ c.in_default.in_default-own.rest

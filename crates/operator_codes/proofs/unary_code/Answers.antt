@@ -1,5 +1,5 @@
 -- `unary_code` gives `unary_numbered`: each arm by the table, and the last by what is left of the number.
-use Rattle.operator_codes.specs.declared.UnaryCode.TheVariants.{Unknown}
+use Rattle.std.proofs.Common.{None}
 use Rattle.operator_codes.specs.Codes.{unary_table, unary_numbered}
 use Rattle.operator_codes.proofs.Tables.{unlisted}
 use Rattle.operator_codes.proofs.unary_code.Goals as goal
@@ -26,4 +26,4 @@ returns-in-4 c = rw c.in-4.is
 
 pub returns-in_default : goal.returns-in_default
 unfolding unary_numbered
-returns-in_default c = unlisted unary_table Unknown _ c.in_default.in_default-own.rest
+returns-in_default c = unlisted unary_table None _ c.in_default.in_default-own.rest

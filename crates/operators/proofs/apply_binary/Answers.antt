@@ -1,5 +1,4 @@
 -- `apply_binary` gives `binary_word`: each arm by the operator that the match found, and by what the callee gives.
-use Rattle.std.proofs.Common.{◌∙◌, rules}
 use Rattle.twos_complement.specs.TwosComplement.{word}
 use Rattle.operators.specs.Operators.{binary_word}
 use Rattle.operators.proofs.Laws.{first_word, second_word, plus_word, minus_word}
@@ -17,13 +16,11 @@ returns-in-Oneb c = rw c.in-Oneb.is
 
 pub returns-in-Plus : goal.returns-in-Plus
 returns-in-Plus c =
-    rw c.in-Plus.is
-    (c.wrapping_add_u32.ensures.value ∙ plus_word c.ranges.x.fits c.ranges.y.fits)
+    rw c.in-Plus.is (plus_word c.ranges.x.fits c.ranges.y.fits)
 
 pub returns-in-Minus : goal.returns-in-Minus
 returns-in-Minus c =
-    rw c.in-Minus.is
-    (minus_word c.ranges.x.fits c.ranges.y.fits (search rules) c.wrapping_sub_u32.ensures.value)
+    rw c.in-Minus.is (minus_word c.ranges.x.fits c.ranges.y.fits)
 
 pub returns-in-Times : goal.returns-in-Times
 unfolding binary_word

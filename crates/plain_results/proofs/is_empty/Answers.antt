@@ -8,31 +8,28 @@ use Rattle.plain_results.proofs.is_empty.Goals as goal
 
 pub has_none-requires : goal.has_none-requires
 has_none-requires c = let h = row_matched c.in-Mxm.is c.requires in
-    let s = spanned h.first h.row in record { fact_1 = s.0; fact_2 = s.1 }
+    let s = spanned h.first h.row in record { header = s.0; span = s.1 }
 
 pub has_none-requires-in-EwiseMult : goal.has_none-requires-in-EwiseMult
 has_none-requires-in-EwiseMult c = let h = row_matched c.in-EwiseMult.is c.requires in
-    let s = spanned h.first h.row in record { fact_1 = s.0; fact_2 = s.1 }
+    let s = spanned h.first h.row in record { header = s.0; span = s.1 }
 
 pub has_none-requires-in-EwiseAdd : goal.has_none-requires-in-EwiseAdd
 has_none-requires-in-EwiseAdd c = let h = row_matched c.in-EwiseAdd.is c.requires in
-    let s = spanned h.first h.row in record { fact_1 = s.0; fact_2 = s.1 }
+    let s = spanned h.first h.row in record { header = s.0; span = s.1 }
 
-pub returns-then-not-has_none : goal.returns-then-not-has_none
-returns-then-not-has_none c = λ e. absurd (false≢true e)
-
-pub has_none-requires-in-EwiseAdd-2 : goal.has_none-requires-in-EwiseAdd-2
-has_none-requires-in-EwiseAdd-2 c =
+pub has_none-requires-then-has_none : goal.has_none-requires-then-has_none
+has_none-requires-then-has_none c =
     let h = add_inputs _ _ _ _ _ _ _ (row_matched c.in-EwiseAdd.is c.requires) in
-    let s = spanned h.second (omega (arith, h.row, h.same_rows)) in record { fact_1 = s.0; fact_2 = s.1 }
+    let s = spanned h.second (omega (arith, h.row, h.same_rows)) in record { header = s.0; span = s.1 }
 
 pub has_none-requires-in-Apply : goal.has_none-requires-in-Apply
 has_none-requires-in-Apply c = let h = row_matched c.in-Apply.is c.requires in
-    let s = spanned h.first h.row in record { fact_1 = s.0; fact_2 = s.1 }
+    let s = spanned h.first h.row in record { header = s.0; span = s.1 }
 
 pub has_none-requires-in-Select : goal.has_none-requires-in-Select
 has_none-requires-in-Select c = let h = row_matched c.in-Select.is c.requires in
-    let s = spanned h.first h.row in record { fact_1 = s.0; fact_2 = s.1 }
+    let s = spanned h.first h.row in record { header = s.0; span = s.1 }
 
 pub returns-in-Mxm : goal.returns-in-Mxm
 returns-in-Mxm c = λ e.
@@ -46,11 +43,11 @@ returns-in-EwiseMult c = λ e.
     mult_none x.a.now x.b.now x.c.now x.is.now x.js.now x.i (c.has_none-in-EwiseMult.ensures e)
     c.in-EwiseMult.is
 
-pub returns-else-not-has_none : goal.returns-else-not-has_none
-returns-else-not-has_none c = λ e.
+pub returns-then-has_none : goal.returns-then-has_none
+returns-then-has_none c = λ e.
     let x = c.args in
     add_none x.a.now x.b.now x.c.now x.is.now x.js.now x.i
-    (c.has_none-in-EwiseAdd.ensures c.if-not-has_none.false) (c.has_none-in-EwiseAdd-2.ensures e)
+    (c.has_none-in-EwiseAdd.ensures c.if-has_none.true) (c.has_none-then-has_none.ensures e)
     c.in-EwiseAdd.is
 
 pub returns-in-Apply : goal.returns-in-Apply
@@ -64,6 +61,3 @@ returns-in-Select c = λ e.
     let x = c.args in
     select_none x.a.now x.b.now x.c.now x.is.now x.js.now x.i (c.has_none-in-Select.ensures e)
     c.in-Select.is
-
-pub returns-in_default : goal.returns-in_default
-returns-in_default c = λ e. absurd (false≢true e)

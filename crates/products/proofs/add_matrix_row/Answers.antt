@@ -5,8 +5,8 @@ use Rattle.products.proofs.add_matrix_row.Goals as goal
 pub add_row-requires : goal.add_row-requires
 add_row-requires c =
     record {
-      fact_1 = rw (c.row_columns.ensures.words, c.row_values.ensures.words) c.requires.header_3;
-      fact_2 = c.requires.sized;
+      entries = rw (c.row_columns.ensures.words, c.row_values.ensures.words) c.requires.row;
+      sized = c.requires.sized;
     }
 
 pub returns : goal.returns

@@ -1,11 +1,12 @@
 -- `reduce` answers by the monoid of the number.
+use mathlib.Core.Path.{refl}
 use Rattle.reduce.specs.Reduce.{reduce_answer}
 use Rattle.reduce.proofs.reduce.Goals as goal
 
-pub returns-in-Known : goal.returns-in-Known
+pub returns-in-Some : goal.returns-in-Some
 unfolding reduce_answer
-returns-in-Known c = rw (← c.monoid_code.ensures, c.in-Known.is) c.reduce_by.ensures
+returns-in-Some c = rw (← c.monoid_code.ensures, c.in-Some.is) c.reduce_by.ensures
 
-pub returns-in-Unknown : goal.returns-in-Unknown
+pub returns-in-None : goal.returns-in-None
 unfolding reduce_answer
-returns-in-Unknown c = rw (← c.monoid_code.ensures, c.in-Unknown.is) c.refused.ensures
+returns-in-None c = rw (← c.monoid_code.ensures, c.in-None.is) refl

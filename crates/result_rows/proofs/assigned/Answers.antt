@@ -9,11 +9,13 @@ bounds-b-i c = omega (arith, place_within c.requires.assign_inputs)
 
 pub row_columns-requires : goal.row_columns-requires
 row_columns-requires c =
-    (c.requires.assign_inputs.output.header, matrix_span _ c.requires.assign_inputs.output _ c.requires.assign_inputs.row)
+    let p = c.requires.assign_inputs in
+    (p.output.header, matrix_span _ p.output _ p.row)
 
 pub row_values-requires : goal.row_values-requires
 row_values-requires c =
-    (c.requires.assign_inputs.output.header, matrix_span _ c.requires.assign_inputs.output _ c.requires.assign_inputs.row)
+    let p = c.requires.assign_inputs in
+    (p.output.header, matrix_span _ p.output _ p.row)
 
 pub unlisted_row-requires : goal.unlisted_row-requires
 unlisted_row-requires c =
@@ -31,23 +33,28 @@ returns-then-place-eq0 c =
 
 pub overflow_cast-row : goal.overflow_cast-row
 overflow_cast-row c =
-    omega (arith, (named c.requires.assign_inputs c.if-place-eq0.false).below, c.requires.assign_inputs.rows_listed.indices.few)
+    let p = c.requires.assign_inputs in
+    omega (arith, (named p c.if-place-eq0.false).below, p.rows_listed.indices.few)
 
 pub row_columns-requires-2 : goal.row_columns-requires-2
 row_columns-requires-2 c =
-    (c.requires.assign_inputs.first.header, matrix_span _ c.requires.assign_inputs.first _ (named c.requires.assign_inputs c.if-place-eq0.false).first)
+    let p = c.requires.assign_inputs in
+    (p.first.header, matrix_span _ p.first _ (named p c.if-place-eq0.false).first)
 
 pub row_values-requires-2 : goal.row_values-requires-2
 row_values-requires-2 c =
-    (c.requires.assign_inputs.first.header, matrix_span _ c.requires.assign_inputs.first _ (named c.requires.assign_inputs c.if-place-eq0.false).first)
+    let p = c.requires.assign_inputs in
+    (p.first.header, matrix_span _ p.first _ (named p c.if-place-eq0.false).first)
 
 pub row_columns-requires-3 : goal.row_columns-requires-3
 row_columns-requires-3 c =
-    (c.requires.assign_inputs.output.header, matrix_span _ c.requires.assign_inputs.output _ c.requires.assign_inputs.row)
+    let p = c.requires.assign_inputs in
+    (p.output.header, matrix_span _ p.output _ p.row)
 
 pub row_values-requires-3 : goal.row_values-requires-3
 row_values-requires-3 c =
-    (c.requires.assign_inputs.output.header, matrix_span _ c.requires.assign_inputs.output _ c.requires.assign_inputs.row)
+    let p = c.requires.assign_inputs in
+    (p.output.header, matrix_span _ p.output _ p.row)
 
 pub assign_row-requires : goal.assign_row-requires
 assign_row-requires c =

@@ -6,19 +6,23 @@ use Rattle.result_rows.proofs.blocks.Goals as goal
 
 pub row_columns-requires : goal.row_columns-requires
 row_columns-requires c =
-    rw c.row_count-height.ensures (c.requires.block_inputs.first.header, matrix_span _ c.requires.block_inputs.first _ (block_below _ _ _ c.requires.block_inputs.row))
+    let p = c.requires.block_inputs in
+    rw c.row_count-height.ensures (p.first.header, matrix_span _ p.first _ (block_below _ _ _ p.row))
 
 pub row_values-requires : goal.row_values-requires
 row_values-requires c =
-    rw c.row_count-height.ensures (c.requires.block_inputs.first.header, matrix_span _ c.requires.block_inputs.first _ (block_below _ _ _ c.requires.block_inputs.row))
+    let p = c.requires.block_inputs in
+    rw c.row_count-height.ensures (p.first.header, matrix_span _ p.first _ (block_below _ _ _ p.row))
 
 pub row_columns-requires-2 : goal.row_columns-requires-2
 row_columns-requires-2 c =
-    rw c.row_count-height.ensures (c.requires.block_inputs.second.header, matrix_span _ c.requires.block_inputs.second _ (place_below _ _ _ c.requires.block_inputs.row))
+    let p = c.requires.block_inputs in
+    rw c.row_count-height.ensures (p.second.header, matrix_span _ p.second _ (place_below _ _ _ p.row))
 
 pub row_values-requires-2 : goal.row_values-requires-2
 row_values-requires-2 c =
-    rw c.row_count-height.ensures (c.requires.block_inputs.second.header, matrix_span _ c.requires.block_inputs.second _ (place_below _ _ _ c.requires.block_inputs.row))
+    let p = c.requires.block_inputs in
+    rw c.row_count-height.ensures (p.second.header, matrix_span _ p.second _ (place_below _ _ _ p.row))
 
 pub kronecker_row-requires : goal.kronecker_row-requires
 kronecker_row-requires c =

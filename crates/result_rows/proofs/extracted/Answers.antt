@@ -14,7 +14,9 @@ row_values-requires c =
 pub extract_row-requires : goal.extract_row-requires
 extract_row-requires c =
     record {
-      row_1 = rw (c.row_columns.ensures.words, c.row_values.ensures.words) (wider_row c.requires.list_inputs.first.header.col_range.most (matrix_row _ c.requires.list_inputs.first _ c.requires.list_inputs.listed));
+      row_1 = rw (c.row_columns.ensures.words, c.row_values.ensures.words)
+          (wider_row c.requires.list_inputs.first.header.col_range.most
+          (matrix_row _ c.requires.list_inputs.first _ c.requires.list_inputs.listed));
       row_2 = c.requires.list_inputs.indices;
       row_3 = c.requires.list_inputs.inverse;
       list_in_bounds = c.requires.js_in_bounds;

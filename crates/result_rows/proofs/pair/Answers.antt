@@ -10,19 +10,23 @@ col_count-requires c = c.requires.pair_inputs.first.header
 
 pub row_columns-requires : goal.row_columns-requires
 row_columns-requires c =
-    (c.requires.pair_inputs.first.header, matrix_span _ c.requires.pair_inputs.first _ c.requires.pair_inputs.row)
+    let p = c.requires.pair_inputs in
+    (p.first.header, matrix_span _ p.first _ p.row)
 
 pub row_values-requires : goal.row_values-requires
 row_values-requires c =
-    (c.requires.pair_inputs.first.header, matrix_span _ c.requires.pair_inputs.first _ c.requires.pair_inputs.row)
+    let p = c.requires.pair_inputs in
+    (p.first.header, matrix_span _ p.first _ p.row)
 
 pub row_columns-requires-2 : goal.row_columns-requires-2
 row_columns-requires-2 c =
-    (c.requires.pair_inputs.second.header, matrix_span _ c.requires.pair_inputs.second _ (omega (arith, c.requires.pair_inputs.row, c.requires.pair_inputs.same_rows)))
+    let p = c.requires.pair_inputs in
+    (p.second.header, matrix_span _ p.second _ (omega (arith, p.row, p.same_rows)))
 
 pub row_values-requires-2 : goal.row_values-requires-2
 row_values-requires-2 c =
-    (c.requires.pair_inputs.second.header, matrix_span _ c.requires.pair_inputs.second _ (omega (arith, c.requires.pair_inputs.row, c.requires.pair_inputs.same_rows)))
+    let p = c.requires.pair_inputs in
+    (p.second.header, matrix_span _ p.second _ (omega (arith, p.row, p.same_rows)))
 
 pub merge_row-requires : goal.merge_row-requires
 merge_row-requires c =

@@ -4,21 +4,23 @@ use Rattle.result_rows.proofs.product.Goals as goal
 
 pub row_columns-requires : goal.row_columns-requires
 row_columns-requires c =
-    (c.requires.product_inputs.first.header, matrix_span _ c.requires.product_inputs.first _ c.requires.product_inputs.row)
+    let p = c.requires.product_inputs in
+    (p.first.header, matrix_span _ p.first _ p.row)
 
 pub row_values-requires : goal.row_values-requires
 row_values-requires c =
-    (c.requires.product_inputs.first.header, matrix_span _ c.requires.product_inputs.first _ c.requires.product_inputs.row)
+    let p = c.requires.product_inputs in
+    (p.first.header, matrix_span _ p.first _ p.row)
 
 pub product_row_by-requires : goal.product_row_by-requires
 product_row_by-requires c =
     let p = c.requires.product_inputs in
     record {
-      row = (
+      inputs = (
         rw (c.row_columns.ensures.words, c.row_values.ensures.words, ← p.inner) (matrix_row _ p.first _ p.row),
         p.second,
       );
-      b_in_bounds = c.requires.b_in_bounds;
+      output_room = c.requires.b_in_bounds;
     }
 
 pub returns : goal.returns

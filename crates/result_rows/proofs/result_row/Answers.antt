@@ -1,6 +1,7 @@
 -- `result_row` is a row of T, whichever the operation.
 use Rattle.merge.specs.Combined.{combined}
-use Rattle.result_rows.proofs.Inputs.{product_inputs, mult_inputs, add_inputs, list_inputs, assign_inputs, block_inputs, buffers}
+use Rattle.result_rows.proofs.Inputs.{product_inputs, mult_inputs, add_inputs, list_inputs, assign_inputs}
+use Rattle.result_rows.proofs.Inputs.{block_inputs, buffers}
 use Rattle.result_rows.proofs.result_row.Goals as goal
 
 pub product-requires : goal.product-requires
@@ -32,8 +33,8 @@ applied-requires c =
     let e = c.in-Apply.is in
     let h = rw e at c.requires.row_inputs in
     record {
-      matrix_1 = h.first;
-      matrix_2 = h.row;
+      matrix = h.first;
+      row_in = h.row;
       a_in_bounds = buffers (rw e at c.requires.buffers);
     }
 
@@ -50,8 +51,8 @@ selected-requires c =
     let e = c.in-Select.is in
     let h = rw e at c.requires.row_inputs in
     record {
-      matrix_1 = h.first;
-      matrix_2 = h.row;
+      matrix = h.first;
+      row_in = h.row;
       a_in_bounds = buffers (rw e at c.requires.buffers);
     }
 

@@ -1,29 +1,7 @@
 -- `revision_of` answers 3 or the revision.
-use mathlib.Core.Path.{◌≡◌, ap, ◌∙◌}
-use mathlib.Core.Bool.{true}
-use Rattle.answers.specs.Numbers.{number_answer}
-use Rattle.conditions.proofs.Tests.{said_no, said_yes}
-use Rattle.matrix.specs.Valid.{valid}
+use mathlib.Core.Path.{sym}
 use Rattle.matrix.proofs.Facts.{matrix_facts}
 use Rattle.revision.proofs.revision_of.Goals as goal
 
--- past the test the words are valid
-held : (c : goal.Else-not-is_valid) → valid c.args.words.now ≡ true
-held c = said_yes c.is_valid.ensures c.if-not-is_valid.false
-
--- past the test the words are valid
-held_2 : (c : goal.After-revision) → valid c.args.words.now ≡ true
-held_2 c = said_yes c.is_valid.ensures c.if-not-is_valid.false
-
-pub returns-then-not-is_valid : goal.returns-then-not-is_valid
-returns-then-not-is_valid c =
-    let v = said_no c.is_valid.ensures c.if-not-is_valid.true in
-    rw v
-
 pub revision-requires : goal.revision-requires
-revision-requires c = (matrix_facts _ (held c)).header
-
-pub returns : goal.returns
-returns c =
-    let v = held_2 c in
-    ap number_answer c.revision.ensures ∙ rw v
+revision-requires c = (matrix_facts _ (sym c.if-is_valid.ensures)).header

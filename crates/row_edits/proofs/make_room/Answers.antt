@@ -6,6 +6,6 @@ pub returns-then-b-a : goal.returns-then-b-a
 returns-then-b-a c =
     rw (c.move_up-then-b-a.ensures, c.move_up.ensures) (grown _ _ _ _ _ _ c.requires c.if-b-a.true)
 
-pub returns : goal.returns
-returns c =
-    rw (c.move_down-2.ensures, c.move_down.ensures) (shrunk _ _ _ _ _ _ c.requires c.if-b-a.false)
+pub returns-else-b-a : goal.returns-else-b-a
+returns-else-b-a c =
+    rw (c.move_down-else-b-a.ensures, c.move_down.ensures) (shrunk _ _ _ _ _ _ c.requires c.if-b-a.false)

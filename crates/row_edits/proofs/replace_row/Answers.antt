@@ -27,15 +27,15 @@ pub overflow_cast-b-2 : goal.overflow_cast-b-2
 overflow_cast-b-2 c =
     let x = span c.requires in let k = row_few c.requires in omega (arith, c.requires.matrix.header.few)
 
-pub shift_starts-requires : goal.shift_starts-requires
-shift_starts-requires c =
+pub shift_words-requires : goal.shift_words-requires
+shift_words-requires c =
     record {
-      fact_1 = starts_bounded c.requires;
-      fact_2 = row_few c.requires;
+      bounded = starts_bounded c.requires;
+      small = row_few c.requires;
     }
 
 pub make_room-requires : goal.make_room-requires
-make_room-requires c = room_bounds c.requires c.shift_starts.ensures
+make_room-requires c = room_bounds c.requires c.shift_words.ensures
 
 pub overflow_add-n-3 : goal.overflow_add-n-3
 overflow_add-n-3 c =
@@ -50,7 +50,7 @@ overflow_sub-n c =
     omega (arith, c.requires.matrix.header.few)
 
 pub put_row-requires : goal.put_row-requires
-put_row-requires c = put_bounds c.requires c.shift_starts.ensures c.make_room.ensures
+put_row-requires c = put_bounds c.requires c.shift_words.ensures c.make_room.ensures
 
 pub touch-requires : goal.touch-requires
 touch-requires c =
@@ -58,11 +58,11 @@ touch-requires c =
       arith,
       c.put_row.auto.words,
       c.make_room.auto.words,
-      c.shift_starts.auto.words,
+      c.shift_words.auto.words,
       c.requires.matrix.header.fits,
     )
 
 pub returns : goal.returns
 returns c =
     c.touch.ensures ∙ ap touched c.put_row.ensures
-    ∙ replaced_written c.requires c.shift_starts.ensures c.make_room.ensures
+    ∙ replaced_written c.requires c.shift_words.ensures c.make_room.ensures

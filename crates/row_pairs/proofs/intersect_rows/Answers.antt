@@ -1,38 +1,12 @@
 -- `intersect_rows` leaves the intersection: before each turn all columns below the two indexes are done.
-use Prim.Native.Nat.{◌<◌}
 use native.Mathlib.Omega.{arith}
-use lib.ListN.{length}
-use Rattle.row_pairs.proofs.Turns.{some_step}
+use Rattle.row_pairs.proofs.Turns.{small, at_most, equal, some_step}
 use Rattle.row_pairs.proofs.Intersecting.{intersecting_start, intersecting_room, intersecting_turn}
 use Rattle.row_pairs.proofs.Intersecting.{intersecting_end_first, intersecting_end_second}
 use Rattle.row_pairs.proofs.intersect_rows.Goals as goal
 
--- both rows have an entry at the indexes, and there is room for one more
-room : (b : goal.After-shared_slice_known-in-loop-i-2-1)
-    → (b.loop-i.e < length b.loop-i.oc)
-    × (b.loop-i.e < length b.loop-i.ov)
-room b =
-    intersecting_room b.args.op b.requires.row_1 b.requires.row_2 b.loop-i.invariant b.loop-i-test.true b.if-bc-k.false
-    b.requires.places_in_bounds.0 b.requires.places_in_bounds.1
-
--- both rows have an entry at the indexes, and there is room for one more
-room_2 : (b : goal.After-apply_binary)
-    → (b.loop-i.e < length b.loop-i.oc)
-    × (b.loop-i.e < length b.loop-i.ov)
-room_2 b =
-    intersecting_room b.args.op b.requires.row_1 b.requires.row_2 b.loop-i.invariant b.loop-i-test.true b.if-bc-k.false
-    b.requires.places_in_bounds.0 b.requires.places_in_bounds.1
-
--- both rows have an entry at the indexes, and there is room for one more
-room_3 : (b : goal.After-same-e)
-    → (b.loop-i.e < length b.loop-i.oc)
-    × (b.loop-i.e < length b.loop-i.ov)
-room_3 b =
-    intersecting_room b.args.op b.requires.row_1 b.requires.row_2 b.loop-i.invariant b.loop-i-test.true b.if-bc-k.false
-    b.requires.places_in_bounds.0 b.requires.places_in_bounds.1
-
 pub loop-i-init : goal.loop-i-init
-loop-i-init c = intersecting_start _ c.requires.row_1 c.requires.row_2 _ _
+loop-i-init c = intersecting_start _ c.requires.first_row c.requires.second_row _ _
 
 pub shape_of-oc-then-bc-k : goal.shape_of-oc-then-bc-k
 shape_of-oc-then-bc-k c = c.loop-i.invariant.columns_kept
@@ -42,73 +16,69 @@ shape_of-ov-then-bc-k c = c.loop-i.invariant.values_kept
 
 pub returns-then-bc-k : goal.returns-then-bc-k
 returns-then-bc-k c =
-    intersecting_end_second _ c.requires.row_1 c.requires.row_2 c.loop-i.invariant c.if-bc-k.true
-
-pub offset_bounds-ac-i : goal.offset_bounds-ac-i
-offset_bounds-ac-i c = omega arith
-
-pub bounds-ac-i : goal.bounds-ac-i
-bounds-ac-i c = omega arith
-
-pub offset_bounds-bc-k : goal.offset_bounds-bc-k
-offset_bounds-bc-k c = omega arith
-
-pub bounds-bc-k : goal.bounds-bc-k
-bounds-bc-k c = omega arith
+    intersecting_end_second _ c.requires.first_row c.requires.second_row c.loop-i.invariant c.if-bc-k.true
 
 pub offset_bounds-oc-e : goal.offset_bounds-oc-e
-offset_bounds-oc-e c = omega (arith, (room c).0)
+offset_bounds-oc-e c =
+    omega (
+      arith,
+      (intersecting_room c.args.op c.requires.first_row c.requires.second_row c.loop-i.invariant
+          c.loop-i-test.true c.if-bc-k.false
+          c.requires.output_room.0 c.requires.output_room.1).0,
+    )
 
 pub bounds-oc-e : goal.bounds-oc-e
-bounds-oc-e c = (room c).0
+bounds-oc-e c =
+    (intersecting_room c.args.op c.requires.first_row c.requires.second_row c.loop-i.invariant c.loop-i-test.true
+    c.if-bc-k.false
+    c.requires.output_room.0 c.requires.output_room.1).0
 
 pub offset_bounds-av-i : goal.offset_bounds-av-i
-offset_bounds-av-i c = omega (arith, c.requires.row_1.even)
+offset_bounds-av-i c = omega (arith, c.requires.first_row.even)
 
 pub bounds-av-i : goal.bounds-av-i
-bounds-av-i c = omega (arith, c.requires.row_1.even)
+bounds-av-i c = omega (arith, c.requires.first_row.even)
 
 pub offset_bounds-bv-k : goal.offset_bounds-bv-k
-offset_bounds-bv-k c = omega (arith, c.requires.row_2.even)
+offset_bounds-bv-k c = omega (arith, c.requires.second_row.even)
 
 pub bounds-bv-k : goal.bounds-bv-k
-bounds-bv-k c = omega (arith, c.requires.row_2.even)
-
-pub apply_binary-requires : goal.apply_binary-requires
-apply_binary-requires c = tt
+bounds-bv-k c = omega (arith, c.requires.second_row.even)
 
 pub offset_bounds-ov-e : goal.offset_bounds-ov-e
-offset_bounds-ov-e c = omega (arith, (room_2 c).1)
+offset_bounds-ov-e c =
+    omega (
+      arith,
+      (intersecting_room c.args.op c.requires.first_row c.requires.second_row c.loop-i.invariant
+          c.loop-i-test.true c.if-bc-k.false
+          c.requires.output_room.0 c.requires.output_room.1).1,
+    )
 
 pub bounds-ov-e : goal.bounds-ov-e
-bounds-ov-e c = (room_2 c).1
-
-pub same-e-requires : goal.same-e-requires
-same-e-requires c = tt
+bounds-ov-e c =
+    (intersecting_room c.args.op c.requires.first_row c.requires.second_row c.loop-i.invariant c.loop-i-test.true
+    c.if-bc-k.false
+    c.requires.output_room.0 c.requires.output_room.1).1
 
 pub overflow_add-e : goal.overflow_add-e
-overflow_add-e c = omega (arith, (room_3 c).0)
-
-pub at_most-i-requires : goal.at_most-i-requires
-at_most-i-requires c = tt
-
-pub overflow_add-i : goal.overflow_add-i
-overflow_add-i c = omega arith
-
-pub at_most-k-requires : goal.at_most-k-requires
-at_most-k-requires c = tt
-
-pub overflow_add-k : goal.overflow_add-k
-overflow_add-k c = omega arith
+overflow_add-e c =
+    omega (
+      arith,
+      small _ c.from-e.ensures,
+      (intersecting_room c.args.op c.requires.first_row c.requires.second_row c.loop-i.invariant c.loop-i-test.true
+          c.if-bc-k.false
+          c.requires.output_room.0 c.requires.output_room.1).0,
+    )
 
 pub loop-i-smaller : goal.loop-i-smaller
-loop-i-smaller c = omega (arith, some_step c.at_most-i.ensures c.at_most-k.ensures)
+loop-i-smaller c = omega (arith, some_step (at_most c.from-i.ensures) (at_most c.from-k.ensures))
 
 pub loop-i-preserved : goal.loop-i-preserved
 loop-i-preserved c =
-    intersecting_turn _ c.requires.row_1 c.requires.row_2 c.loop-i.invariant c.loop-i-test.true c.if-bc-k.false c.requires.places_in_bounds.0
-    c.requires.places_in_bounds.1 c.apply_binary.ensures c.same-e.ensures
-    c.at_most-i.ensures c.at_most-k.ensures
+    intersecting_turn _ c.requires.first_row c.requires.second_row c.loop-i.invariant c.loop-i-test.true
+    c.if-bc-k.false c.requires.output_room.0
+    c.requires.output_room.1 c.apply_binary.ensures (equal c.from-e.ensures)
+    (at_most c.from-i.ensures) (at_most c.from-k.ensures)
 
 pub shape_of-oc : goal.shape_of-oc
 shape_of-oc c = c.loop-i.invariant.columns_kept
@@ -118,4 +88,4 @@ shape_of-ov c = c.loop-i.invariant.values_kept
 
 pub returns : goal.returns
 returns c =
-    intersecting_end_first _ c.requires.row_1 c.requires.row_2 c.loop-i.invariant c.loop-i-test.false
+    intersecting_end_first _ c.requires.first_row c.requires.second_row c.loop-i.invariant c.loop-i-test.false

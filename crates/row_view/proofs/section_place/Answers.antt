@@ -6,4 +6,4 @@ pub returns : goal.returns
 returns c =
     let s₀ = c.args.words.now in
     rw c.section_from.ensures (place_made _ _ _ _
-    (section_length c.args.section s₀ _ c.args.i c.requires.fact_1 c.requires.fact_2 c.row_columns-columns.ensures.words))
+    (section_length c.args.section s₀ _ c.args.i c.requires.fact_1 c.requires.fact_2 c.row_columns.ensures.words))

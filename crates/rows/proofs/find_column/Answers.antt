@@ -5,14 +5,16 @@ use Rattle.rows.proofs.find_column.Goals as goal
 pub look_at-requires : goal.look_at-requires
 look_at-requires c =
     record {
-      fact_1 = c.requires;
-      fact_2 = c.lower_bound-bound.ensures.fact_1;
-      fact_3 = rw c.lower_bound-bound.ensures.fact_2 (looks_few c.args.j c.args.columns.now);
+      rises = c.requires;
+      at_position = c.lower_bound-bound.ensures.found;
+      few = rw c.lower_bound-bound.ensures.counted (looks_few c.args.j c.args.columns.now);
     }
 
 pub returns : goal.returns
 returns c =
     record {
-      fact_1 = c.look_at.ensures.fact_1;
-      fact_2 = looks_all c.args.j c.args.columns.now c.lower_bound-bound.ensures.fact_1 c.lower_bound-bound.ensures.fact_2 c.look_at.ensures.fact_2;
+      found = c.look_at.ensures.found;
+      counted =
+          looks_all c.args.j c.args.columns.now c.lower_bound-bound.ensures.found c.lower_bound-bound.ensures.counted
+          c.look_at.ensures.counted;
     }

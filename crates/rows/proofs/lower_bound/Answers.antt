@@ -1,17 +1,9 @@
 -- `lower_bound` halves the range: the columns before `low` are below j, and those from `high` on are not.
 use native.Mathlib.Omega.{arith}
-use Prim.Native.Nat.{ℕ, ◌+◌, ◌-◌, ◌/◌}
+use Rattle.rows.specs.Looks.{middle}
 use Rattle.rows.proofs.Halving.{left_start, left_right, left_left, left_end}
 use Rattle.rows.proofs.Search.{below_mid, not_below_mid, position_found}
 use Rattle.rows.proofs.lower_bound.Goals as goal
-
--- the middle of the range that is left
-abbrev mid : goal.Then-seen-j → ℕ
-mid q = q.loop-low.low + (q.loop-low.high - q.loop-low.low) / 2
-
--- the middle of the range that is left
-abbrev mid_2 : goal.Else-seen-j → ℕ
-mid_2 q = q.loop-low.low + (q.loop-low.high - q.loop-low.low) / 2
 
 pub loop-low-init : goal.loop-low-init
 loop-low-init c = (
@@ -32,7 +24,7 @@ loop-low-preserved-then-seen-j c =
       omega arith,
       omega arith,
       v.2,
-      below_mid _ _ (mid c) v.2 (omega arith) (rw c.look-seen.ensures.0 at c.if-seen-j.true),
+      below_mid _ _ (middle c.loop-low.low c.loop-low.high) v.2 (omega arith) (rw c.look-seen.ensures.0 at c.if-seen-j.true),
       v.4,
       rw c.look-seen.ensures.1 (left_right v.5 (omega arith) (rw c.look-seen.ensures.0 at c.if-seen-j.true)),
     )
@@ -44,7 +36,7 @@ loop-low-preserved c =
       omega arith,
       v.2,
       v.3,
-      not_below_mid _ _ (mid_2 c) v.2 (rw c.look-seen.ensures.0 at c.if-seen-j.false),
+      not_below_mid _ _ (middle c.loop-low.low c.loop-low.high) v.2 (rw c.look-seen.ensures.0 at c.if-seen-j.false),
       rw c.look-seen.ensures.1 (left_left v.5 (omega arith) (rw c.look-seen.ensures.0 at c.if-seen-j.false)),
     )
 
@@ -52,6 +44,6 @@ pub returns : goal.returns
 returns c =
     let v = c.loop-low.invariant in
     record {
-      fact_1 = position_found _ _ _ (omega arith) v.3 (λ k h. v.4 k (omega arith));
-      fact_2 = left_end v.5 (omega arith);
+      found = position_found _ _ _ (omega arith) v.3 (λ k h. v.4 k (omega arith));
+      counted = left_end v.5 (omega arith);
     }

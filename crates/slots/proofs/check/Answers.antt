@@ -1,27 +1,29 @@
 -- `check` is the test `store_valid`, and where the sections end.
 use native.Mathlib.Omega.{arith}
-use Rattle.conditions.proofs.Tests.{said_no, said_yes}
+use mathlib.Core.Path.{sym}
+use Rattle.std.proofs.lemmas.Result.{err_from_is_err_and}
 use Rattle.slots.proofs.Checks.{too_short, too_long, sections_fail, end_inside, zeros_fail, all_hold_lem}
 use Rattle.slots.proofs.check.Goals as goal
+use Rattle.slots.proofs.check.Goals.{then-store-lt-SLOTS-via-then-store-lt-SLOTS, then-store-lt-SLOTS-via-else-store-lt-SLOTS+then-store-gt-MAX_STORE_WORDS}
 
 pub returns-then-store-lt-SLOTS : goal.returns-then-store-lt-SLOTS
-returns-then-store-lt-SLOTS c = too_short _ (omega arith)
+returns-then-store-lt-SLOTS c =
+    elim c.then-store-lt-SLOTS.branch [
+      | then-store-lt-SLOTS-via-then-store-lt-SLOTS w ↦ too_short _ (omega arith)
+      | then-store-lt-SLOTS-via-else-store-lt-SLOTS+then-store-gt-MAX_STORE_WORDS w ↦ too_long _ (omega arith)
+    ]
 
-pub returns-then-store-gt-MAX_STORE_WORDS : goal.returns-then-store-gt-MAX_STORE_WORDS
-returns-then-store-gt-MAX_STORE_WORDS c = too_long _ (omega arith)
-
-pub returns-then-end-eq0 : goal.returns-then-end-eq0
-returns-then-end-eq0 c = sections_fail _ _ c.sections_end-end.ensures c.if-end-eq0.true
+pub returns-in_err-end : goal.returns-in_err-end
+returns-in_err-end c =
+    let p = err_from_is_err_and c.from_residual.result c.from_residual.ensures.1 in
+    rw (p.1, p.2) (sections_fail _ c.sections_end.ensures c.in_err-end.ensures.value)
 
 pub zeros_from-requires : goal.zeros_from-requires
-zeros_from-requires c = end_inside _ _ c.sections_end-end.ensures c.if-end-eq0.false
+zeros_from-requires c = end_inside _ (grind (arith, c.sections_end.ensures))
 
-pub returns-then-not-zeros_from : goal.returns-then-not-zeros_from
-returns-then-not-zeros_from c =
-    zeros_fail _ _ c.sections_end-end.ensures c.if-end-eq0.false
-    (said_no c.zeros_from.ensures c.if-not-zeros_from.true)
+pub returns-then-zeros_from : goal.returns-then-zeros_from
+returns-then-zeros_from c =
+    all_hold_lem _ (grind (arith, c.sections_end.ensures)) (omega arith) (omega arith) (sym c.if-zeros_from.ensures)
 
-pub returns : goal.returns
-returns c =
-    all_hold_lem _ _ c.sections_end-end.ensures c.if-end-eq0.false (omega arith) (omega arith)
-    (said_yes c.zeros_from.ensures c.if-not-zeros_from.false)
+pub returns-else-zeros_from : goal.returns-else-zeros_from
+returns-else-zeros_from c = zeros_fail _ (grind (arith, c.sections_end.ensures)) (sym c.if-zeros_from.ensures)

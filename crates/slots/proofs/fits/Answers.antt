@@ -5,35 +5,20 @@ use mathlib.Core.Path.{ap}
 use lib.ListN.{length}
 use lib.Dec.{leb}
 use Rattle.words.specs.Words.{at}
-use Rattle.slots.proofs.Sections.{Section, section_at}
+use Rattle.slots.proofs.Sections.{section_at}
 use Rattle.slots.proofs.fits.Goals as goal
 
--- the section that was found
-section : (c : goal.After-find-at) → let x = c.args in
-    Section x.store.now c.find-at.result x.slot
-section c = section_at _ _ _ c.requires.sections_1.within c.requires.sections_2 c.find-at.ensures
-
--- the section that was found
-section_2 : (c : goal.After-shared_slice_known-2-1-unread) → let x = c.args in
-    Section x.store.now c.find-at.result x.slot
-section_2 c = section_at _ _ _ c.requires.sections_1.within c.requires.sections_2 c.find-at.ensures
-
--- the section that was found
-section_3 : (c : goal.After-shared_slice_known-2-1) → let x = c.args in
-    Section x.store.now c.find-at.result x.slot
-section_3 c = section_at _ _ _ c.requires.sections_1.within c.requires.sections_2 c.find-at.ensures
-
 pub offset_bounds-store-at : goal.offset_bounds-store-at
-offset_bounds-store-at c = let f = section c in omega arith
+offset_bounds-store-at c =
+    let f = section_at _ _ _ c.requires.sections_1.within c.requires.sections_2 c.find-at.ensures in omega arith
 
 pub bounds-store-at : goal.bounds-store-at
-bounds-store-at c = let f = section_2 c in omega arith
-
-pub overflow_cast-old : goal.overflow_cast-old
-overflow_cast-old c = let f = section_3 c in omega arith
+bounds-store-at c =
+    let f = section_at _ _ _ c.requires.sections_1.within c.requires.sections_2 c.find-at.ensures in omega arith
 
 pub overflow_sub-result : goal.overflow_sub-result
-overflow_sub-result c = let f = section_3 c in omega arith
+overflow_sub-result c =
+    let f = section_at _ _ _ c.requires.sections_1.within c.requires.sections_2 c.find-at.ensures in omega arith
 
 pub returns : goal.returns
 returns c =

@@ -1,27 +1,9 @@
 -- `make_room` leaves the words as they are, moves the later sections up, or moves them down and clears what is free.
 use native.Mathlib.Omega.{arith}
-use Prim.Native.Nat.{◌-◌}
-use mathlib.Core.Path.{◌≡◌, refl, ◌∙◌}
-use lib.ListN.{length, length-set}
+use mathlib.Core.Path.{refl, ◌∙◌}
+use lib.ListN.{length-set}
 use Rattle.slots.proofs.RoomMade.{unmoved, grown, shrunk}
-use borrow.Author.Rules.{rules}
 use Rattle.slots.proofs.make_room.Goals as goal
-
--- the moves keep the length
-up_length : (c : goal.After-slice_known-then-old-size-1)
-    → length c.move_up.new.words ≡ length c.args.tail.now
-up_length c =
-    c.move_up.auto.words ∙ simp length-set refl
-
-down_length : (c : goal.After-slice_known-3-1)
-    → length c.move_down.new.words ≡ length c.args.tail.now
-down_length c =
-    c.move_down.auto.words ∙ simp length-set refl
-
-down_length_2 : (c : goal.After-slice_known-4-1)
-    → length c.move_down.new.words ≡ length c.args.tail.now
-down_length_2 c =
-    c.move_down.auto.words ∙ simp length-set refl
 
 pub returns-then-size-old : goal.returns-then-size-old
 returns-then-size-old c = unmoved _ c.args.end c.args.size c.requires c.if-size-old.true
@@ -30,7 +12,7 @@ pub move_up-requires : goal.move_up-requires
 move_up-requires c = (omega arith, simp length-set (omega arith))
 
 pub shape_of-tail-then-old-size : goal.shape_of-tail-then-old-size
-shape_of-tail-then-old-size c = up_length c
+shape_of-tail-then-old-size c = c.move_up.auto.words ∙ simp length-set refl
 
 pub returns-then-old-size : goal.returns-then-old-size
 returns-then-old-size c =
@@ -40,12 +22,9 @@ pub move_down-requires : goal.move_down-requires
 move_down-requires c = (omega arith, simp length-set (omega arith))
 
 pub slice_bounds-clear-end : goal.slice_bounds-clear-end
-slice_bounds-clear-end c = omega (arith, down_length c)
+slice_bounds-clear-end c = simp (c.move_down.auto.words, length-set) (omega arith)
 
-pub shape_of-tail : goal.shape_of-tail
-shape_of-tail c = search (rules, down_length_2 c)
-
-pub returns : goal.returns
-returns c =
+pub returns-else-old-size : goal.returns-else-old-size
+returns-else-old-size c =
     shrunk c.args.tail.now c.args.end c.args.size c.requires _ c.move_down.ensures _ (omega arith)
     c.clear.ensures

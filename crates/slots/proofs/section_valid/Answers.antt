@@ -6,9 +6,6 @@ use Rattle.slots.proofs.section_valid.Goals as goal
 pub returns-then-store-at : goal.returns-then-store-at
 returns-then-store-at c = section_outside _ _ (omega arith)
 
-pub overflow_cast-count : goal.overflow_cast-count
-overflow_cast-count c = omega (arith, c.shared_slice_known-2-1.given c.args.at)
-
 pub returns-then-store-at-2 : goal.returns-then-store-at-2
 returns-then-store-at-2 c = section_outside _ _ (omega arith)
 

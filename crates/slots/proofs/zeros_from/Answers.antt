@@ -1,15 +1,17 @@
 -- `zeros_from` is the test `all_zero` of the words from a place on.
 use native.Mathlib.Omega.{arith}
-use Prim.Native.Nat.{◌-◌}
-use Rattle.slots.proofs.Checks.{collected_start, collected_turn, collected_end}
+use mathlib.Core.Path.{ap}
+use lib.ListN.{length}
+use Rattle.slots.proofs.Checks.{collected_start, collected_turn, collected_end, tail_all}
 use Rattle.slots.proofs.zeros_from.Goals as goal
 
-pub loop-i-init : goal.loop-i-init
-loop-i-init c = (omega arith, omega arith, collected_start _ _)
+pub loop-word-init : goal.loop-word-init
+loop-word-init c = collected_start _
 
-pub loop-i-preserved : goal.loop-i-preserved
-loop-i-preserved c = (omega arith, omega arith, collected_turn c.loop-i.invariant.0 c.loop-i.invariant.2)
+pub loop-word-preserved : goal.loop-word-preserved
+loop-word-preserved c = rw (tail_all c.args.store.now c.args.at) (collected_turn c.loop-word.invariant)
 
 pub returns : goal.returns
 returns c =
-    collected_end c.loop-i.invariant.2 c.loop-i.invariant.0 c.loop-i.invariant.1 (omega arith)
+    let e = ap length (tail_all c.args.store.now c.args.at) in
+    collected_end c.loop-word.invariant (omega arith)

@@ -5,8 +5,8 @@ use Rattle.sources.proofs.orient.Goals as goal
 pub transpose-requires : goal.transpose-requires
 transpose-requires c =
     record {
-      fact_1 = c.requires.fact_1 c.if-flag.true;
-      fact_2 = c.requires.fact_2;
+      matrix = c.requires.fact_1 c.if-flag.true;
+      output_room = c.requires.fact_2;
     }
 
 pub returns-then-flag : goal.returns-then-flag

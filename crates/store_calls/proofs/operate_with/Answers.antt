@@ -1,5 +1,4 @@
 -- `operate_with` attempts the decoded call on its roles and clears the workspace.
-use mathlib.Core.Path.{◌∙◌}
 use lib.ListN.{length}
 use Rattle.model.specs.Calls.{OperationCall}
 use Rattle.store_calls.proofs.Operations.{performed_run}
@@ -16,9 +15,6 @@ asked p = record {
   work = length p.args.work.now;
 }
 
-pub returns : goal.returns
-returns c =
-    record {
-      fact_1 = performed_run _ (asked c) _ _ _ _ c.decode-call.ensures c.roles_of-roles.ensures c.attempt-answer.ensures;
-      fact_2 = c.clear.ensures ∙ rw c.attempt-answer.auto.work;
-    }
+pub returns-clause-performed : goal.returns-clause-performed
+returns-clause-performed c =
+    performed_run _ (asked c) _ _ _ _ c.decode-call.ensures c.roles_of-roles.ensures c.attempt-answer.ensures

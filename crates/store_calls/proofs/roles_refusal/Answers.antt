@@ -1,30 +1,22 @@
 -- `roles_refusal` gives 12 before 1 and 2, and these before 13.
-use mathlib.Core.Path.{◌≡◌, sym, ◌∙◌}
-use Rattle.refusals.specs.Cases.{first_applying}
-use Rattle.model.specs.Calls.{no_slot, role_cases}
+use mathlib.Core.Path.{sym, ap, ◌∙◌}
+use Rattle.std.proofs.lemmas.Result.{err_from_is_err_and}
+use Rattle.answers.specs.Results.{code_of}
+use Rattle.answers.proofs.Numbers.{number_not_0}
 use Rattle.store_calls.proofs.Roles.{in_store}
-use Rattle.store_calls.proofs.Refusals.{slot_refused, numbers_first}
+use Rattle.store_calls.proofs.Refusals.{slot_refused, code_and, numbers_first}
 use Rattle.store_calls.proofs.roles_refusal.Goals as goal
 
--- past the first test no slot is past the last
-slots_are : (q : goal.After-numbers_refusal-number) → first_applying (role_cases no_slot q.args.roles) ≡ 0
-slots_are q = sym q.slots_refusal-past.ensures ∙ q.if-past-ne0.false
+pub returns-in_err-slots_refusal : goal.returns-in_err-slots_refusal
+returns-in_err-slots_refusal c =
+    let p = err_from_is_err_and c.from_residual.result c.from_residual.ensures.1 in
+    rw (p.1, p.2) (slot_refused _ _ _ _ c.in_err-slots_refusal.ensures (number_not_0 _))
 
--- past the first test no slot is past the last
-slots_are_2 : (q : goal.After-first_of) → first_applying (role_cases no_slot q.args.roles) ≡ 0
-slots_are_2 q = sym q.slots_refusal-past.ensures ∙ q.if-past-ne0.false
-
-pub returns-then-past-ne0 : goal.returns-then-past-ne0
-returns-then-past-ne0 c = slot_refused _ _ _ _ c.slots_refusal-past.ensures c.if-past-ne0.true
-
-pub vacancy_refusal-vacancy-requires : goal.vacancy_refusal-vacancy-requires
-vacancy_refusal-vacancy-requires c =
-    record {
-      fact_1 = c.requires;
-      fact_2 = in_store _ (slots_are c);
-    }
+pub vacancy_refusal-requires : goal.vacancy_refusal-requires
+vacancy_refusal-requires c =
+    record { store = c.requires; roles = in_store _ (sym c.in_ok-slots_refusal.ensures) }
 
 pub returns : goal.returns
 returns c =
-    numbers_first _ _ _ (slots_are_2 c) _ _ _ c.numbers_refusal-number.ensures c.vacancy_refusal-vacancy.ensures
-    c.first_of.ensures
+    numbers_first _ _ _ (sym c.in_ok-slots_refusal.ensures) _ _ _ c.numbers_refusal.ensures c.vacancy_refusal.ensures
+    (ap code_of c.and.ensures ∙ code_and _ _)

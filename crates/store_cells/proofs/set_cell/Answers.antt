@@ -1,121 +1,64 @@
 -- `set_cell` replaces an entry, or adds one where the search missed it.
+use mathlib.Core.Path.{refl}
+use Rattle.std.proofs.lemmas.Result.{err_from_is_err_and}
+use Rattle.answers.proofs.Numbers.{number_not_0}
 use Rattle.model.specs.Calls.{effect}
 use Rattle.store_encoding.proofs.Performed.{performed_no_store}
-use Rattle.store_cells.proofs.Checks.{unchecked, Checked, checked}
-use Rattle.store_cells.proofs.Refusals.{Reached, reached}
+use Rattle.store_cells.proofs.Checks.{unchecked, checked}
+use Rattle.store_cells.proofs.Refusals.{reached}
 use Rattle.store_cells.proofs.Outcomes.{set_refused, set_performed}
 use Rattle.store_cells.proofs.Edited.{absent_found, present_in}
 use Rattle.store_cells.proofs.set_cell.Goals as goal
 
--- past the first test the words are a store
-store : (c : goal.Else-end-eq0) → Checked c.args.store.now c.check-end.result
-store c = checked _ _ c.check-end.ensures c.if-end-eq0.false
-
--- past the first test the words are a store
-store_2 : (c : goal.After-refused-then-code-ne0) → Checked c.args.store.now c.check-end.result
-store_2 c = checked _ _ c.check-end.ensures c.if-end-eq0.false
-
--- past the first test the words are a store
-store_3 : (c : goal.Else-code-ne0) → Checked c.args.store.now c.check-end.result
-store_3 c = checked _ _ c.check-end.ensures c.if-end-eq0.false
-
--- and past the second it has the cell
-there : (c : goal.Else-code-ne0) → let p = c.args in
-    Reached p.store.now p.slot p.i p.j c.check-end.result
-there c = reached (store_3 c) c.cell_refusal-code.ensures c.if-code-ne0.false
-
--- past the first test the words are a store
-store_4 : (c : goal.After-contents) → Checked c.args.store.now c.check-end.result
-store_4 c = checked _ _ c.check-end.ensures c.if-end-eq0.false
-
--- and past the second it has the cell
-there_2 : (c : goal.After-contents) → let p = c.args in
-    Reached p.store.now p.slot p.i p.j c.check-end.result
-there_2 c = reached (store_4 c) c.cell_refusal-code.ensures c.if-code-ne0.false
-
--- past the first test the words are a store
-store_5 : (c : goal.After-position_of) → Checked c.args.store.now c.check-end.result
-store_5 c = checked _ _ c.check-end.ensures c.if-end-eq0.false
-
--- and past the second it has the cell
-there_3 : (c : goal.After-position_of) → let p = c.args in
-    Reached p.store.now p.slot p.i p.j c.check-end.result
-there_3 c = reached (store_5 c) c.cell_refusal-code.ensures c.if-code-ne0.false
-
--- past the first test the words are a store
-store_6 : (c : goal.After-slice_known-in_default-1) → Checked c.args.store.now c.check-end.result
-store_6 c = checked _ _ c.check-end.ensures c.if-end-eq0.false
-
--- and past the second it has the cell
-there_4 : (c : goal.After-slice_known-in_default-1) → let p = c.args in
-    Reached p.store.now p.slot p.i p.j c.check-end.result
-there_4 c = reached (store_6 c) c.cell_refusal-code.ensures c.if-code-ne0.false
-
--- past the first test the words are a store
-store_7 : (c : goal.After-replace-arg-1) → Checked c.args.store.now c.check-end.result
-store_7 c = checked _ _ c.check-end.ensures c.if-end-eq0.false
-
--- and past the second it has the cell
-there_5 : (c : goal.After-replace-arg-1) → let p = c.args in
-    Reached p.store.now p.slot p.i p.j c.check-end.result
-there_5 c = reached (store_7 c) c.cell_refusal-code.ensures c.if-code-ne0.false
-
--- past the first test the words are a store
-store_8 : (c : goal.After-slice_known-2-1) → Checked c.args.store.now c.check-end.result
-store_8 c = checked _ _ c.check-end.ensures c.if-end-eq0.false
-
--- and past the second it has the cell
-there_6 : (c : goal.After-slice_known-2-1) → let p = c.args in
-    Reached p.store.now p.slot p.i p.j c.check-end.result
-there_6 c = reached (store_8 c) c.cell_refusal-code.ensures c.if-code-ne0.false
-
-pub returns-then-end-eq0 : goal.returns-then-end-eq0
+pub returns-in_err-end : goal.returns-in_err-end
 unfolding effect
-returns-then-end-eq0 c =
-    rw c.refused.ensures
-    (performed_no_store _ _ (unchecked _ _ c.check-end.ensures c.if-end-eq0.true))
+returns-in_err-end c =
+    let p = err_from_is_err_and c.from_residual.result c.from_residual.ensures.1 in
+    let u = unchecked _ c.in_err-end.ensures in
+    rw (p.1, p.2, u.refusal) (performed_no_store _ _ u.invalid)
 
-pub cell_refusal-code-requires : goal.cell_refusal-code-requires
-cell_refusal-code-requires c = (store c).store
+pub cell_refusal-requires : goal.cell_refusal-requires
+cell_refusal-requires c = (checked _ c.in_ok-end.ensures).store
 
-pub returns-then-code-ne0 : goal.returns-then-code-ne0
-returns-then-code-ne0 c =
-    rw c.refused-then-code-ne0.ensures
-    (set_refused _ _ _ _ (store_2 c).valid _ _ c.cell_refusal-code.ensures c.if-code-ne0.true)
+pub returns-in_err-cell_refusal : goal.returns-in_err-cell_refusal
+returns-in_err-cell_refusal c =
+    let r = c.from_residual-in_err-cell_refusal in
+    let p = err_from_is_err_and r.result r.ensures.1 in
+    rw (p.1, p.2)
+    (set_refused _ _ _ _ (checked _ c.in_ok-end.ensures).valid _ _ c.in_err-cell_refusal.ensures (number_not_0 _))
 
 pub contents-requires : goal.contents-requires
 contents-requires c =
-    let h = (there c).cell in record {
-      fact_1 = h.store.sections;
-      fact_2 = h.slot;
-    }
+    let h = (reached (checked _ c.in_ok-end.ensures) c.in_ok-cell_refusal.ensures refl).cell in
+    record { fact_1 = h.store.sections; fact_2 = h.slot }
 
-pub entry_at-found-requires : goal.entry_at-found-requires
-entry_at-found-requires c =
-    let h = (there_2 c).cell in
+pub entry_at-entry-requires : goal.entry_at-entry-requires
+entry_at-entry-requires c =
+    let h = (reached (checked _ c.in_ok-end.ensures) c.in_ok-cell_refusal.ensures refl).cell in
     rw c.contents.ensures.words record { fact_1 = h.held.matrix; fact_2 = h.row }
-
-pub add-requires : goal.add-requires
-add-requires c =
-    let h = there_3 c in
-    let e = absent_found h.cell c.contents.ensures.words c.entry_at-found.ensures.fact_1
-    c.in_default.is c.position_of.ensures in
-    record {
-      cell_of_1 = h.cell;
-      cell_of_2 = h.checked.ends;
-      absent_at = e;
-    }
-
-pub returns-in_default : goal.returns-in_default
-returns-in_default c = set_performed (there_4 c) _ _ _ c.add.ensures
 
 pub replace-requires : goal.replace-requires
 replace-requires c =
-    let h = (there_5 c).cell in
+    let h = (reached (checked _ c.in_ok-end.ensures) c.in_ok-cell_refusal.ensures refl).cell in
     record {
-      fact_1 = h;
-      fact_2 = present_in h c.contents.ensures.words c.entry_at-found.ensures.fact_1 c.in-Present.is;
+      cell = h;
+      present = present_in h c.contents.ensures.words c.entry_at-entry.ensures.fact_1 c.in-Present.is;
     }
 
 pub returns : goal.returns
-returns c = set_performed (there_6 c) _ _ _ c.replace.ensures
+returns c =
+    set_performed (reached (checked _ c.in_ok-end.ensures) c.in_ok-cell_refusal.ensures refl) _ _ _ c.replace.ensures
+
+pub add-requires : goal.add-requires
+add-requires c =
+    let h = reached (checked _ c.in_ok-end.ensures) c.in_ok-cell_refusal.ensures refl in
+    record {
+      cell = h.cell;
+      ends = h.checked.ends;
+      absent =
+          absent_found h.cell c.contents.ensures.words c.entry_at-entry.ensures.fact_1 c.in_default.is c.position_of.ensures;
+    }
+
+pub returns-in_default : goal.returns-in_default
+returns-in_default c =
+    set_performed (reached (checked _ c.in_ok-end.ensures) c.in_ok-cell_refusal.ensures refl) _ _ _ c.add.ensures

@@ -5,13 +5,11 @@ use Rattle.store_formulas.proofs.evaluate.Goals as goal
 
 pub returns-in_default : goal.returns-in_default
 returns-in_default c =
-    monoid_known_lem c.requires
-    (sym c.monoid_code-adding.ensures ∙ c.in_default.is)
+    absurd (monoid_known_lem c.requires (sym c.monoid_code-adding.ensures ∙ c.in_default.is))
 
 pub returns-in_default-multiplying : goal.returns-in_default-multiplying
 returns-in_default-multiplying c =
-    binary_known_lem c.requires
-    (sym c.binary_code-multiplying.ensures ∙ c.in_default-multiplying.is)
+    absurd (binary_known_lem c.requires (sym c.binary_code-multiplying.ensures ∙ c.in_default-multiplying.is))
 
 pub formula-requires : goal.formula-requires
 formula-requires c =
@@ -22,6 +20,6 @@ pub returns : goal.returns
 returns c =
     evaluated c.requires (sym
     c.monoid_code-adding.ensures
-    ∙ c.in-Known.is)
+    ∙ c.in-Some.is)
     (sym c.binary_code-multiplying.ensures
-    ∙ c.in-Known-multiplying.is) _ c.formula.result c.formula.ensures
+    ∙ c.in-Some-multiplying.is) _ c.formula.result c.formula.ensures

@@ -5,6 +5,6 @@ use Rattle.store_formulas.proofs.formula.Goals as goal
 pub returns : goal.returns
 returns c =
     record {
-      fact_1 = c.attempt-answer.ensures;
-      fact_2 = c.clear.ensures ∙ rw c.attempt-answer.auto.stack;
+      performed = c.attempt-answer.ensures;
+      cleared = c.clear.ensures ∙ rw c.attempt-answer.auto.stack;
     }

@@ -12,18 +12,18 @@ use Rattle.text.proofs.put_matrix.Goals as goal
 pub put_line-at-requires : goal.put_line-at-requires
 put_line-at-requires c =
     let w : AreWords c.args.words.now = λ k. omega (arith, c.type_inv.words k) in
-    let r = head_room c.args.words.now c.requires.fact_1 c.args.out.now w c.requires.fact_2 in
+    let r = head_room c.args.words.now c.requires.matrix c.args.out.now w c.requires.room in
     rw (c.row_count.ensures, c.col_count.ensures, c.entry_count.ensures) r
 
-pub put_rows-requires-clause-fact_2 : goal.put_rows-requires-clause-fact_2
-put_rows-requires-clause-fact_2 c =
+pub put_rows-requires-clause-room : goal.put_rows-requires-clause-room
+put_rows-requires-clause-room c =
     let s : List ℕ = c.args.words.now in
     let w : AreWords s = λ k. omega (arith, c.type_inv.words k) in
     -- the first line is that of the matrix
     let told : Appended (entry_line (rows s) (cols s) (entries s)) c.args.out.now c.put_line-at.new.out 0
     c.put_line-at.result =
     rw (c.row_count.ensures, c.col_count.ensures, c.entry_count.ensures) at c.put_line-at.ensures in
-    rows_room s c.requires.fact_1 c.args.out.now _ _ w c.requires.fact_2 told
+    rows_room s c.requires.matrix c.args.out.now _ _ w c.requires.room told
 
 pub returns : goal.returns
 returns c =
@@ -33,5 +33,5 @@ returns c =
     let told : Appended (entry_line (rows s) (cols s) (entries s)) c.args.out.now c.put_line-at.new.out 0
     c.put_line-at.result =
     rw (c.row_count.ensures, c.col_count.ensures, c.entry_count.ensures) at c.put_line-at.ensures in
-    let t = text_made s c.requires.fact_1 told c.put_rows.ensures in
-    record { fact_1 = t; fact_2 = text_end s c.requires.fact_1 w t }
+    let t = text_made s c.requires.matrix told c.put_rows.ensures in
+    record { text = t; short = text_end s c.requires.matrix w t }

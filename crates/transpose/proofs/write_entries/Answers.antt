@@ -13,22 +13,22 @@ use Rattle.transpose.proofs.write_entries.Goals as goal
 -- that count is the number of entries of the transposed grid
 count_is : (q : goal.After-entry_count-n)
     → q.entry_count-n.result ≡ entry_count (transposed (grid_of q.args.a.now))
-count_is q = q.entry_count-n.ensures ∙ transposed_entries q.requires.fact_1
+count_is q = q.entry_count-n.ensures ∙ transposed_entries q.requires.matrix
 
 pub entry_count-n-requires : goal.entry_count-n-requires
-entry_count-n-requires c = c.requires.fact_1.header
+entry_count-n-requires c = c.requires.matrix.header
 
 pub loop-i-init : goal.loop-i-init
-loop-i-init c = placed_none c.requires.fact_2 (count_is c)
+loop-i-init c = placed_none c.requires.ready (count_is c)
 
 pub place_row-requires : goal.place_row-requires
 place_row-requires c =
     let h = c.loop-i.invariant in
     let l = c.loop-i-test.true in
     record {
-      header = c.requires.fact_1.header;
-      row_span = row_span _ c.requires.fact_1.starts _ l;
-      row = valid_row _ (matrix_made _ c.requires.fact_1) _ l;
+      header = c.requires.matrix.header;
+      row_span = row_span _ c.requires.matrix.starts _ l;
+      row = valid_row _ (matrix_made _ c.requires.matrix) _ l;
       room = h.room;
       placed = h.placed;
     }
@@ -39,7 +39,7 @@ loop-i-preserved c =
     c.place_row.ensures
 
 pub shape_of-sections : goal.shape_of-sections
-shape_of-sections c = c.loop-i.invariant.room.sections_fit ∙ sym c.requires.fact_2.room.sections_fit
+shape_of-sections c = c.loop-i.invariant.room.sections_fit ∙ sym c.requires.ready.room.sections_fit
 
 pub returns : goal.returns
 returns c =

@@ -1,10 +1,6 @@
 -- `write_starts` turns counts into starts: after j turns, the first j of them.
-use Prim.Native.Nat.{◌-◌}
 use Rattle.transpose.proofs.Sums.{Summing}
 use Rattle.transpose.proofs.write_starts.Given as goal
 
 abbrev pub invariant-loop-j : goal.invariant-loop-j
 invariant-loop-j l = Summing l.c l.initial.counts l.initial.starts l.counts l.starts l.sum l.j
-
-abbrev pub decreases-loop-j : goal.decreases-loop-j
-decreases-loop-j l = l.c - l.j

@@ -2,7 +2,7 @@
 -- first, and any other negative number has a negative that fits.
 use Rattle.std.proofs.Common.{ap, ◌∙◌}
 use Rattle.twos_complement.specs.TwosComplement.{word}
-use Rattle.twos_complement.proofs.Values.{absolute_nonneg, absolute_smallest, minus_fits, absolute_is}
+use Rattle.twos_complement.proofs.Exception.{absolute_nonneg, absolute_smallest, minus_fits, absolute_is}
 use Rattle.twos_complement.proofs.absolute.Goals as goal
 
 pub returns-then-value-ge0 : goal.returns-then-value-ge0

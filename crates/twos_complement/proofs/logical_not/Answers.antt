@@ -1,9 +1,7 @@
 -- `logical_not` gives the word of `not_ℤ`.
-use Rattle.twos_complement.proofs.Values.{not_zero, not_other}
+use Rattle.std.proofs.Common.{◌∙◌}
+use Rattle.twos_complement.proofs.Values.{not_is}
 use Rattle.twos_complement.proofs.logical_not.Goals as goal
 
-pub returns-then-x-eq0 : goal.returns-then-x-eq0
-returns-then-x-eq0 c = not_zero c.if-x-eq0.true
-
-pub returns-else-x-eq0 : goal.returns-else-x-eq0
-returns-else-x-eq0 c = not_other c.ranges.x.fits c.if-x-eq0.false
+pub returns : goal.returns
+returns c = c.from.ensures ∙ not_is c.args.x c.ranges.x.fits

@@ -1,14 +1,13 @@
--- `maximum` gives the word of the larger number: the test is on the numbers that the two calls of `to_signed` gave.
-use Rattle.std.proofs.Common.{true, false}
+-- `maximum` gives the word of the larger number.
+use Rattle.std.proofs.Common.{ap, ◌∙◌, w32}
+use mir.ValLaws.{to_z-of_z}
+use Rattle.twos_complement.specs.TwosComplement.{word}
 use Rattle.twos_complement.proofs.Values.{maximum_is}
 use Rattle.twos_complement.proofs.maximum.Goals as goal
 
-pub returns-then-to_signed : goal.returns-then-to_signed
-returns-then-to_signed c =
-    maximum_is c.ranges.x.fits c.ranges.y.fits
-    c.to_signed.ensures c.to_signed-2.ensures true c.if-to_signed.true
-
-pub returns-else-to_signed : goal.returns-else-to_signed
-returns-else-to_signed c =
-    maximum_is c.ranges.x.fits c.ranges.y.fits
-    c.to_signed.ensures c.to_signed-2.ensures false c.if-to_signed.false
+pub returns : goal.returns
+returns c =
+    let r = c.max.result in
+    c.from_signed.ensures
+    ∙ ap word (to_z-of_z w32 r (record { sfits = c.max.type_inv }) ∙ c.max.ensures.value
+    ∙ maximum_is c.ranges.x.fits c.ranges.y.fits c.to_signed.ensures c.to_signed-2.ensures)

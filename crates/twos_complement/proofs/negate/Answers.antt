@@ -2,7 +2,7 @@
 -- fits.
 use Rattle.std.proofs.Common.{ap, ◌∙◌}
 use Rattle.twos_complement.specs.TwosComplement.{word}
-use Rattle.twos_complement.proofs.Values.{negate_smallest, minus_fits, negate_is}
+use Rattle.twos_complement.proofs.Exception.{negate_smallest, minus_fits, negate_is}
 use Rattle.twos_complement.proofs.negate.Goals as goal
 
 pub returns-then-z : goal.returns-then-z

@@ -1,32 +1,17 @@
 -- `read_words` writes the words of the bytes: after k turns the first k.
 use native.Mathlib.Omega.{arith}
-use mathlib.Core.Path.{refl, ◌∙◌}
-use lib.ListN.{length-set}
-use lib.Seq.{paste-zero}
-use Rattle.word_bytes.specs.Bytes.{words_of}
+use mathlib.Core.Path.{◌∙◌}
 use Rattle.word_bytes.proofs.Loops.{reading_turn, reading_done}
 use Rattle.word_bytes.proofs.read_words.Goals as goal
 
-pub loop-k-init : goal.loop-k-init
-loop-k-init c =
-    let a = c.args in
-    (paste-zero a.words.now 0 (words_of a.bytes.now), refl, omega arith, refl, c.requires)
-
 pub loop-k-preserved : goal.loop-k-preserved
 loop-k-preserved c =
-    let l = c.loop-k in
-    let a = c.args in
-    let v = l.invariant in (
-      reading_turn a.bytes.now a.words.now l.words l.k _ (omega arith) (omega arith) v.0
-          c.word_at.ensures,
-      simp length-set v.1,
-      omega arith,
-      v.3,
-      v.4,
-    )
+    let f = c.as_chunks.ensures in
+    reading_turn c.args.bytes.now c.args.words.now c.loop-k.words _ c.loop-k.k _ c.requires f.front f.front_len
+    c.loop-k-test.true c.from_le_bytes.ensures c.loop-k.invariant
 
 pub returns : goal.returns
 returns c =
     let l = c.loop-k in
-    let a = c.args in
-    l.invariant.0 ∙ reading_done a.bytes.now a.words.now l.k (omega arith) (omega arith)
+    let f = c.as_chunks.ensures in
+    l.invariant ∙ reading_done c.args.bytes.now c.args.words.now l.k (omega (arith, f.front_len)) c.requires

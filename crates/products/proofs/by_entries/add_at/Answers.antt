@@ -11,5 +11,5 @@ returns-then-mark-eq0 c =
 
 pub returns : goal.returns
 returns c =
-    added_later c.args.monoid c.args.product c.args.sums.now c.requires.fact_2 c.mark_at-mark.ensures
+    added_later c.args.monoid c.args.product c.args.sums.now c.requires.tracked c.mark_at-mark.ensures
     c.if-mark-eq0.false c.add_product-sum.ensures

@@ -1,21 +1,22 @@
--- `product_row_inside`: as `product_row_by_entries`; of the sums those (carries_inside the.sum_rows-top.ensures the.keep_inside.ensures) mask are collected.
+-- `product_row_inside`: as `product_row_by_entries`; of the sums those inside the mask are collected.
 use native.Mathlib.Omega.{arith}
 use Rattle.bit_rows.proofs.Marks.{carries_none}
 use Rattle.products.proofs.ByEntries.{inside_empty, carries_inside, inside_room, inside_collected}
+use borrow.Author.Rules.{rules}
 use Rattle.products.proofs.by_entries.product_row_inside.Goals as goal
 
-pub returns-then-columns-eq0 : goal.returns-then-columns-eq0
-returns-then-columns-eq0 c =
+pub returns-then-is_empty : goal.returns-then-is_empty
+returns-then-is_empty c =
     let a = c.args in
-    inside_empty _ _ _ _ a.columns.now a.values.now a.b.now _ _ _ c.if-columns-eq0.true
+    inside_empty _ _ _ _ a.columns.now a.values.now a.b.now _ _ _ (search rules)
 
 pub sum_rows-top-requires : goal.sum_rows-top-requires
 sum_rows-top-requires c =
     record {
-      row_1 = c.requires.row_1;
-      row_2 = c.requires.row_2;
-      carries_1 = carries_none _;
-      carries_2 = c.requires.b_in_bounds.1;
+      row = c.requires.row;
+      matrix = c.requires.matrix;
+      clear = carries_none _;
+      sums_room = c.requires.output_room.1;
     }
 
 pub keep_inside-requires : goal.keep_inside-requires
@@ -30,8 +31,14 @@ collect-requires c =
     let s = (carries_inside c.sum_rows-top.ensures c.keep_inside.ensures) in
     record {
       fact_1 = s.tracked;
-      fact_2 = inside_room _ _ _ _ c.requires.row_2 _ _ s c.requires.b_in_bounds.0 (omega (arith, c.requires.b_in_bounds.1, c.sum_rows-top.auto.sums));
+      fact_2 = inside_room _ _ _ _ c.requires.matrix _ _ s c.requires.output_room.0 (omega (
+        arith,
+        c.requires.output_room.1,
+        c.sum_rows-top.auto.sums,
+      ));
     }
 
 pub returns : goal.returns
-returns c = inside_collected _ _ _ _ c.requires.row_2 _ _ (carries_inside c.sum_rows-top.ensures c.keep_inside.ensures) c.collect.ensures
+returns c =
+    inside_collected _ _ _ _ c.requires.matrix _ _ (carries_inside c.sum_rows-top.ensures c.keep_inside.ensures)
+    c.collect.ensures

@@ -6,9 +6,9 @@ pub sum_row-requires : goal.sum_row-requires
 sum_row-requires c =
     rw (c.row_columns.ensures.words, c.row_values.ensures.words)
     record {
-      row_1 = c.requires.header_3;
-      row_2 = c.requires.row_1;
-      tracked = c.requires.row_2;
+      row = c.requires.row;
+      row_fits = c.requires.row_fits;
+      tracked = c.requires.tracked;
     }
 
 pub returns : goal.returns

@@ -1,8 +1,0 @@
--- `found` gives the answer for each case of an entry.
-use Rattle.cells.proofs.found.Goals as goal
-
-pub returns-in-Absent : goal.returns-in-Absent
-returns-in-Absent c = rw c.in-Absent.is
-
-pub returns-in-Present : goal.returns-in-Present
-returns-in-Present c = rw c.in-Present.is

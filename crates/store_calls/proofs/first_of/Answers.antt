@@ -1,9 +1,0 @@
--- `first_of` tests the first number.
-use borrow.Author.Tests.{eq-eqb, ne_eqb}
-use Rattle.store_calls.proofs.first_of.Goals as goal
-
-pub returns-then-first-ne0 : goal.returns-then-first-ne0
-returns-then-first-ne0 c = rw (ne_eqb _ _ c.if-first-ne0.true)
-
-pub returns : goal.returns
-returns c = rw (eq-eqb _ _ c.if-first-ne0.false)
