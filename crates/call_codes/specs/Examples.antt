@@ -47,7 +47,8 @@ add_decoded : (decoded (options None) (verb.EwiseAdd 4)).operation ≡ EwiseAdd 
 unfolding binary_numbered
 add_decoded = refl
 
--- an absent accumulator's number is not looked at; a present one's is; MINUS is no monoid
+-- without an accumulator there is no number to look at (what C sends beside it: `exports/specs/Examples`); a present one's
+-- is looked at; MINUS is no monoid
 absent_known : (decoded (options None) (verb.EwiseAdd 4)).known ≡ true
 unfolding ◌and◌ binary_numbered
 absent_known = refl

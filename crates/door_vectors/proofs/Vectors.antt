@@ -1,10 +1,11 @@
 -- Laws of `round_at`, and the vector that the rounds leave: the first rounds of the doors, as a row.
 use Rattle.std.proofs.Common.{None, Some}
-use Prim.Native.Nat.{ℕ, ◌+◌, ◌-◌}
+use Prim.Native.Nat.{ℕ, ◌+◌, ◌-◌, ◌≤◌}
 use native.Mathlib.Omega.{arith}
 use native.Mathlib.Numerals.{add-one}
 use mathlib.Core.Path.{◌≡◌, refl, ap, ◌∙◌}
 use mathlib.Core.List.{List}
+use lib.ListN.{length, take, length-take}
 use borrow.Author.Tests.{eq-eqb, ne_eqb}
 use Rattle.words.specs.Words.{at}
 use Rattle.grid.specs.Cell.{Cell}
@@ -14,6 +15,10 @@ use Rattle.encoding.proofs.Canonical.{encode_ext}
 use Rattle.key_rounds.specs.Rounds.{first_before, in_hand, door_vector}
 use Rattle.key_marks.specs.Marks.{door_word, Rounds}
 use Rattle.door_vectors.specs.Vectors.{round_at, vector_of, Written}
+
+-- the first n words of a longer buffer: a word for each key or door
+pub prefix_length : (n : ℕ) (s : List ℕ) → n ≤ length s → n ≡ length (take n s)
+prefix_length n s l = omega (arith, length-take n s)
 
 pub round_shut : (doors : List ℕ) (d : ℕ) → at doors d ≡ 0 → round_at doors d ≡ None
 unfolding round_at

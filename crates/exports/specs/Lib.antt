@@ -1,5 +1,6 @@
 pub mod Packing
 pub mod Exported
+pub mod Examples
 pub mod Unpacked
 pub mod Files
 pub mod Doors

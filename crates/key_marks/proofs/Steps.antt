@@ -1,6 +1,6 @@
 -- The rounds in words: what a stamp of the doors and one of the keys make of them, and where they start and end.
 use Rattle.std.proofs.Common.{None, Some}
-use Prim.Native.Nat.{ℕ, suc, ◌+◌, ◌-◌, ◌<◌}
+use Prim.Native.Nat.{ℕ, suc, ◌+◌, ◌-◌, ◌≤◌, ◌<◌}
 use native.Mathlib.Omega.{arith}
 use native.Mathlib.Numerals.{add-one}
 use mathlib.Core.Path.{◌≡◌, refl, sym, ap, subst, ◌∙◌}
@@ -16,7 +16,7 @@ use Rattle.key_rounds.specs.Rounds.{filled, count, reached, keys_after, doors_af
 use Rattle.key_rounds.proofs.Tests.{reached_same}
 use Rattle.key_rounds.proofs.Counting.{count_same}
 use Rattle.key_rounds.proofs.Rounds.{Settled, keys_next, first_open, first_stays, keys_stay, settled_count}
-use Rattle.key_marks.specs.Marks.{mark, held, once, Stamped, door_word, Rounds, Lent}
+use Rattle.key_marks.specs.Marks.{mark, held, once, Stamped, Stampable, door_word, Rounds, Lent}
 use Rattle.key_marks.proofs.Stamps.{mark_zero, mark_other, mark_stamped, once_zero, once_other}
 
 -- a door's word is marked where it has a first round
@@ -135,3 +135,22 @@ lent_rounds a = record {
 pub lent_fitting : {locks cabinets keys doors : List ℕ} → Lent locks cabinets keys doors
     → Fitting (grid_of locks) (grid_of cabinets)
 lent_fitting a = record { doors = a.same_doors; keys = a.same_keys }
+
+-- what the stamps ask, with any keys and doors that were reached
+module _ {locks cabinets keys₀ doors₀ keys doors : List ℕ} {n m : ℕ} (a : Lent locks cabinets keys₀ doors₀)
+    (h : Rounds (grid_of locks) (grid_of cabinets) (held keys₀) n m keys doors) where
+  pub locks_stampable : {s : ℕ} → 1 ≤ s → Stampable locks keys s doors
+  locks_stampable l = record {
+    valid = a.locks_valid;
+    from_size = h.keys_size;
+    marks_size = h.doors_size;
+    marking = l;
+  }
+
+  pub cabinets_stampable : Stampable cabinets doors 1 keys
+  cabinets_stampable = record {
+    valid = a.cabinets_valid;
+    from_size = h.doors_size ∙ sym a.same_doors;
+    marks_size = h.keys_size ∙ sym a.same_keys;
+    marking = omega arith;
+  }

@@ -106,10 +106,11 @@ pub fn rounds(allowance: u32, locks: &[u32], cabinets: &[u32], keys: &mut [u32],
 }
 
 // How many words are marked.
+// Added up as numbers: `filter` and `count` would jump on every word.
 fn count_marks(words: &[u32]) -> usize
     ensures { result ≡ count (length words.now) (held words.now) }
 {
-    words.iter().filter(|word| **word != 0).count()
+    words.iter().map(|word| usize::from(*word != 0)).sum()
 }
 
 // Stamps the columns that the rows named by `from` have entries in.

@@ -33,7 +33,7 @@ unless P k n here other = by (ℕ_discrete n k)
     by (yes e) = subst P (sym e) here
     by (no f) = other f
 
--- the monoids' table has Unknown at 0, 1, 2 and 4 too
+-- the monoids' table has None at 0, 1, 2 and 4 too
 pub no_monoid_lem : (n : ℕ) → (((Unit {0} × (n ≡ 3 → ⊥)) × (n ≡ 5 → ⊥)) × (n ≡ 6 → ⊥)) × (n ≡ 7 → ⊥)
     → None ≡ monoid_numbered n
 unfolding monoid_numbered

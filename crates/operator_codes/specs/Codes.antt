@@ -1,5 +1,5 @@
 -- The operators by number: document 01, "Operators". Each table lists what the numbers 0, 1, 2 and so on stand for; a
--- number past its end is Unknown.
+-- number past its end stands for none.
 use Rattle.std.specs.Prelude.{◌≡◌, refl, List, [], ◌∷◌, ℕ, get_or, None, Option, Some}
 use Rattle.select_ops.specs.declared.SelectOp.{SelectOp}
 use Rattle.operators.specs.declared.ApplyOp.{ApplyOp}

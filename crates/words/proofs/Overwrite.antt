@@ -3,7 +3,8 @@ use Prim.Native.Nat.{ℕ, ◌+◌, ◌-◌, ◌≤◌, ◌<◌}
 use native.Mathlib.Omega.{arith}
 use native.Mathlib.Numerals.{add-one}
 use mathlib.Core.Path.{◌≡◌, sym, ap, ◌∙◌}
-use mathlib.Core.List.{List, ◌++◌}
+use mathlib.Core.List.{List, [], ◌++◌, append-nil}
+use Rattle.std.proofs.lemmas.List.{nil_from_length, take-append-drop}
 use lib.ListN.{length, take, drop, set, length-append, length-drop, get_or-append}
 use lib.Seq.{length-take-le, get_or-take, get_or-drop, get_or-append-add, ext_get_or, take-length, paste, paste-suc}
 use Rattle.std.specs.List.{copy_within}
@@ -71,6 +72,14 @@ module _ (a : ℕ) (x s : List ℕ) (h : a + length x ≤ length s) where
   pub overwrite_done : (n : ℕ) → n ≡ length x → paste s a x n ≡ overwrite a x s
   unfolding overwrite
   overwrite_done n e = rw (e, take-length x)
+
+-- no words written
+pub overwrite_none : (a : ℕ) (x s : List ℕ) → length x ≡ 0 → s ≡ overwrite a x s
+unfolding overwrite
+overwrite_none a x s e =
+    let f : x ≡ [] = nil_from_length x e in
+    let g : a + length x ≡ a = omega arith in
+    rw (g, f, append-nil (take a s), take-append-drop a s)
 
 -- the words that were moved
 pub move_done : (s : List ℕ) (from to n : ℕ) → from + n ≤ length s

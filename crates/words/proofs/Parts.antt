@@ -6,7 +6,18 @@ use native.Mathlib.Numerals.{add-one}
 use mathlib.Core.Path.{◌≡◌, ◌∙◌}
 use mathlib.Core.List.{List, [], ◌∷◌, ◌++◌}
 use lib.ListN.{length, take, drop, length-take, length-drop}
-use lib.Seq.{drop-cons, take-add, drop-drop, get_or-take, get_or-drop, drop-append-le, drop_at, take_at, take-append-le}
+use lib.Seq.{
+  drop-cons,
+  take-add,
+  drop-drop,
+  get_or-take,
+  get_or-drop,
+  drop-append-add,
+  drop-append-le,
+  drop_at,
+  take_at,
+  take-append-le,
+}
 use Rattle.words.specs.Words.{at, part}
 
 -- a part without words
@@ -38,6 +49,12 @@ part_at a e i s h = rw (get_or-take, get_or-drop)
 -- a part from the front
 pub part_front : (e : ℕ) (s : List ℕ) → part 0 e s ≡ take e s
 part_front e s = let q : e - 0 ≡ e = omega arith in rw q
+
+-- a part that lies past the first of two lists
+pub part_past : (p q : List ℕ) (k a e : ℕ) → length p ≡ k → part (k + a) (k + e) (p ++ q) ≡ part a e q
+part_past p q k a e h =
+    let m : (k + e) - (k + a) ≡ e - a = omega arith in
+    rw (m, ← h, drop-append-add p q a)
 
 -- a part that lies within the first of two lists
 pub part_within : (p q : List ℕ) (a e : ℕ) → a ≤ e → e ≤ length p → part a e (p ++ q) ≡ part a e p

@@ -12,12 +12,14 @@ pub fn clear(words: &mut [u32])
     words.fill(0);
 }
 
-// The words of `src` are written into `dst` from `at` on.
+// The words of `src` are written into `dst` from `at` on. Rows often have none, and a copy of none is a call too.
 pub fn copy_into(dst: &mut [u32], at: usize, src: &[u32])
     requires { at + length src.now ≤ length dst.old }
     ensures { dst.new ≡ overwrite at src.now dst.old }
 {
-    dst[at..at + src.len()].copy_from_slice(src);
+    if !src.is_empty() {
+        dst[at..at + src.len()].copy_from_slice(src);
+    }
 }
 
 // n words are moved down, from `from` on to `to` on.

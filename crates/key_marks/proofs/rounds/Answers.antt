@@ -2,8 +2,14 @@
 use Prim.Native.Nat.{◌+◌}
 use native.Mathlib.Omega.{arith}
 use mathlib.Core.Path.{◌≡◌, sym, ◌∙◌}
-use Rattle.key_marks.proofs.Steps.{doors_stamped, keys_stamped, rounds_settled, lent_rounds, lent_fitting}
+use Rattle.key_marks.proofs.Steps.{doors_stamped, keys_stamped, rounds_settled, lent_rounds, lent_fitting, locks_stampable, cabinets_stampable}
 use Rattle.key_marks.proofs.rounds.Goals as goal
+
+pub mark_rows-requires : goal.mark_rows-requires
+mark_rows-requires c = locks_stampable c.requires.lent (lent_rounds c.requires.lent) (omega arith)
+
+pub mark_rows-requires-in-loop-n : goal.mark_rows-requires-in-loop-n
+mark_rows-requires-in-loop-n c = cabinets_stampable c.requires.lent c.loop-n.invariant
 
 pub loop-n-init : goal.loop-n-init
 loop-n-init c = doors_stamped (lent_rounds c.requires.lent) c.mark_rows.ensures
