@@ -1,4 +1,3 @@
-pub mod Turns
 pub mod Dot
 pub mod Adding
 pub mod Sums

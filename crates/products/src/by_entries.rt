@@ -91,8 +91,8 @@ fn sum_rows(
         result map.new sums.new }
 {
     let mut top: u64 = 0;
-    for (&k, &x) in columns.iter().zip(values) {
-        top = sum_matrix_row(monoid, op, x, b, k as usize, top, map, sums);
+    for (p, &k) in columns.iter().enumerate() {
+        top = sum_matrix_row(monoid, op, values[p], b, k as usize, top, map, sums);
     }
     top
 }

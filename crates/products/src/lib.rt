@@ -96,8 +96,8 @@ fn add_rows(
         (product_row monoid op (lookup columns.now values.now) b.now)
         marks.new cells.new }
 {
-    for (&k, &x) in columns.iter().zip(values) {
-        add_matrix_row(monoid, op, x, b, k as usize, marks, cells);
+    for (p, &k) in columns.iter().enumerate() {
+        add_matrix_row(monoid, op, values[p], b, k as usize, marks, cells);
     }
 }
 

@@ -1,26 +1,21 @@
 -- `sum_rows` adds up the rows that the entries name: those of the entries before p are added.
 use native.Mathlib.Omega.{arith}
 use Prim.Native.Nat.{◌<◌}
-use borrow.Author.Rules.{rules}
-use Rattle.std.proofs.lemmas.List.{length_push}
+use Rattle.words.specs.Words.{at}
 use Rattle.matrix.specs.Layout.{rows}
 use Rattle.matrix.proofs.Facts.{row_span}
 use Rattle.products.proofs.Summing.{matrix_row}
 use Rattle.products.proofs.ByEntries.{matrix_row_in, totalling_start, totalling_step, totalling_done}
-use Rattle.products.proofs.Turns.{entry_met, all_met}
 use Rattle.products.proofs.by_entries.sum_rows.Goals as goal
 
-pub loop-k-init : goal.loop-k-init
-loop-k-init c = totalling_start c.requires.row c.requires.clear
+pub loop-p-init : goal.loop-p-init
+loop-p-init c = totalling_start c.requires.row c.requires.clear
 
 pub sum_matrix_row-top-requires : goal.sum_matrix_row-top-requires
 sum_matrix_row-top-requires c =
-    let h = c.loop-k.invariant in
+    let h = c.loop-p.invariant in
     let m = c.requires.matrix in
-    let e = entry_met c.args.columns.now c.args.values.now c.loop-k.yielded c.into_iter-k-iterator.result
-    c.loop-k.k-iterator c.next.new.self (search rules) (search rules) c.loop-k.yielded_by c.next.ensures.steps
-    c.in-Some.is in
-    let small : c.in-Some.field-0-0.now < rows c.args.b.now = rw e.1 (c.requires.row.small _ e.0) in
+    let small : at c.args.columns.now c.loop-p.p < rows c.args.b.now = c.requires.row.small _ c.loop-p-test.true in
     record {
       header = m.header;
       row_span = row_span _ m.starts _ small;
@@ -29,22 +24,13 @@ sum_matrix_row-top-requires c =
       tracked = h.tracked;
     }
 
-pub loop-k-preserved : goal.loop-k-preserved
-loop-k-preserved c =
-    let e = entry_met c.args.columns.now c.args.values.now c.loop-k.yielded c.into_iter-k-iterator.result
-    c.loop-k.k-iterator c.next.new.self (search rules) (search rules) c.loop-k.yielded_by c.next.ensures.steps
-    c.in-Some.is in
-    rw length_push
-    (totalling_step c.requires.row c.loop-k.invariant e.0 c.sum_matrix_row-top.auto.sums
-    (rw (← e.1, ← e.2) c.sum_matrix_row-top.ensures))
+pub loop-p-preserved : goal.loop-p-preserved
+loop-p-preserved c =
+    totalling_step c.requires.row c.loop-p.invariant c.loop-p-test.true c.sum_matrix_row-top.auto.sums
+    c.sum_matrix_row-top.ensures
 
 pub shape_of-sums : goal.shape_of-sums
-shape_of-sums c = c.loop-k.invariant.long
+shape_of-sums c = c.loop-p.invariant.long
 
 pub returns : goal.returns
-returns c =
-    let end = all_met c.args.columns.now c.args.values.now c.loop-k.yielded c.into_iter-k-iterator.result
-    c.loop-k.k-iterator c.next.new.self (search rules) (search rules) c.loop-k.yielded_by c.next.ensures.steps
-    c.in-None.is
-    c.requires.row.even in
-    totalling_done c.requires.row c.loop-k.invariant end
+returns c = totalling_done c.requires.row c.loop-p.invariant (omega arith)
